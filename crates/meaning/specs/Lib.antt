@@ -1,0 +1,5 @@
+-- What patterns and programs mean. A reader who doubts the rest reads these files, in this order.
+pub mod Tokens
+pub mod Programs
+pub mod Choices
+pub mod Entries
