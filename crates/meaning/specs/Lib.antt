@@ -2,4 +2,6 @@
 pub mod Tokens
 pub mod Programs
 pub mod Choices
+pub mod Words
 pub mod Entries
+pub mod Rows
