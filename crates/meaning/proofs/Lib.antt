@@ -6,5 +6,9 @@ pub mod RunLaws
 pub mod KindLaws
 pub mod WordLaws
 pub mod SoundLaws
+pub mod ChoiceLaws
+pub mod ChoiceRows
+pub mod ChoiceOrder
+pub mod FirstLaws
 pub mod JoinLaws
 pub mod MirrorWords
