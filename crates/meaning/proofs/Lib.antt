@@ -12,3 +12,4 @@ pub mod ChoiceOrder
 pub mod FirstLaws
 pub mod JoinLaws
 pub mod MirrorWords
+pub mod SaysLaws

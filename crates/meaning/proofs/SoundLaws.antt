@@ -14,7 +14,7 @@ use Rattle.meaning.specs.Rows.{Row, _⊗_, before, anys, rows}
 use Rattle.meaning.specs.Words.{Shape, item, opens, mark, wrong, shape, proper, plain, plainWords, soundBranches, soundWords, Sound, SoundBranches, prog, items}
 use Rattle.meaning.proofs.WordLaws.{take-le, drop-le, prog-item}
 
-and-left : (a b : Bool) → (a && b) ≡ true → a ≡ true
+pub and-left : (a b : Bool) → (a && b) ≡ true → a ≡ true
 and-left true b h = refl
 and-left false b h = h
 
@@ -157,7 +157,7 @@ plain-row o (w ∷ ws) h =
     (s .0, ap (rows o) (prog-item w ws (q .0) (q .1)) ∙ s .1)
 
 -- the other way: soundness from its parts
-and-both : {a b : Bool} → a ≡ true → b ≡ true → (a && b) ≡ true
+pub and-both : {a b : Bool} → a ≡ true → b ≡ true → (a && b) ≡ true
 and-both {a} {b} p q = rw (p, q)
 
 module _ (w : ℕ) (ws : List ℕ) where

@@ -91,11 +91,11 @@ mutual
   pub data Says : List ℕ → Prog → Type 0 where
     nothing : Says [] end
     node : {w : ℕ} {ws : List ℕ} {i : Item} {p : Prog} → proper w ≡ true → shape w ≡ item i → Says ws p → Says (w ∷ ws) (i ▹ p)
-    alternation : {w : ℕ} {bs ws : List ℕ} {b : Branches} {p : Prog} → proper w ≡ true → shape w ≡ opens (length bs) → SaysIn bs b → Says ws p → Says (w ∷ (bs ++ ws)) (alt b ▹ p)
+    alternation : {w : ℕ} {bs vs ws : List ℕ} {b : Branches} {p : Prog} → proper w ≡ true → shape w ≡ opens (length bs) → ws ≡ bs ++ vs → SaysIn bs b → Says vs p → Says (w ∷ ws) (alt b ▹ p)
 
   pub data SaysIn : List ℕ → Branches → Type 0 where
     last : {w : ℕ} {ns : List ℕ} {p : Prog} → proper w ≡ true → shape w ≡ mark (length ns) → plainProg p ≡ true → Says ns p → SaysIn (w ∷ ns) (or p stop)
-    more : {w : ℕ} {ns bs : List ℕ} {p : Prog} {b : Branches} → proper w ≡ true → shape w ≡ mark (length ns) → plainProg p ≡ true → Says ns p → SaysIn bs b → SaysIn (w ∷ (ns ++ bs)) (or p b)
+    more : {w : ℕ} {ns bs ws : List ℕ} {p : Prog} {b : Branches} → proper w ≡ true → shape w ≡ mark (length ns) → ws ≡ ns ++ bs → plainProg p ≡ true → Says ns p → SaysIn bs b → SaysIn (w ∷ ws) (or p b)
 
 -- a sound program: at most 512 words, which say one
 pub record SoundProgram (ws : List ℕ) : Type 0 where
