@@ -5,7 +5,7 @@ use mathlib.Core.Logic.{_⊎_, inl, inr, ⊎-elim}
 use mathlib.Core.List.{List, [], _∷_, _++_}
 use Prim.Native.Nat.{ℕ, zero, suc, _+_, _-_, _*_, _≤_, _<_, max}
 use native.Mathlib.Omega.{arith}
-use native.Mathlib.Nat.{le-max-left, le-max-right, max-le, max-eq-left, max-eq-right, add-zero, zero-add, add-assoc, eq-or-lt-of-le}
+use native.Mathlib.Nat.{le-max-left, le-max-right, max-eq-left, max-eq-right, add-zero, zero-add, add-assoc, eq-or-lt-of-le}
 use native.Mathlib.Numerals.{add-one}
 use lib.Dec.{eqb, leb}
 use lib.ListN.{length, take, drop, getD, length-drop}

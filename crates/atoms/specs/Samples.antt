@@ -1,7 +1,7 @@
 -- Worked scores.
 use mathlib.Core.Path.{_≡_, refl}
-use mathlib.Core.List.{List, [], _∷_}
-use Prim.Native.Nat.{ℕ, _+_}
+use mathlib.Core.List.{[], _∷_}
+use Prim.Native.Nat.{_+_}
 use Rattle.atoms.specs.Score.{among, common, byteScore, windowScore, highest, literalScore}
 
 -- four bytes that are not common reach the threshold of 80

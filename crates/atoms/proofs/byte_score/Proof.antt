@@ -1,4 +1,3 @@
-use mathlib.Core.Path.{_≡_, refl}
 use Rattle.atoms.proofs.byte_score.Statement.{statement}
 use Rattle.atoms.proofs.byte_score.Tie as tie
 use Rattle.atoms.proofs.Laws.{among-one, among-none}

@@ -1,6 +1,6 @@
-use mathlib.Core.Path.{_≡_, refl}
+use mathlib.Core.Path.{_≡_}
 use Prim.Native.Nat.{_≤_, _-_}
-use lib.ListN.{length, take}
+use lib.ListN.{length}
 use Rattle.atoms.specs.Score.{highest}
 use Rattle.atoms.proofs.Laws.{best-first, best-next, best-last}
 use native.Mathlib.Omega.{arith}
