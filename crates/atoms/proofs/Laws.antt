@@ -110,10 +110,10 @@ highest-is l (suc n) =
 
 -- ---- what the literal's score means
 
--- a literal shorter than four bytes is its only window
-short-score : (l : List ℕ) → length l < 4 → windowScore l ≡ literalScore l
+-- a literal of at most four bytes is its only window
+pub short-score : (l : List ℕ) → length l ≤ 4 → windowScore l ≡ literalScore l
 unfolding literalScore highest
-short-score l h = let z : length l - 4 ≡ 0 = omega arith in rw (z, take-all 4 l (omega arith))
+short-score l h = let z : length l - 4 ≡ 0 = omega arith in rw (z, take-all 4 l h)
 
 -- some window scores what the literal scores
 pub score-is-some : (l : List ℕ) → (w : List ℕ) × IsWindow w l × (windowScore w ≡ literalScore l)
@@ -126,13 +126,13 @@ score-is-some l = by (leb 4 (length l)) refl
         let g : i .0 ≤ length l - 4 = i .1 in
         let f : 4 ≤ length l = leb-true 4 (length l) h in
         (windowAt (i .0) l, inl (i .0, omega arith, refl), i .2)
-    by false h = (l, inr (leb-false 4 (length l) h, refl), short-score l (leb-false 4 (length l) h))
+    by false h = let g : length l < 4 = leb-false 4 (length l) h in (l, inr (g, refl), short-score l (omega arith))
 
 -- and no window scores more
 pub score-is-best : (l w : List ℕ) → IsWindow w l → windowScore w ≤ literalScore l
 unfolding literalScore
 score-is-best l w (inl h) = rw (h .2) (highest-over l (length l - 4) (h .0) (let g : h .0 + 4 ≤ length l = h .1 in omega arith))
-score-is-best l w (inr h) = rw (h .1) (let e : windowScore l ≡ literalScore l = short-score l (h .0) in omega arith)
+score-is-best l w (inr h) = rw (h .1) (let g : length l < 4 = h .0 in omega (arith, short-score l (omega arith)))
 
 -- so no literal scores above 80
 pub score-le : (l : List ℕ) → literalScore l ≤ 80

@@ -20,26 +20,20 @@ pub size-not : (m n : Bitmap) → Holds n (λ v. not (has m v)) → size n + siz
 unfolding size
 size-not m n h = ap (λ (x : ℕ). x + size m) (size-of n (λ v. not (has m v)) h) ∙ tally-not (has m) 256
 
-low-sixteen : allBelow 16 (λ k. eqb (tally (λ v. eqb (v % 16) k) 256) 16) ≡ true
-unfolding allBelow tally
-low-sixteen = refl
-
-high-sixteen : allBelow 16 (λ k. eqb (tally (λ v. eqb (v / 16) k) 256) 16) ≡ true
-unfolding allBelow tally
-high-sixteen = refl
+-- a test with a half x has 16 members where that is computed for each of the 16 halves
+half-size : (t : ℕ → ℕ → Bool) → allBelow 16 (λ k. eqb (tally (t k) 256) 16) ≡ true → (x : ℕ) (m : Bitmap) → Holds m (t (x % 16)) → size m ≡ 16
+half-size t all x m h =
+    size-of m (t (x % 16)) h
+    ∙ eqb-true (tally (t (x % 16)) 256) 16 (all-below 16 (λ k. eqb (tally (t k) 256) 16) all (x % 16) (omega arith))
 
 -- a half mask has 16 members
 pub low-size : (x : ℕ) (m : Bitmap) → Holds m (λ v. eqb (v % 16) (x % 16)) → size m ≡ 16
-low-size x m h =
-    size-of m (λ v. eqb (v % 16) (x % 16)) h
-    ∙ eqb-true (tally (λ v. eqb (v % 16) (x % 16)) 256) 16
-    (all-below 16 (λ k. eqb (tally (λ v. eqb (v % 16) k) 256) 16) low-sixteen (x % 16) (omega arith))
+unfolding allBelow tally
+low-size = half-size (λ k v. eqb (v % 16) k) refl
 
 pub high-size : (x : ℕ) (m : Bitmap) → Holds m (λ v. eqb (v / 16) (x % 16)) → size m ≡ 16
-high-size x m h =
-    size-of m (λ v. eqb (v / 16) (x % 16)) h
-    ∙ eqb-true (tally (λ v. eqb (v / 16) (x % 16)) 256) 16
-    (all-below 16 (λ k. eqb (tally (λ v. eqb (v / 16) k) 256) 16) high-sixteen (x % 16) (omega arith))
+unfolding allBelow tally
+high-size = half-size (λ k v. eqb (v / 16) k) refl
 
 -- and its negation 240
 pub half-not-size : (m n : Bitmap) → size m ≡ 16 → Holds n (λ v. not (has m v)) → size n ≡ 240
