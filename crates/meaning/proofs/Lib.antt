@@ -13,3 +13,4 @@ pub mod FirstLaws
 pub mod JoinLaws
 pub mod MirrorWords
 pub mod SaysLaws
+pub mod FieldLaws
