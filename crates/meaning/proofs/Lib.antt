@@ -8,3 +8,6 @@ pub mod WordLaws
 pub mod SoundLaws
 pub mod JoinLaws
 pub mod MirrorWords
+pub mod TokenLaws
+pub mod TokenTest
+pub mod YaraExamples
