@@ -11,3 +11,4 @@ pub mod MirrorWords
 pub mod TokenLaws
 pub mod TokenTest
 pub mod YaraExamples
+pub mod FieldLaws
