@@ -13,4 +13,7 @@ pub mod FirstLaws
 pub mod JoinLaws
 pub mod MirrorWords
 pub mod SaysLaws
+pub mod TokenLaws
+pub mod TokenTest
+pub mod YaraExamples
 pub mod FieldLaws
