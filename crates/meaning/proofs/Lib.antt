@@ -13,6 +13,7 @@ pub mod FirstLaws
 pub mod JoinLaws
 pub mod MirrorWords
 pub mod SaysLaws
+pub mod WordSpans
 pub mod TokenLaws
 pub mod TokenTest
 pub mod YaraExamples
