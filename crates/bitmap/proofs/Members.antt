@@ -5,8 +5,9 @@ use mathlib.Core.List.{List, [], _∷_}
 use Prim.Native.Nat.{ℕ, zero, suc, _+_, _-_, _≤_, _<_}
 use native.Mathlib.Omega.{arith}
 use native.Mathlib.Nat.{suc-add, zero-add, add-zero, add-assoc}
-use native.Mathlib.Numerals.{one-add}
-use lib.ListN.{length}
+use native.Mathlib.Numerals.{one-add, add-one}
+use lib.ListN.{length, getD, drop, length-drop}
+use lib.Seq.{drop-cons}
 use Rattle.bitmap.specs.declared.Bitmap.{Bitmap}
 use Rattle.bitmap.specs.declared.Member.{Member}
 use Rattle.bitmap.specs.declared.Member.the-variants.{At, Nothing}
@@ -69,3 +70,21 @@ rising-length p v (suc n) =
 pub members-size : (m : Bitmap) → length (members m) ≡ size m
 unfolding members membersFrom size
 members-size m = rising-length (has m) 0 256 ∙ tally-same (λ j. has m (0 + j)) (has m) 256 (λ j h. ap (has m) (zero-add j))
+
+-- ---- a walk: n members are behind it, and those from v on are left
+
+-- the next member is the n-th
+pub walk-at : (m : Bitmap) (n v b : ℕ) → drop n (members m) ≡ membersFrom m v → IsNext m v (At b)
+    → (n < size m) × (getD (members m) n 0 ≡ b) × (drop (n + 1) (members m) ≡ membersFrom m (b + 1))
+walk-at m n v b e h =
+    let d : drop n (members m) ≡ b ∷ membersFrom m (b + 1) = e ∙ next-at m v b h in
+    let k : length (b ∷ membersFrom m (b + 1)) ≡ length (members m) - n = ap length (sym d) ∙ length-drop n (members m) in
+    let l : n < length (members m) = omega arith in
+    let c : drop n (members m) ≡ getD (members m) n 0 ∷ drop (n + 1) (members m) = rw add-one (drop-cons (members m) n 0 l) in
+    (omega (arith, members-size m), cc, cc)
+
+-- none left: all are behind
+pub walk-end : (m : Bitmap) (n v : ℕ) → n ≤ size m → drop n (members m) ≡ membersFrom m v → IsNext m v Nothing → n ≡ size m
+walk-end m n v l e h =
+    let k : 0 ≡ length (members m) - n = ap length (sym (e ∙ next-nothing m v h)) ∙ length-drop n (members m) in
+    omega (arith, members-size m)

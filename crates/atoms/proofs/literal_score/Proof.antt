@@ -1,3 +1,4 @@
+-- The invariant: `best` is the highest score of the windows up to `at`, none of which reaches past the end.
 use mathlib.Core.Path.{_≡_}
 use Prim.Native.Nat.{_≤_, _-_}
 use lib.ListN.{length}

@@ -1,3 +1,4 @@
+-- The invariant: the sum is the score of the bytes passed, of which there are at most four.
 use mathlib.Core.Path.{_≡_, ap, _∙_}
 use Prim.Native.Nat.{ℕ, _+_, _-_, _≤_}
 use lib.ListN.{length, take, getD}

@@ -1,3 +1,4 @@
+-- The invariant: no member stands from `from` up to `b`.
 use mathlib.Core.Path.{sym, _∙_}
 use Rattle.bitmap.proofs.Words.{passed}
 use mathlib.Core.Path.{_≡_}
