@@ -7,21 +7,20 @@ use mathlib.Core.List.{List, [], _∷_}
 use Prim.Native.Nat.{ℕ, _-_, _/_, _%_, _≤_}
 use native.Mathlib.Omega.{arith}
 use lib.ListN.{length, take, drop}
-use Rattle.meaning.specs.Programs.{Prog, Branches, range, alt, _▹_, _⧺_}
+use Rattle.meaning.specs.Programs.{Prog, Branches, alt, _▹_, _⧺_}
 use Rattle.meaning.specs.Choices.{Order}
 use Rattle.meaning.specs.Rows.{Row, orElse, andThen, rest, found, rows, run}
-use Rattle.meaning.specs.Words.{kindOf, firstOf, item, opens, mark, shape, prog, branches, branchesOf, Sound, SoundBranches, plainWords}
-use Rattle.meaning.proofs.KindLaws.{Seen, seen, kind-mark, kind-opens, kind-range}
+use Rattle.meaning.specs.Words.{kindOf, mark, shape, prog, branches, branchesOf, SoundBranches, plainWords}
+use Rattle.meaning.proofs.KindLaws.{Seen, seen, kind-mark}
 use Rattle.meaning.proofs.ProgLaws.{rows-join}
 use Rattle.meaning.proofs.RunLaws.{run-alt, run-alt-stop, found-single, or-none}
-use Rattle.meaning.proofs.WordLaws.{prog-item, prog-opens, branches-mark}
-use Rattle.meaning.proofs.SoundLaws.{Opened, Marked, sound-item, sound-opens, sound-branch, branch-shape, plain-row}
+use Rattle.meaning.proofs.WordLaws.{branches-mark}
+use Rattle.meaning.proofs.SoundLaws.{Marked, sound-branch, branch-shape, plain-row}
 use Rattle.steps.specs.declared.Found.the-variants.{Left, Nothing}
 use Rattle.steps.specs.declared.NextWord.the-variants.{Word, NoWord}
 use Rattle.steps.specs.Steps.{firstWord, answer}
-use Rattle.steps.proofs.Heads.{word-cons, word-nil, from, to-end, whole}
+use Rattle.steps.proofs.Heads.{word-cons, word-nil, from, to-end}
 use Rattle.steps.proofs.Answers.{answer-none, answer-some, left-part}
-use Rattle.steps.proofs.Ranges.{no-range}
 
 -- a branch has one row, so it either fits in one way or not at all
 plain-then : (o : Order) (ws : List ℕ) (p : Prog) (M : List ℕ) → plainWords ws ≡ true → run o (prog ws ⧺ p) M ≡ andThen (run o (prog ws) M) (run o p)
@@ -74,38 +73,3 @@ module _ (B : List ℕ) (w : ℕ) (e : firstWord B ≡ Word w) (sb : SoundBranch
 
 pub heads-over : (o : Order) (B : List ℕ) (p : Prog) (M : List ℕ) → firstWord B ≡ NoWord → run o (alt (branchesOf B) ▹ p) M ≡ none
 heads-over o B p M e = rw (word-nil B e) (unfold branchesOf branches in run-alt-stop o p M)
-
--- an alternation w and the words R after it: its branches, and what follows them
-module _ (w : ℕ) (R : List ℕ) (k : kindOf w ≡ 6) where
-  abbrev count : ℕ
-  count = w / 256 % 65536
-
-  pub opened : Sound (w ∷ R) → Opened (w / 256 % 65536) R
-  opened h = sound-opens w R (kind-opens w k) h
-
-  pub after-sound : Sound (w ∷ R) → Sound (from (w / 256 % 65536) R)
-  after-sound h = subst Sound (sym (to-end count R)) (opened h .after)
-
-  at-opens : (o : Order) (M : List ℕ) → run o (prog (w ∷ R)) M ≡ run o (alt (branchesOf (take count R)) ▹ prog (from count R)) M
-  at-opens o M = ap (λ (p : Prog). run o p M) (prog-opens w R count (kind-opens w k) ∙ ap (λ (l : List ℕ). alt (branchesOf (take count R)) ▹ prog l) (sym (to-end count R)))
-
-  -- no range follows
-  pub alt-alone : (o : Order) (M : List ℕ) → run o (alt (branchesOf (take (w / 256 % 65536) R)) ▹ range 0 0 ▹ prog (from 0 (from (w / 256 % 65536) R))) (from 0 M) ≡ run o (prog (w ∷ R)) M
-  alt-alone o M =
-      ap₂ (λ (l m : List ℕ). run o (alt (branchesOf (take count R)) ▹ range 0 0 ▹ prog l) m) (whole (from count R)) (whole M)
-      ∙ no-range o (branchesOf (take count R)) (prog (from count R)) M
-      ∙ sym (at-opens o M)
-
-  -- a range follows: the word x
-  module _ (x : ℕ) (e : firstWord (from (w / 256 % 65536) R) ≡ Word x) (r : kindOf x ≡ 4) where
-    abbrev after : List ℕ
-    after = from (w / 256 % 65536) R
-
-    pub range-sound : Sound (w ∷ R) → Sound (from 1 (from (w / 256 % 65536) R))
-    range-sound h = subst Sound (sym (to-end 1 after)) (sound-item x (drop 1 after) (kind-range x r) (subst Sound (word-cons after x e) (after-sound h)))
-
-    pub alt-range : (o : Order) (M : List ℕ) → run o (alt (branchesOf (take (w / 256 % 65536) R)) ▹ range (x / 256 % 256) (x / 65536 % 256) ▹ prog (from 1 (from (w / 256 % 65536) R))) (from 0 M) ≡ run o (prog (w ∷ R)) M
-    alt-range o M =
-        ap₂ (λ (l m : List ℕ). run o (alt (branchesOf (take count R)) ▹ range (x / 256 % 256) (x / 65536 % 256) ▹ prog l) m) (to-end 1 after) (whole M)
-        ∙ ap (λ (q : Prog). run o (alt (branchesOf (take count R)) ▹ q) M) (sym (ap prog (word-cons after x e) ∙ prog-item x (drop 1 after) (range (x / 256 % 256) (x / 65536 % 256)) (kind-range x r)))
-        ∙ sym (at-opens o M)

@@ -5,3 +5,4 @@ pub mod Answers
 pub mod Turns
 pub mod Ranges
 pub mod Alternatives
+pub mod Choices

@@ -12,7 +12,7 @@ use Rattle.meaning.specs.Programs.{Test, pass, Item, Prog, one, jump, range, al
 use Rattle.meaning.specs.Choices.{Order}
 use Rattle.meaning.specs.Rows.{run}
 use Rattle.meaning.specs.Words.{kindOf, Shape, item, opens, mark, wrong, shape, prog, branchesOf, Sound, plain, plainWords}
-use Rattle.meaning.proofs.KindLaws.{Seen, seen, kind-range}
+use Rattle.meaning.proofs.KindLaws.{Seen, seen}
 use Rattle.meaning.proofs.RunLaws.{run-end, run-one, run-one-none, run-jump, run-jump-none}
 use Rattle.meaning.proofs.WordLaws.{prog-nil, prog-item, prog-opens}
 use Rattle.meaning.proofs.SoundLaws.{Opened, sound-item, sound-mark, sound-wrong, sound-opens, plain-item, false-true}
@@ -80,7 +80,3 @@ module _ (L : List ℕ) (w : ℕ) (e : firstWord L ≡ Word w) where
 
     pub stop-jump : (n : ℕ) → shape w ≡ item (jump n) → length M < n → run o (prog L) M ≡ none
     stop-jump n s h = here s (run-jump-none o (prog (from 1 L)) M n h)
-
-    -- a range is handed on with what follows it
-    pub at-range : kindOf w ≡ 4 → run o (prog L) M ≡ run o (range (w / 256 % 256) (w / 65536 % 256) ▹ prog (from 1 L)) M
-    at-range k = here (kind-range w k) refl
