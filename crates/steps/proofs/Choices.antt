@@ -1,4 +1,4 @@
--- A range or an alternation w, and the words R after it, as they are handed on. Assumes nothing.
+-- A range or an alternation w, and the words R after it, as they are handed on with the whole window: N is M made anew. Assumes nothing.
 use mathlib.Core.Path.{_≡_, refl, sym, ap, ap₂, _∙_, subst}
 use mathlib.Core.Logic.{_⊎_, ⊎-elim}
 use mathlib.Core.List.{List, [], _∷_}
@@ -24,9 +24,9 @@ module _ (w : ℕ) (R : List ℕ) (k : kindOf w ≡ 4) where
   pub range-after : Sound (w ∷ R) → Sound (from 0 R)
   range-after h = subst Sound (sym (whole R)) (sound-item w R (kind-range w k) h)
 
-  pub range-alone : (o : Order) (M : List ℕ) → run o (range (w / 256 % 256) (w / 65536 % 256) ▹ prog (from 0 R)) (from 0 M) ≡ run o (prog (w ∷ R)) M
-  range-alone o M =
-      ap₂ (λ (l m : List ℕ). run o (range (w / 256 % 256) (w / 65536 % 256) ▹ prog l) m) (whole R) (whole M)
+  pub range-alone : (o : Order) (M N : List ℕ) → N ≡ M → run o (range (w / 256 % 256) (w / 65536 % 256) ▹ prog (from 0 R)) N ≡ run o (prog (w ∷ R)) M
+  range-alone o M N d =
+      ap₂ (λ (l m : List ℕ). run o (range (w / 256 % 256) (w / 65536 % 256) ▹ prog l) m) (whole R) d
       ∙ sym (ap (λ (p : Prog). run o p M) (prog-item w R (range (w / 256 % 256) (w / 65536 % 256)) (kind-range w k)))
 
 -- an alternation
@@ -50,9 +50,9 @@ module _ (w : ℕ) (R : List ℕ) (k : kindOf w ≡ 6) where
   pub alone-sound : Sound (w ∷ R) → Sound (from 0 (from (w / 256 % 65536) R))
   alone-sound h = subst Sound (sym (whole after)) (after-sound h)
 
-  pub alt-alone : (o : Order) (M : List ℕ) → run o (alt (branchesOf (take (w / 256 % 65536) R)) ▹ range 0 0 ▹ prog (from 0 (from (w / 256 % 65536) R))) (from 0 M) ≡ run o (prog (w ∷ R)) M
-  alt-alone o M =
-      ap₂ (λ (l m : List ℕ). run o (alt (branchesOf (take count R)) ▹ range 0 0 ▹ prog l) m) (whole after) (whole M)
+  pub alt-alone : (o : Order) (M N : List ℕ) → N ≡ M → run o (alt (branchesOf (take (w / 256 % 65536) R)) ▹ range 0 0 ▹ prog (from 0 (from (w / 256 % 65536) R))) N ≡ run o (prog (w ∷ R)) M
+  alt-alone o M N d =
+      ap₂ (λ (l m : List ℕ). run o (alt (branchesOf (take count R)) ▹ range 0 0 ▹ prog l) m) (whole after) d
       ∙ no-range o (branchesOf (take count R)) (prog after) M
       ∙ sym (at-opens o M)
 
@@ -61,8 +61,8 @@ module _ (w : ℕ) (R : List ℕ) (k : kindOf w ≡ 6) where
     pub range-sound : Sound (w ∷ R) → Sound (from 1 (from (w / 256 % 65536) R))
     range-sound h = subst Sound (sym (to-end 1 after)) (sound-item x (drop 1 after) (kind-range x r) (subst Sound (word-cons after x e) (after-sound h)))
 
-    pub alt-range : (o : Order) (M : List ℕ) → run o (alt (branchesOf (take (w / 256 % 65536) R)) ▹ range (x / 256 % 256) (x / 65536 % 256) ▹ prog (from 1 (from (w / 256 % 65536) R))) (from 0 M) ≡ run o (prog (w ∷ R)) M
-    alt-range o M =
-        ap₂ (λ (l m : List ℕ). run o (alt (branchesOf (take count R)) ▹ range (x / 256 % 256) (x / 65536 % 256) ▹ prog l) m) (to-end 1 after) (whole M)
+    pub alt-range : (o : Order) (M N : List ℕ) → N ≡ M → run o (alt (branchesOf (take (w / 256 % 65536) R)) ▹ range (x / 256 % 256) (x / 65536 % 256) ▹ prog (from 1 (from (w / 256 % 65536) R))) N ≡ run o (prog (w ∷ R)) M
+    alt-range o M N d =
+        ap₂ (λ (l m : List ℕ). run o (alt (branchesOf (take count R)) ▹ range (x / 256 % 256) (x / 65536 % 256) ▹ prog l) m) (to-end 1 after) d
         ∙ ap (λ (q : Prog). run o (alt (branchesOf (take count R)) ▹ q) M) (sym (ap prog (word-cons after x e) ∙ prog-item x (drop 1 after) (range (x / 256 % 256) (x / 65536 % 256)) (kind-range x r)))
         ∙ sym (at-opens o M)

@@ -20,16 +20,16 @@ use Rattle.steps.proofs.Answers.{answer-none, answer-some}
 
 -- forward: the length n did, or did not; or no longer one can
 module _ (p : Prog) (M N : List ℕ) (n b : ℕ) (d : N ≡ drop n M) (h : n ≤ b) (l : n ≤ length M) where
-  jumped : run short (jump n ▹ p) M ≡ run short p N
-  jumped = run-jump short p M n l ∙ ap (run short p) (sym d)
+  shortest : run short (range n b ▹ p) M ≡ orElse (run short p N) (run short (range (n + 1) b ▹ p) M)
+  shortest = run-range p M n b h ∙ ap (λ (x : Option (List ℕ)). orElse x (run short (range (n + 1) b ▹ p) M)) (run-jump short p M n l ∙ ap (run short p) (sym d))
 
   pub range-next : Nothing ≡ answer (run short p N) → run short (range n b ▹ p) M ≡ run short (range (n + 1) b ▹ p) M
-  range-next e = run-range p M n b h ∙ ap (λ (x : Option (List ℕ)). orElse x (run short (range (n + 1) b ▹ p) M)) (jumped ∙ answer-none (run short p N) e)
+  range-next e = shortest ∙ ap (λ (x : Option (List ℕ)). orElse x (run short (range (n + 1) b ▹ p) M)) (answer-none (run short p N) e)
 
   pub range-take : (k : ℕ) → Left k ≡ answer (run short p N) → Left k ≡ answer (run short (range n b ▹ p) M)
   range-take k e =
       let q = answer-some (run short p N) k e in
-      e ∙ ap answer (q .1 ∙ sym (run-range p M n b h ∙ ap (λ (x : Option (List ℕ)). orElse x (run short (range (n + 1) b ▹ p) M)) (jumped ∙ q .1)))
+      e ∙ ap answer (q .1 ∙ sym (shortest ∙ ap (λ (x : Option (List ℕ)). orElse x (run short (range (n + 1) b ▹ p) M)) (q .1)))
 
 range-over : (p : Prog) (M : List ℕ) (k n b : ℕ) → suc b ≤ n + k → length M < n → run short (range n b ▹ p) M ≡ none
 range-over p M zero n b h l = run-range-empty p M short n b (omega arith)
@@ -42,25 +42,22 @@ range-over p M (suc k) n b h l = go (range-over p M k (n + 1) b (omega arith) (o
 pub range-short : (p : Prog) (M : List ℕ) (n b : ℕ) → length M < n → run short (range n b ▹ p) M ≡ none
 range-short p M n b l = range-over p M (suc b) n b (omega arith) l
 
--- in reverse: the length n, the longest of those from a on that are left
-module _ (p : Prog) (M : List ℕ) (a n : ℕ) (h : a ≤ n) where
-  down : below a (n + 1) p M ≡ orElse (run long (jump n ▹ p) M) (below a n p M)
-  down = let e : n + 1 - 1 ≡ n = omega arith in below-step p M a (n + 1) (omega arith) ∙ rw e
+-- in reverse: of the lengths from a up to n, not including it, the longest
+module _ (p : Prog) (M : List ℕ) (a n : ℕ) (h : a < n) where
+  pub below-skip : length M < n - 1 → below a n p M ≡ below a (n - 1) p M
+  below-skip l = below-step p M a n h ∙ rw (run-jump-none long p M (n - 1) l)
 
-  pub below-skip : length M < n → below a (n + 1) p M ≡ below a n p M
-  below-skip l = down ∙ rw (run-jump-none long p M n l)
+  module _ (N : List ℕ) (d : N ≡ drop (n - 1) M) (l : n - 1 ≤ length M) where
+    longest : below a n p M ≡ orElse (run long p N) (below a (n - 1) p M)
+    longest = below-step p M a n h ∙ ap (λ (x : Option (List ℕ)). orElse x (below a (n - 1) p M)) (run-jump long p M (n - 1) l ∙ ap (run long p) (sym d))
 
-  module _ (N : List ℕ) (d : N ≡ drop n M) (l : n ≤ length M) where
-    jumped-back : run long (jump n ▹ p) M ≡ run long p N
-    jumped-back = run-jump long p M n l ∙ ap (run long p) (sym d)
+    pub below-next : Nothing ≡ answer (run long p N) → below a n p M ≡ below a (n - 1) p M
+    below-next e = longest ∙ ap (λ (x : Option (List ℕ)). orElse x (below a (n - 1) p M)) (answer-none (run long p N) e)
 
-    pub below-next : Nothing ≡ answer (run long p N) → below a (n + 1) p M ≡ below a n p M
-    below-next e = down ∙ ap (λ (x : Option (List ℕ)). orElse x (below a n p M)) (jumped-back ∙ answer-none (run long p N) e)
-
-    pub below-take : (k : ℕ) → Left k ≡ answer (run long p N) → Left k ≡ answer (below a (n + 1) p M)
+    pub below-take : (k : ℕ) → Left k ≡ answer (run long p N) → Left k ≡ answer (below a n p M)
     below-take k e =
         let q = answer-some (run long p N) k e in
-        e ∙ ap answer (q .1 ∙ sym (down ∙ ap (λ (x : Option (List ℕ)). orElse x (below a n p M)) (jumped-back ∙ q .1)))
+        e ∙ ap answer (q .1 ∙ sym (longest ∙ ap (λ (x : Option (List ℕ)). orElse x (below a (n - 1) p M)) (q .1)))
 
 -- a range of no bytes changes nothing
 rows-zero : (o : Order) (p : Prog) → rows o (range 0 0 ▹ p) ≡ rows o p

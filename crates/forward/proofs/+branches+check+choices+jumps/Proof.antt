@@ -519,7 +519,7 @@ module _ (t : ℕ) where
       let W = c .before .before .before .before .before .before .args .w in
       let R = c .before .before .before .before .before .before .args .rest .now in
       let M = c .before .before .before .before .before .before .args .mem .now in
-      c .jumps .ensures ∙ ap answer (choice.range-alone W R (c .before .before .before .if1 .taken) short M)
+      c .jumps .ensures ∙ ap answer (choice.range-alone W R (c .before .before .before .if1 .taken) short M _ (whole M))
 
   choices-cast-count : choices-lts.Need-cast-count (choices-claims t) (choices-at t) choices.Post
   choices-cast-count c = search needs
@@ -620,7 +620,7 @@ module _ (t : ℕ) where
       let X = c .before .before .before .before .before .before .x .given .0 .0 in
       let e = sym (c .before .before .before .before .before .before .before .before .first-word .ensures) ∙ c .before .before .before .before .before .before .x .given .1 in
       let M = c .before .before .before .before .before .before .before .before .before .before .before .before .before .args .mem .now in
-      c .branches .ensures ∙ ap answer (choice.alt-range W R k X e (c .before .before .before .before .if2 .taken) short M)
+      c .branches .ensures ∙ ap answer (choice.alt-range W R k X e (c .before .before .before .before .if2 .taken) short M _ (whole M))
 
   choices-enum-told : choices-lts.Need-enum-told (choices-claims t) (choices-at t) choices.Post
   choices-enum-told c = search needs
@@ -669,7 +669,7 @@ module _ (t : ℕ) where
       let R = c .before .before .before .before .before .before .before .before .before .before .args .rest .now in
       let k = choice.is-alt W (c .before .before .before .before .before .before .before .before .before .before .pre .1 .1) (c .before .before .before .before .before .before .before .if1 .left) in
       let M = c .before .before .before .before .before .before .before .before .before .before .args .mem .now in
-      c .branches2 .ensures ∙ ap answer (choice.alt-alone W R k short M)
+      c .branches2 .ensures ∙ ap answer (choice.alt-alone W R k short M _ (whole M))
 
   jumps-loop-holds : jumps-lts.Need-loop-holds (jumps-claims t) (jumps-at t) jumps.Post jumps-Inv-loop jumps-μ-loop
   jumps-loop-holds c = refl
