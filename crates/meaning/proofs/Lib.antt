@@ -8,3 +8,4 @@ pub mod WordLaws
 pub mod SoundLaws
 pub mod JoinLaws
 pub mod MirrorWords
+pub mod FieldLaws

@@ -14,7 +14,7 @@ use Rattle.meaning.specs.Rows.{Row, _⊗_, before, anys, rows}
 use Rattle.meaning.specs.Words.{Shape, item, opens, mark, wrong, shape, proper, plain, plainWords, soundBranches, soundWords, Sound, SoundBranches, prog, items}
 use Rattle.meaning.proofs.WordLaws.{take-le, drop-le, prog-item}
 
-and-left : (a b : Bool) → (a && b) ≡ true → a ≡ true
+pub and-left : (a b : Bool) → (a && b) ≡ true → a ≡ true
 and-left true b h = refl
 and-left false b h = h
 

@@ -1,0 +1,17 @@
+-- The first word is there exactly if the length is not 0. Assumes nothing.
+use Rattle.nodes.proofs.WordHeads.{word-some, word-none}
+use borrow.Author.Needs.{needs}
+use Rattle.nodes.proofs.first_word.Statement.{statement}
+use Rattle.nodes.proofs.first_word.Tie as tie
+
+shared-slice-read-t6 : tie.Need-shared-slice-read-t6
+shared-slice-read-t6 c = search needs
+
+returns : tie.Need-returns
+returns c = word-some (c .before .before .args .ws .now) (c .before .if1 .taken)
+
+returns-2 : tie.Need-returns-2
+returns-2 c = word-none (c .before .args .ws .now) (c .if1 .left)
+
+pub first-word-spec : {M : Type 1} → statement M
+first-word-spec = tie.close (tie.spec shared-slice-read-t6 returns returns-2)
