@@ -10,11 +10,11 @@ ghost use Rattle.meaning.specs.Programs.{range, alt, _▹_};
 ghost use Rattle.meaning.specs.Rows.{forward};
 ghost use Rattle.meaning.specs.Words.{kindOf, prog, branchesOf, Sound, SoundBranches, plainWords};
 ghost use Rattle.steps.specs.Steps.{answer};
+use nodes::NextWord;
+use nodes::first_word;
 use steps::Found;
 use steps::NextByte;
-use steps::NextWord;
 use steps::first_byte;
-use steps::first_word;
 use steps::tests_byte;
 use steps::word_passes;
 

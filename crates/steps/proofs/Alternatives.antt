@@ -17,9 +17,10 @@ use Rattle.meaning.proofs.RunLaws.{run-alt, run-alt-stop, found-single, or-none
 use Rattle.meaning.proofs.WordLaws.{branches-mark}
 use Rattle.meaning.proofs.SoundLaws.{Marked, sound-branch, branch-shape, plain-row}
 use Rattle.steps.specs.declared.Found.the-variants.{Left, Nothing}
-use Rattle.steps.specs.declared.NextWord.the-variants.{Word, NoWord}
-use Rattle.steps.specs.Steps.{firstWord, answer}
-use Rattle.steps.proofs.Heads.{word-cons, word-nil, from, to-end}
+use Rattle.nodes.specs.declared.NextWord.the-variants.{Word, NoWord}
+use Rattle.nodes.specs.Nodes.{firstWord}
+use Rattle.nodes.proofs.WordHeads.{word-cons, word-nil, from, to-end}
+use Rattle.steps.specs.Steps.{answer}
 use Rattle.steps.proofs.Answers.{answer-none, answer-some, left-part}
 
 -- a branch has one row, so it either fits in one way or not at all

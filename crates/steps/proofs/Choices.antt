@@ -11,9 +11,10 @@ use Rattle.meaning.specs.Words.{kindOf, prog, branchesOf, Sound}
 use Rattle.meaning.proofs.KindLaws.{kind-opens, kind-range}
 use Rattle.meaning.proofs.WordLaws.{prog-item, prog-opens}
 use Rattle.meaning.proofs.SoundLaws.{Opened, sound-item, sound-opens}
-use Rattle.steps.specs.declared.NextWord.the-variants.{Word}
-use Rattle.steps.specs.Steps.{firstWord}
-use Rattle.steps.proofs.Heads.{word-cons, from, to-end, whole}
+use Rattle.nodes.specs.declared.NextWord.the-variants.{Word}
+use Rattle.nodes.specs.Nodes.{firstWord}
+use Rattle.nodes.proofs.WordHeads.{word-cons, from, to-end}
+use Rattle.steps.proofs.Heads.{whole}
 use Rattle.steps.proofs.Ranges.{no-range}
 
 pub is-alt : (w : ℕ) → (kindOf w ≡ 4) ⊎ (kindOf w ≡ 6) → (kindOf w ≡ 4 → ⊥) → kindOf w ≡ 6

@@ -2,20 +2,14 @@
 use mathlib.Core.Path.{_≡_, refl, sym, ap, _∙_}
 use mathlib.Core.List.{List, [], _∷_, _++_, reverse, reverse-append}
 use Prim.Native.Nat.{ℕ, suc, _<_, _≤_, _-_}
-use lib.Seq.{take-all, take-suc, take-length, drop-append-seam}
+use lib.Seq.{take-suc, take-length, drop-append-seam}
 use native.Mathlib.Omega.{arith}
 use lib.ListN.{length, getD, take, drop, length-drop, length-reverse, take-append-drop}
-use Rattle.steps.specs.declared.NextWord.the-variants.{Word, NoWord}
+use Rattle.nodes.specs.declared.NextWord.the-variants.{Word}
+use Rattle.nodes.specs.Nodes.{firstWord}
+use Rattle.nodes.proofs.WordHeads.{word-cons, from, to-end}
 use Rattle.steps.specs.declared.NextByte.the-variants.{Next, NoByte}
-use Rattle.steps.specs.Steps.{firstWord, firstByte}
-
-pub word-some : (l : List ℕ) → 0 < length l → Word (getD l 0 0) ≡ firstWord l
-word-some [] h = absurd (omega arith)
-word-some (w ∷ l) h = refl
-
-pub word-none : (l : List ℕ) → length l ≤ 0 → NoWord ≡ firstWord l
-word-none [] h = refl
-word-none (w ∷ l) h = absurd (omega arith)
+use Rattle.steps.specs.Steps.{firstByte}
 
 pub byte-some : (l : List ℕ) → 0 < length l → Next (getD l 0 0) ≡ firstByte l
 byte-some [] h = absurd (omega arith)
@@ -25,15 +19,7 @@ pub byte-none : (l : List ℕ) → length l ≤ 0 → NoByte ≡ firstByte l
 byte-none [] h = refl
 byte-none (w ∷ l) h = absurd (omega arith)
 
--- the first word and what follows it
-pub word-cons : (l : List ℕ) (w : ℕ) → firstWord l ≡ Word w → l ≡ w ∷ drop 1 l
-word-cons [] w e = let z : _≡_ {A = ℕ} 0 1 = cc in absurd (omega arith)
-word-cons (x ∷ l) w e = let z : x ≡ w = cc in ap (λ (y : ℕ). y ∷ l) z
-
-pub word-nil : (l : List ℕ) → firstWord l ≡ NoWord → l ≡ []
-word-nil [] e = refl
-word-nil (x ∷ l) e = let z : _≡_ {A = ℕ} 0 1 = cc in absurd (omega arith)
-
+-- the first byte and what follows it
 pub byte-cons : (l : List ℕ) (w : ℕ) → firstByte l ≡ Next w → l ≡ w ∷ drop 1 l
 byte-cons [] w e = let z : _≡_ {A = ℕ} 0 1 = cc in absurd (omega arith)
 byte-cons (x ∷ l) w e = let z : x ≡ w = cc in ap (λ (y : ℕ). y ∷ l) z
@@ -41,9 +27,6 @@ byte-cons (x ∷ l) w e = let z : x ≡ w = cc in ap (λ (y : ℕ). y ∷ l) z
 pub byte-nil : (l : List ℕ) → firstByte l ≡ NoByte → l ≡ []
 byte-nil [] e = refl
 byte-nil (x ∷ l) e = let z : _≡_ {A = ℕ} 0 1 = cc in absurd (omega arith)
-
-pub word-pos : (l : List ℕ) (w : ℕ) → firstWord l ≡ Word w → 1 ≤ length l
-word-pos l w e = rw (word-cons l w e) (omega arith)
 
 pub byte-pos : (l : List ℕ) (b : ℕ) → firstByte l ≡ Next b → 1 ≤ length l
 byte-pos l b e = rw (byte-cons l b e) (omega arith)
@@ -63,18 +46,9 @@ pub last-pos : (l : List ℕ) (b : ℕ) → firstByte (reverse l) ≡ Next b →
 last-pos [] b e = let z : _≡_ {A = ℕ} 0 1 = cc in absurd (omega arith)
 last-pos (x ∷ l) b e = omega arith
 
--- the part `&l[n..]` of a slice
-abbrev pub from : ℕ → List ℕ → List ℕ
-from n l = take (length l - n) (drop n l)
-
-pub to-end : (n : ℕ) (l : List ℕ) → from n l ≡ drop n l
-to-end n l = take-all (length l - n) (drop n l) (rw length-drop (omega arith))
-
+-- the part `&l[0..]`
 pub whole : (l : List ℕ) → from 0 l ≡ l
 whole l = to-end 0 l
-
-pub length-from : (n : ℕ) (l : List ℕ) → length (from n l) ≡ length l - n
-length-from n l = rw (to-end n l, length-drop)
 
 pub word-whole : (l : List ℕ) (w : ℕ) → firstWord l ≡ Word w → w ∷ from 0 (from 1 l) ≡ l
 word-whole l w e = ap (λ (r : List ℕ). w ∷ r) (whole (from 1 l) ∙ to-end 1 l) ∙ sym (word-cons l w e)

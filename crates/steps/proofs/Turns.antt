@@ -16,10 +16,12 @@ use Rattle.meaning.proofs.KindLaws.{Seen, seen}
 use Rattle.meaning.proofs.RunLaws.{run-end, run-one, run-one-none, run-jump, run-jump-none}
 use Rattle.meaning.proofs.WordLaws.{prog-nil, prog-item, prog-opens}
 use Rattle.meaning.proofs.SoundLaws.{Opened, sound-item, sound-mark, sound-wrong, sound-opens, plain-item, false-true}
-use Rattle.steps.specs.declared.NextWord.the-variants.{Word, NoWord}
+use Rattle.nodes.specs.declared.NextWord.the-variants.{Word, NoWord}
+use Rattle.nodes.specs.Nodes.{firstWord}
+use Rattle.nodes.proofs.WordHeads.{word-cons, word-nil, from, to-end}
 use Rattle.steps.specs.declared.NextByte.the-variants.{Next, NoByte}
-use Rattle.steps.specs.Steps.{firstWord, firstByte, isTest}
-use Rattle.steps.proofs.Heads.{word-cons, word-nil, byte-cons, byte-nil, from, to-end}
+use Rattle.steps.specs.Steps.{firstByte, isTest}
+use Rattle.steps.proofs.Heads.{byte-cons, byte-nil}
 use Rattle.steps.proofs.Tests.{IsTest}
 
 pub end-left : (o : Order) (L M : List ℕ) → firstWord L ≡ NoWord → run o (prog L) M ≡ some M

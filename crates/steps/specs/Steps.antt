@@ -4,8 +4,6 @@ use mathlib.Core.Option.{Option, none, some}
 use mathlib.Core.List.{List, [], _∷_}
 use Prim.Native.Nat.{ℕ}
 use lib.ListN.{length}
-use Rattle.steps.specs.declared.NextWord.{NextWord}
-use Rattle.steps.specs.declared.NextWord.the-variants.{Word, NoWord}
 use Rattle.steps.specs.declared.NextByte.{NextByte}
 use Rattle.steps.specs.declared.NextByte.the-variants.{Next, NoByte}
 use Rattle.steps.specs.declared.Found.{Found}
@@ -13,11 +11,7 @@ use Rattle.steps.specs.declared.Found.the-variants.{Left, Nothing}
 use Rattle.meaning.specs.Programs.{pass, Item, one, jump, range, alt}
 use Rattle.meaning.specs.Words.{Shape, item, opens, mark, wrong}
 
--- the first of a list, if there is one
-abbrev pub firstWord : List ℕ → NextWord
-firstWord [] = NoWord
-firstWord (w ∷ ws) = Word w
-
+-- the first of the bytes, if there is one
 abbrev pub firstByte : List ℕ → NextByte
 firstByte [] = NoByte
 firstByte (b ∷ bs) = Next b

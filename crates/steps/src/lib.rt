@@ -3,7 +3,7 @@
 ghost use mathlib.Core.Path.{_≡_};
 ghost use mathlib.Core.List.{reverse};
 ghost use Rattle.meaning.specs.Words.{shape};
-ghost use Rattle.steps.specs.Steps.{firstWord, firstByte, isTest, passShape};
+ghost use Rattle.steps.specs.Steps.{firstByte, isTest, passShape};
 
 // What a check finds: how many bytes of the window it leaves.
 pub enum Found {
@@ -11,24 +11,9 @@ pub enum Found {
     Nothing,
 }
 
-pub enum NextWord {
-    Word(u32),
-    NoWord,
-}
-
 pub enum NextByte {
     Next(u8),
     NoByte,
-}
-
-pub fn first_word(s: &[u32]) -> NextWord
-    ensures { λ r. ⌜ r ≡ firstWord (now (s .entry)) ⌝ }
-{
-    if 0 < s.len() {
-        NextWord::Word(s[0])
-    } else {
-        NextWord::NoWord
-    }
 }
 
 pub fn first_byte(s: &[u8]) -> NextByte

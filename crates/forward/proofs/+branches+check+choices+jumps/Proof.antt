@@ -15,7 +15,8 @@ use Rattle.meaning.specs.Words.{prog, branchesOf, Sound, SoundBranches}
 use Rattle.meaning.proofs.KindLaws.{kind-jump}
 use Rattle.meaning.proofs.RunLaws.{run-range-empty}
 use Rattle.steps.specs.Steps.{answer}
-use Rattle.steps.proofs.Heads.{word-pos, byte-pos, from, to-end, whole, length-from, word-whole}
+use Rattle.nodes.proofs.WordHeads.{word-pos, from, to-end, length-from}
+use Rattle.steps.proofs.Heads.{byte-pos, whole, word-whole}
 use Rattle.steps.proofs.Tests.{is-test, passes-as}
 use Rattle.steps.proofs.Answers.{left-fits}
 use Rattle.steps.proofs.Turns as turns
@@ -38,8 +39,8 @@ use Rattle.forward.proofs.jumps.Reads as jumps
 use Rattle.forward.proofs.jumps.Kinds as jumps-kinds
 use Rattle.forward.proofs.+branches+check+choices+jumps.Lts-jumps as jumps-lts
 use Rattle.forward.proofs.flat.Reads as flat-reads
+use Rattle.nodes.proofs.first_word.Reads as first-word-reads
 use Rattle.steps.proofs.first_byte.Reads as first-byte-reads
-use Rattle.steps.proofs.first_word.Reads as first-word-reads
 use Rattle.steps.proofs.tests_byte.Reads as tests-byte-reads
 use Rattle.steps.proofs.word_passes.Reads as word-passes-reads
 use Rattle.forward.proofs.+branches+check+choices+jumps.{statement}

@@ -7,7 +7,8 @@ use Rattle.meaning.specs.Rows.{forward}
 use Rattle.meaning.specs.Words.{prog, plainWords}
 use Rattle.meaning.proofs.KindLaws.{kind-jump}
 use Rattle.steps.specs.Steps.{answer}
-use Rattle.steps.proofs.Heads.{word-pos, byte-pos, to-end, length-from}
+use Rattle.nodes.proofs.WordHeads.{word-pos, to-end, length-from}
+use Rattle.steps.proofs.Heads.{byte-pos}
 use Rattle.steps.proofs.Tests.{passes-as}
 use Rattle.steps.proofs.Turns as turns
 use native.Mathlib.Omega.{arith}
@@ -17,7 +18,7 @@ use Rattle.forward.proofs.flat.Tie as tie
 use Rattle.forward.proofs.flat.Reads as reads
 use Rattle.forward.proofs.flat.Lts as lts
 use Rattle.steps.proofs.first_byte.Reads as first-byte-reads
-use Rattle.steps.proofs.first_word.Reads as first-word-reads
+use Rattle.nodes.proofs.first_word.Reads as first-word-reads
 use Rattle.steps.proofs.word_passes.Reads as word-passes-reads
 
 abbrev Inv-loop : tie.InvT-loop

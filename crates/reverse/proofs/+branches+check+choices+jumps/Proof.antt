@@ -16,7 +16,8 @@ use Rattle.meaning.proofs.KindLaws.{kind-jump}
 use Rattle.meaning.proofs.RunLaws.{below, range-below, below-none}
 use Rattle.steps.specs.declared.Found.the-variants.{Left}
 use Rattle.steps.specs.Steps.{answer}
-use Rattle.steps.proofs.Heads.{word-pos, last-pos, from, whole, length-from, word-whole, back-left, back-part}
+use Rattle.nodes.proofs.WordHeads.{word-pos, from, length-from}
+use Rattle.steps.proofs.Heads.{last-pos, whole, word-whole, back-left, back-part}
 use Rattle.steps.proofs.Tests.{is-test, passes-as}
 use Rattle.steps.proofs.Answers.{left-fits}
 use Rattle.steps.proofs.Turns as turns
@@ -38,8 +39,8 @@ use Rattle.reverse.proofs.+branches+check+choices+jumps.Lts-choices as 
 use Rattle.reverse.proofs.jumps.Reads as jumps
 use Rattle.reverse.proofs.jumps.Kinds as jumps-kinds
 use Rattle.reverse.proofs.+branches+check+choices+jumps.Lts-jumps as jumps-lts
+use Rattle.nodes.proofs.first_word.Reads as first-word-reads
 use Rattle.reverse.proofs.flat.Reads as flat-reads
-use Rattle.steps.proofs.first_word.Reads as first-word-reads
 use Rattle.steps.proofs.last_byte.Reads as last-byte-reads
 use Rattle.steps.proofs.tests_byte.Reads as tests-byte-reads
 use Rattle.steps.proofs.word_passes.Reads as word-passes-reads

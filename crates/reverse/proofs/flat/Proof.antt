@@ -10,7 +10,8 @@ use Rattle.meaning.specs.Words.{prog, plainWords}
 use Rattle.meaning.proofs.KindLaws.{kind-jump}
 use Rattle.steps.specs.declared.Found.the-variants.{Left}
 use Rattle.steps.specs.Steps.{answer}
-use Rattle.steps.proofs.Heads.{word-pos, last-pos, back-part, length-from}
+use Rattle.nodes.proofs.WordHeads.{word-pos, length-from}
+use Rattle.steps.proofs.Heads.{last-pos, back-part}
 use Rattle.steps.proofs.Tests.{passes-as}
 use Rattle.steps.proofs.Turns as turns
 use native.Mathlib.Omega.{arith}
@@ -19,7 +20,7 @@ use Rattle.reverse.proofs.flat.Statement.{statement}
 use Rattle.reverse.proofs.flat.Tie as tie
 use Rattle.reverse.proofs.flat.Reads as reads
 use Rattle.reverse.proofs.flat.Lts as lts
-use Rattle.steps.proofs.first_word.Reads as first-word-reads
+use Rattle.nodes.proofs.first_word.Reads as first-word-reads
 use Rattle.steps.proofs.last_byte.Reads as last-byte-reads
 use Rattle.steps.proofs.word_passes.Reads as word-passes-reads
 
