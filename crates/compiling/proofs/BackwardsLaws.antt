@@ -8,9 +8,10 @@ use Prim.Native.Nat.{ℕ}
 use lib.ListN.{length, length-reverse}
 use Rattle.meaning.specs.Tokens.{Token, Tokens, Lists, Byte, NotByte, MaskedByte, NotMaskedByte, Jump, Alternatives, nothing, _then_, neither, _or_, One, Within, Matches, Spans, MatchesOne, _⊕_}
 use Rattle.meaning.specs.Values.{Bytes, SpelledOne, Spelled, SpelledFirst, SpelledMore}
+use Rattle.meaning.proofs.SoundLaws.{and-left, and-right, false-true}
 use Rattle.meaning.proofs.TokenLaws.{one-span, join-spans, nothing-after, after-assoc}
 use Rattle.compiling.specs.Compiling.{backwardsOf, backwards, backwardsIn}
-use Rattle.compiling.proofs.TokenSpans.{BoundedOne, Bounded, BoundedIn}
+use Rattle.compiling.specs.Compile.{plainToken, plainTokens, plainLists, simpleToken, simple}
 
 backwards-join : (ts us : Tokens) → backwards (ts ⊕ us) ≡ backwards us ⊕ backwards ts
 unfolding backwards _⊕_
@@ -94,29 +95,48 @@ mutual
   spelled-more neither h = h
   spelled-more (ts or ls) h = (spelled-backwards ts (h .0), spelled-more ls (h .1))
 
-bounded-join : (ts us : Tokens) → Bounded ts → Bounded us → Bounded (ts ⊕ us)
-unfolding Bounded _⊕_
-bounded-join nothing us h g = g
-bounded-join (t then ts) us h g = (h .0, bounded-join ts us (h .1) g)
+plain-join : (ts us : Tokens) → plainTokens ts ≡ true → plainTokens us ≡ true → plainTokens (ts ⊕ us) ≡ true
+unfolding plainTokens _⊕_
+plain-join nothing us h g = g
+plain-join (t then ts) us h g = rw (and-left (plainToken t) _ h, plain-join ts us (and-right (plainToken t) _ h) g)
 
-mutual
-  unfolding backwards Bounded
+plain-one : (t : Token) → plainToken t ≡ true → plainToken (backwardsOf t) ≡ true
+unfolding backwards plainToken
+plain-one (Byte v) h = h
+plain-one (NotByte v) h = h
+plain-one (MaskedByte v m) h = h
+plain-one (NotMaskedByte v m) h = h
+plain-one (Jump from to) h = h
+plain-one (Alternatives ls) h = false-true h
 
-  bounded-one : (t : Token) → BoundedOne t → BoundedOne (backwardsOf t)
-  bounded-one (Byte v) h = h
-  bounded-one (NotByte v) h = h
-  bounded-one (MaskedByte v m) h = h
-  bounded-one (NotMaskedByte v m) h = h
-  bounded-one (Jump from to) h = h
-  bounded-one (Alternatives ls) h = bounded-in ls h
+plain-backwards : (ts : Tokens) → plainTokens ts ≡ true → plainTokens (backwards ts) ≡ true
+unfolding backwards plainTokens
+plain-backwards nothing h = h
+plain-backwards (t then ts) h = plain-join (backwards ts) (backwardsOf t then nothing) (plain-backwards ts (and-right (plainToken t) _ h)) (rw (plain-one t (and-left (plainToken t) _ h)))
 
-  pub bounded-backwards : (ts : Tokens) → Bounded ts → Bounded (backwards ts)
-  bounded-backwards nothing h = h
-  bounded-backwards (t then ts) h = bounded-join (backwards ts) (backwardsOf t then nothing) (bounded-backwards ts (h .1)) (bounded-one t (h .0), tt)
+plain-lists-backwards : (ls : Lists) → plainLists ls ≡ true → plainLists (backwardsIn ls) ≡ true
+unfolding backwards plainLists
+plain-lists-backwards neither h = h
+plain-lists-backwards (ts or ls) h = rw (plain-backwards ts (and-left (plainTokens ts) _ h), plain-lists-backwards ls (and-right (plainTokens ts) _ h))
 
-  bounded-in : (ls : Lists) → BoundedIn ls → BoundedIn (backwardsIn ls)
-  bounded-in neither h = h
-  bounded-in (ts or ls) h = (bounded-backwards ts (h .0), bounded-in ls (h .1))
+simple-join : (ts us : Tokens) → simple ts ≡ true → simple us ≡ true → simple (ts ⊕ us) ≡ true
+unfolding simple _⊕_
+simple-join nothing us h g = g
+simple-join (t then ts) us h g = rw (and-left (simpleToken t) _ h, simple-join ts us (and-right (simpleToken t) _ h) g)
+
+simple-one : (t : Token) → simpleToken t ≡ true → simpleToken (backwardsOf t) ≡ true
+unfolding backwards simpleToken
+simple-one (Byte v) h = h
+simple-one (NotByte v) h = h
+simple-one (MaskedByte v m) h = h
+simple-one (NotMaskedByte v m) h = h
+simple-one (Jump from to) h = h
+simple-one (Alternatives ls) h = plain-lists-backwards ls h
+
+pub simple-backwards : (ts : Tokens) → simple ts ≡ true → simple (backwards ts) ≡ true
+unfolding backwards simple
+simple-backwards nothing h = h
+simple-backwards (t then ts) h = simple-join (backwards ts) (backwardsOf t then nothing) (simple-backwards ts (and-right (simpleToken t) _ h)) (rw (simple-one t (and-left (simpleToken t) _ h)))
 
 -- reversed bytes are bytes
 bytes-join : (a b : List ℕ) → Bytes a → Bytes b → Bytes (a ++ b)

@@ -3,3 +3,7 @@ pub mod AddLaws
 pub mod MaskLaws
 pub mod TokenSpans
 pub mod BackwardsLaws
+pub mod SaidLaws
+pub mod FitLaws
+pub mod GivenLaws
+pub mod CompileLaws

@@ -12,3 +12,4 @@ pub mod TokenLaws
 pub mod TokenTest
 pub mod YaraExamples
 pub mod FieldLaws
+pub mod MadeLaws
