@@ -7,3 +7,4 @@ pub mod SaidLaws
 pub mod FitLaws
 pub mod GivenLaws
 pub mod CompileLaws
+pub mod Samples
