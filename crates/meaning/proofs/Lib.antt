@@ -18,3 +18,4 @@ pub mod TokenLaws
 pub mod TokenTest
 pub mod YaraExamples
 pub mod FieldLaws
+pub mod MadeLaws
