@@ -1,5 +1,4 @@
-//! Links the library's archive where there is one: TOKENMARSH_LIB, or the one that
-//! `rt staticlib tokenmarsh` leaves.
+//! Links the library's archive, TOKENMARSH_LIB, where there is one.
 
 use std::env;
 use std::path::PathBuf;
@@ -12,13 +11,12 @@ fn main() {
     if env::var_os("BOREAL_SRC").is_some_and(|v| !v.is_empty()) {
         println!("cargo::rustc-cfg=original");
     }
-    let here = PathBuf::from(env::var_os("CARGO_MANIFEST_DIR").unwrap());
-    let usual = here.join("../target/staticlib/libtokenmarsh.a");
-    let archive = env::var_os("TOKENMARSH_LIB").map_or(usual, PathBuf::from);
-    println!("cargo::rerun-if-changed={}", archive.display());
-    let Ok(archive) = archive.canonicalize() else {
+    let Some(archive) = env::var_os("TOKENMARSH_LIB").filter(|v| !v.is_empty()) else {
         return;
     };
+    let archive = PathBuf::from(archive);
+    println!("cargo::rerun-if-changed={}", archive.display());
+    let archive = archive.canonicalize().expect("TOKENMARSH_LIB names an archive");
     let file = archive.file_name().unwrap().to_string_lossy().into_owned();
     println!("cargo::rustc-link-search=native={}", archive.parent().unwrap().display());
     println!("cargo::rustc-link-lib=static:+verbatim={file}");
