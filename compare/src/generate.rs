@@ -166,6 +166,49 @@ pub fn pattern(rng: &mut Rng, taste: Taste, levels: usize, most: usize) -> Vec<u
     out
 }
 
+/// Bytes and classes, as branches of plain alternatives have them.
+fn plain(rng: &mut Rng, taste: Taste, most: usize, out: &mut Vec<u8>) {
+    for _ in 0..1 + rng.below(most) {
+        let token = match rng.below(16) {
+            0 => mask(rng, taste),
+            1 if taste.negations => format!("~{}", byte(rng, taste)),
+            2 if taste.negations => format!("~{}", mask(rng, taste)),
+            _ => byte(rng, taste),
+        };
+        out.extend(token.bytes());
+    }
+}
+
+/// A pattern that has literals to choose from: runs of bytes, classes and plain alternatives,
+/// some of them with about as many branches as there may be literals.
+pub fn for_literals(rng: &mut Rng) -> Vec<u8> {
+    let bytes = rng.pick(&[2, 8, 9, 16]);
+    let taste = Taste { odd: 1000, small: true, negations: rng.one_in(2), bytes };
+    let mut out = b"{41".to_vec();
+    if rng.one_in(2) {
+        out.truncate(1);
+    }
+    for _ in 0..1 + rng.below(7) {
+        match rng.below(8) {
+            0 if out.len() > 1 => out.extend(rng.pick(&["??", "[2-3]41", "[4]42", "[2-]00"]).bytes()),
+            1 | 2 => {
+                let many = rng.pick(&[15, 16, 17, 99, 100, 127, 128, 255, 256, 257]);
+                let branches = if rng.one_in(12) { many } else { 1 + rng.below(4) };
+                let most = if branches > 4 { 1 } else { 3 };
+                for at in 0..branches {
+                    out.push(if at == 0 { b'(' } else { b'|' });
+                    plain(rng, taste, most, &mut out);
+                }
+                out.push(b')');
+            }
+            3 => out.extend(mask(rng, taste).bytes()),
+            _ => plain(rng, taste, 4, &mut out),
+        }
+    }
+    out.extend(rng.pick(&["}", "??}", "4?}", "FF}"]).bytes());
+    out
+}
+
 /// A pattern near one of the limits: levels, tokens, length of text or of a number.
 pub fn at_limits(rng: &mut Rng) -> Vec<u8> {
     let mut out = b"{".to_vec();

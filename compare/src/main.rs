@@ -35,6 +35,8 @@ fn main() -> std::process::ExitCode {
         "texts" => judge.texts(number(1, 5) as usize),
         "pieces" => judge.pieces(number(1, 4) as usize),
         "random" => judge.random(number(1, 1), number(2, 300_000) as usize),
+        "literals" => judge.random_literals(number(1, 1), number(2, 100_000) as usize),
+        "spans" => judge.spans(number(1, 1), number(2, 100_000) as usize),
         "programs" => judge.programs(number(1, 4) as usize),
         "checks" => judge.random_checks(number(1, 1), number(2, 300_000) as usize),
         "show" => {
@@ -60,6 +62,8 @@ fn main() -> std::process::ExitCode {
             judge.texts(5),
             judge.pieces(3),
             judge.random(1, 300_000),
+            judge.random_literals(1, 100_000),
+            judge.spans(1, 100_000),
             judge.programs(4),
             judge.random_checks(1, 300_000),
         ]

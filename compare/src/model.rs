@@ -505,6 +505,35 @@ pub fn reverse(words: &[u32], w: Window) -> Option<Answer<Found>> {
     Some(Ok(first.map_or(Found::Nothing, |row| Found::At(w.end - row.len()))))
 }
 
+/// The offsets, rising, at which a match of the tokens from `start` on can end: a byte matches
+/// itself, a jump any bytes of a length within its bounds, alternatives what one list matches.
+pub fn ends(list: &[Tok], hay: &[u8], start: usize) -> Vec<usize> {
+    let mut places = vec![start];
+    for token in list {
+        let mut next: Vec<usize> =
+            places.iter().flat_map(|at| ends_of_token(token, hay, *at)).collect();
+        next.sort_unstable();
+        next.dedup();
+        places = next;
+    }
+    places
+}
+
+fn ends_of_token(token: &Tok, hay: &[u8], at: usize) -> Vec<usize> {
+    let left = hay.len() - at;
+    let one = |fits: bool| if fits { vec![at + 1] } else { Vec::new() };
+    match token {
+        Tok::Jump(from, to) => {
+            let most = to.map_or(left, |to| left.min(to as usize));
+            (*from as usize..=most).map(|n| at + n).collect()
+        }
+        Tok::Alts(lists) => lists.iter().flat_map(|l| ends(l, hay, at)).collect(),
+        Tok::Masked(_, 2) => one(left > 0),
+        Tok::Byte(b) => one(hay.get(at) == Some(b)),
+        other => one(left > 0 && class(other).is_some_and(|c| c.contains(&hay[at]))),
+    }
+}
+
 // Literals
 
 const LITERALS: usize = 256;

@@ -1,7 +1,7 @@
 //! The comparisons: which inputs, which functions.
 
 use crate::generate::{self, PIECES, Rng, SIGNS, Taste, WORDS};
-use crate::sides::{Answer, Compiled, Found, Picked, Read, Side, Window};
+use crate::sides::{Answer, Compiled, Found, Picked, Read, Side, Tok, Window};
 use crate::tally::{Answers, Tally};
 use crate::{model, original, ours};
 
@@ -27,6 +27,15 @@ macro_rules! answers {
             ours: one(&$judge.ours),
         }
     }};
+}
+
+/// An answer in words: places in decimal, words and bytes in hex.
+fn told<T: std::fmt::Debug>(answer: Option<Answer<T>>) -> String {
+    match answer {
+        None => "no answer".into(),
+        Some(Ok(value)) => format!("{value:x?}"),
+        Some(Err(refusal)) => format!("refused {} at {}", refusal.number, refusal.place),
+    }
 }
 
 pub fn shown(text: &[u8]) -> String {
@@ -191,6 +200,65 @@ impl Judge {
         .all(|good| *good)
     }
 
+    /// Random patterns that have literals to choose from.
+    pub fn random_literals(&self, seed: u64, count: usize) -> bool {
+        let mut rng = Rng::new(seed);
+        let mut literals = Tally::default();
+        for _ in 0..count {
+            self.literals(&mut literals, &generate::for_literals(&mut rng));
+        }
+        literals.report(&format!("picking from runs, seed {seed}"))
+    }
+
+    /// Random patterns on short haystacks: an end is found from a start exactly if the tokens
+    /// match there, and it is one of theirs; the same backwards.
+    pub fn spans(&self, seed: u64, count: usize) -> bool {
+        let mut rng = Rng::new(seed);
+        let taste = Taste { odd: 1000, small: true, negations: true, bytes: 4 };
+        let (mut patterns, mut windows, mut found, mut wrong) = (0, 0, 0, 0);
+        for _ in 0..count {
+            let most = rng.pick(&[2, 4, 6]);
+            let text = generate::pattern(&mut rng, taste, 1, most);
+            let Ok((list, _)) = model::tokens(&text) else {
+                continue;
+            };
+            let compile = self.ours.compile.or(self.document.compile).expect("there is one");
+            let Some(Ok(programs)) = compile(&text) else {
+                continue;
+            };
+            patterns += 1;
+            let hay = generate::bytes(&mut rng, &[0x41, 0x42, 0x41, 0x00, 0x0A, 0x14], 12);
+            for at in 0..=hay.len() {
+                let (good, hits) = self.span(&list, &programs, &hay, at);
+                windows += 2;
+                found += hits;
+                if !good {
+                    wrong += 1;
+                    println!("    DIFFERS {} on {hay:x?} at {at}", shown(&text));
+                }
+            }
+        }
+        println!("spans of random texts, seed {seed}: {patterns} patterns, {windows} windows, {found} found, {wrong} differ");
+        wrong == 0
+    }
+
+    fn span(&self, list: &[Tok], programs: &Compiled, hay: &[u8], at: usize) -> (bool, usize) {
+        let forward = self.ours.forward.or(self.original.forward).expect("there is one");
+        let reverse = self.ours.reverse.or(self.original.reverse).expect("there is one");
+        let ends = model::ends(list, hay, at);
+        let after = forward(&programs.forward, Window { hay, start: at, end: hay.len() });
+        let before = reverse(&programs.reverse, Window { hay, start: 0, end: at });
+        let starts: Vec<_> =
+            (0..=at).filter(|s| model::ends(list, &hay[..at], *s).contains(&at)).collect();
+        let agree = |answer: &Option<Answer<Found>>, all: &[usize]| match answer {
+            Some(Ok(Found::At(place))) => all.contains(place),
+            Some(Ok(Found::Nothing)) => all.is_empty(),
+            _ => false,
+        };
+        let hits = usize::from(!ends.is_empty()) + usize::from(!starts.is_empty());
+        (agree(&after, &ends) && agree(&before, &starts), hits)
+    }
+
     /// All programs of at most so many words, sound or not, on all short haystacks.
     pub fn programs(&self, most: usize) -> bool {
         let mut hays: Vec<Vec<u8>> = Vec::new();
@@ -254,13 +322,13 @@ impl Judge {
     /// What each side answers to one text.
     pub fn show(&self, text: &[u8]) {
         println!("{}", shown(text));
-        println!("  original, as many levels as it allows by itself");
-        println!("    read     {:x?}", original::usual(text));
+        println!("  original, with as many levels as it allows by itself");
+        println!("    read     {}", told(original::usual(text)));
         for side in [&self.original, &self.document, &self.ours] {
             println!("  {}", side.name);
-            println!("    read     {:x?}", ask(|| side.read.and_then(|f| f(text))));
-            println!("    compile  {:x?}", ask(|| side.compile.and_then(|f| f(text))));
-            println!("    literals {:x?}", ask(|| side.literals.and_then(|f| f(text))));
+            println!("    read     {}", told(ask(|| side.read.and_then(|f| f(text)))));
+            println!("    compile  {}", told(ask(|| side.compile.and_then(|f| f(text)))));
+            println!("    literals {}", told(ask(|| side.literals.and_then(|f| f(text)))));
         }
     }
 
@@ -271,9 +339,9 @@ impl Judge {
         let (forward, reverse) = original::raw(words, hay);
         println!("  original  forward {forward}, reverse {reverse}");
         for side in [&self.document, &self.ours] {
-            let forward = ask(|| side.forward.and_then(|f| f(words, w)));
-            let reverse = ask(|| side.reverse.and_then(|f| f(words, w)));
-            println!("  {}  forward {forward:?}, reverse {reverse:?}", side.name);
+            let forward = told(ask(|| side.forward.and_then(|f| f(words, w))));
+            let reverse = told(ask(|| side.reverse.and_then(|f| f(words, w))));
+            println!("  {}  forward {forward}, reverse {reverse}", side.name);
         }
     }
 

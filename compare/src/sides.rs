@@ -1,5 +1,7 @@
 //! What is compared: the answers of document 01, and a side as a set of functions that give them.
 
+use std::fmt::{Debug, Formatter};
+
 /// A token, as document 01's entries have it.
 #[derive(Clone, Debug, PartialEq, Eq)]
 pub enum Tok {
@@ -18,7 +20,7 @@ pub struct Refusal {
     pub place: usize,
 }
 
-#[derive(Clone, Debug, PartialEq, Eq)]
+#[derive(Clone, PartialEq, Eq)]
 pub struct Read {
     pub words: Vec<u32>,
     pub reached: usize,
@@ -30,7 +32,7 @@ pub struct Compiled {
     pub reverse: Vec<u32>,
 }
 
-#[derive(Clone, Debug, PartialEq, Eq)]
+#[derive(Clone, PartialEq, Eq)]
 pub struct Picked {
     pub rank: u32,
     pub literals: Vec<Vec<u8>>,
@@ -50,6 +52,19 @@ pub struct Window<'a> {
     pub hay: &'a [u8],
     pub start: usize,
     pub end: usize,
+}
+
+// Words and bytes are shown in hex, offsets and ranks in decimal.
+impl Debug for Read {
+    fn fmt(&self, f: &mut Formatter<'_>) -> std::fmt::Result {
+        write!(f, "words {:x?}, reached {}", self.words, self.reached)
+    }
+}
+
+impl Debug for Picked {
+    fn fmt(&self, f: &mut Formatter<'_>) -> std::fmt::Result {
+        write!(f, "rank {}, {} literals {:02X?}", self.rank, self.literals.len(), self.literals)
+    }
 }
 
 /// One implementation. An absent function, or an answer of None, is not compared.

@@ -78,7 +78,7 @@ impl Tally {
         } else {
             pair.differ += 1;
             if pair.examples.len() < EXAMPLES {
-                let [x, a, b] = [show(), format!("{a:x?}"), format!("{b:x?}")].map(shortened);
+                let [x, a, b] = [show(), format!("{a:?}"), format!("{b:?}")].map(shortened);
                 pair.examples.push(format!("{x}\n      {a}\n      {b}"));
             }
         }
