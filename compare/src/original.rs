@@ -42,14 +42,26 @@ fn list(tokens: &[Token]) -> Vec<Tok> {
     tokens.iter().map(token).collect()
 }
 
-/// The original with its own limit of levels, and without our domain.
-pub fn usual(text: &[u8]) -> Option<Answer<Read>> {
-    let text = std::str::from_utf8(text).ok()?;
-    let answer = boreal_parser::read(text, 30);
-    Some(match answer {
-        Ok((tokens, reached)) => Ok(Read { words: entries(&list(&tokens)), reached }),
-        Err(r) => Err(Refusal { number: r.number, place: r.place }),
-    })
+/// The original by itself: its own limit of levels, no domain, no refusal 17 or 19.
+pub fn alone(text: &[u8]) {
+    let Ok(text) = std::str::from_utf8(text) else {
+        println!("    not text in UTF-8");
+        return;
+    };
+    match boreal_parser::read(text, 30) {
+        Err(r) => println!("    refused {} at {}", r.number, r.place),
+        Ok((tokens, reached)) => {
+            println!("    read     {:?}", Read { words: entries(&list(&tokens)), reached });
+            for reverse in [false, true] {
+                let built = Program::build(&tree(&tokens, NotByte::Mask), reverse);
+                println!("    built    {:x?}", built.map(|p| p.words()));
+            }
+            for (not_byte, how) in [(NotByte::Class, "class"), (NotByte::Mask, "mask FF")] {
+                let (rank, literals) = pick(&tree(&tokens, not_byte));
+                println!("    literals {:?} (~XX as a {how})", Picked { rank, literals });
+            }
+        }
+    }
 }
 
 /// Both checks on a whole haystack, also of unsound programs: the answers in words.

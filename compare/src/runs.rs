@@ -322,8 +322,8 @@ impl Judge {
     /// What each side answers to one text.
     pub fn show(&self, text: &[u8]) {
         println!("{}", shown(text));
-        println!("  original, with as many levels as it allows by itself");
-        println!("    read     {}", told(original::usual(text)));
+        println!("  original by itself");
+        original::alone(text);
         for side in [&self.original, &self.document, &self.ours] {
             println!("  {}", side.name);
             println!("    read     {}", told(ask(|| side.read.and_then(|f| f(text)))));
