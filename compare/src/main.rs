@@ -45,8 +45,9 @@ fn main() -> std::process::ExitCode {
         }
         "nodes" => {
             let words: Vec<u32> =
-                args[2..].iter().map(|w| u32::from_str_radix(w, 16).expect("hex")).collect();
-            judge.show_checks(&words, &hex(&args[1]));
+                args[4..].iter().map(|w| u32::from_str_radix(w, 16).expect("hex")).collect();
+            let (hay, start, end) = (hex(&args[1]), number(2, 0) as usize, number(3, 0) as usize);
+            judge.show_checks(&words, sides::Window { hay: &hay, start, end });
             true
         }
         "patterns" => {

@@ -64,8 +64,8 @@ pub fn alone(text: &[u8]) {
     }
 }
 
-/// Both checks on a whole haystack, also of unsound programs: the answers in words.
-pub fn raw(words: &[u32], hay: &[u8]) -> (String, String) {
+/// Both checks, also of unsound programs and on wrong windows: the answers in words.
+pub fn raw(words: &[u32], w: Window) -> (String, String) {
     let Some(program) = Program::new(words) else {
         return ("no such node".into(), "no such node".into());
     };
@@ -75,8 +75,8 @@ pub fn raw(words: &[u32], hay: &[u8]) -> (String, String) {
             Err(_) => "panic".into(),
         }
     };
-    let forward = told(&|| program.forward(hay, 0, hay.len()));
-    (forward, told(&|| program.reverse(hay, 0, hay.len())))
+    let forward = told(&|| program.forward(w.hay, w.start, w.end));
+    (forward, told(&|| program.reverse(w.hay, w.start, w.end)))
 }
 
 /// None outside the domain of comparison.

@@ -332,11 +332,10 @@ impl Judge {
         }
     }
 
-    /// What each side's checks answer on a whole haystack, the original also on unsound programs.
-    pub fn show_checks(&self, words: &[u32], hay: &[u8]) {
-        let w = Window { hay, start: 0, end: hay.len() };
-        println!("{words:x?} on {hay:x?}");
-        let (forward, reverse) = original::raw(words, hay);
+    /// What each side's checks answer, the original also where the document refuses.
+    pub fn show_checks(&self, words: &[u32], w: Window) {
+        println!("{words:x?} on {:x?}[{}..{}]", w.hay, w.start, w.end);
+        let (forward, reverse) = original::raw(words, w);
         println!("  original  forward {forward}, reverse {reverse}");
         for side in [&self.document, &self.ours] {
             let forward = told(ask(|| side.forward.and_then(|f| f(words, w))));

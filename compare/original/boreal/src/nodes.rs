@@ -6,39 +6,37 @@ use crate::matcher::Modifiers;
 use crate::matcher::analysis::analyze_hir;
 use crate::regex::Hir;
 
-pub struct Program(Vec<SimpleNode>);
+pub struct Program(SimpleValidator);
 
 impl Program {
     /// None where a word has no node; nothing else of soundness is tested.
     pub fn new(words: &[u32]) -> Option<Self> {
-        words.iter().map(|word| node(*word)).collect::<Option<Vec<_>>>().map(Program)
+        let nodes: Option<Vec<_>> = words.iter().map(|word| node(*word)).collect();
+        Some(Program(SimpleValidator { nodes: nodes?.into_boxed_slice() }))
     }
 
     /// The original's builder on a tree; None where it leaves the tree to another validator.
     pub fn build(hir: &Hir, reverse: bool) -> Option<Self> {
         let modifiers = Modifiers { dot_all: true, ..Modifiers::default() };
-        let built = SimpleValidator::new(hir, &analyze_hir(hir, true), modifiers, reverse)?;
-        Some(Program(built.nodes.into_vec()))
+        SimpleValidator::new(hir, &analyze_hir(hir, true), modifiers, reverse).map(Program)
     }
 
     pub fn words(&self) -> Vec<u32> {
-        self.0.iter().map(word).collect()
+        self.0.nodes.iter().map(word).collect()
     }
 
     pub fn forward(&self, hay: &[u8], start: usize, end: usize) -> Option<usize> {
-        let window = &hay[start..end];
-        check_nodes(&self.0, window).map(|left| end - left.len())
+        self.0.find_anchored_fwd(hay, start, end)
     }
 
     pub fn reverse(&self, hay: &[u8], start: usize, end: usize) -> Option<usize> {
-        let window = &hay[start..end];
-        check_nodes_reverse(&self.0, window).map(|left| start + left.len())
+        self.0.find_anchored_rev(hay, start, end)
     }
 
     /// One more than the last start from which the program is found, or 0.
     #[inline(never)]
     pub fn hits(&self, hay: &[u8]) -> usize {
-        let nodes = &self.0[..];
+        let nodes = &self.0.nodes[..];
         let mut n = 0;
         let mut i = 0;
         while i < hay.len() {
@@ -54,7 +52,7 @@ impl Program {
     /// One more than the last end before which the program is found, or 0.
     #[inline(never)]
     pub fn hits_back(&self, hay: &[u8]) -> usize {
-        let nodes = &self.0[..];
+        let nodes = &self.0.nodes[..];
         let mut n = 0;
         let mut i = 0;
         while i < hay.len() {
