@@ -10,5 +10,7 @@ fn main() {
     #[cfg(not(original))]
     println!("benchmark: not run. Set BOREAL_SRC to a checkout of boreal, then bench/run.");
     #[cfg(all(original, not(ours)))]
-    println!("benchmark: not run. No archive with tm_hits and tm_hits_back: rt staticlib tokenmarsh.");
+    println!(
+        "benchmark: not run. No archive with tm_hits and tm_hits_back: rt staticlib tokenmarsh."
+    );
 }

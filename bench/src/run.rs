@@ -150,8 +150,12 @@ fn measure(words: &[u32], hay: &[u8], back: bool) -> Line {
 }
 
 pub fn run() {
-    println!("ours / the original: median of {ROUNDS} rounds, lowest and highest round, and the two best");
-    println!("times; every place of a haystack of {HAY} bytes, median times for all in milliseconds\n");
+    println!(
+        "ours / the original: median of {ROUNDS} rounds, lowest and highest round, and the two best"
+    );
+    println!(
+        "times; every place of a haystack of {HAY} bytes, median times for all in milliseconds\n"
+    );
     println!("| case | way | ratio | lowest to highest | of the best | ours | original |");
     println!("|---|---|---|---|---|---|---|");
     for case in cases() {

@@ -3,6 +3,8 @@
 #[cfg(original)]
 mod generate;
 #[cfg(original)]
+mod listing;
+#[cfg(original)]
 mod model;
 #[cfg(original)]
 mod original;
@@ -28,7 +30,8 @@ fn main() {
 fn main() -> std::process::ExitCode {
     std::panic::set_hook(Box::new(|info| eprintln!("panicked: {info}")));
     let args: Vec<String> = std::env::args().skip(1).collect();
-    let number = |at: usize, usual: u64| args.get(at).map_or(usual, |a| a.parse().expect("a number"));
+    let number =
+        |at: usize, usual: u64| args.get(at).map_or(usual, |a| a.parse().expect("a number"));
     let judge = runs::Judge::new();
     let good = match args.first().map_or("all", String::as_str) {
         "samples" => samples::samples(),
@@ -50,6 +53,14 @@ fn main() -> std::process::ExitCode {
             judge.show_checks(&words, sides::Window { hay: &hay, start, end });
             true
         }
+        "listing" => {
+            let mut text = Vec::new();
+            std::io::Read::read_to_end(&mut std::io::stdin(), &mut text).expect("input");
+            print!("{}", listing::listing(&text));
+            true
+        }
+        "listings" => listing::listings(&args[1], number(2, 1), number(3, 2000)),
+        "rooms" => ours::rooms(),
         "patterns" => {
             runs::Judge::patterns(number(1, 1), number(2, 50) as usize, number(3, 50) as usize);
             true
@@ -60,6 +71,7 @@ fn main() -> std::process::ExitCode {
         }
         "all" => [
             samples::samples(),
+            ours::rooms(),
             judge.texts(5),
             judge.pieces(3),
             judge.random(1, 300_000),
@@ -91,7 +103,9 @@ fn starts(judge: &runs::Judge) {
         let line = line.expect("lines of text");
         let (hay, pattern) = line.split_once(' ').expect("a haystack and a pattern");
         match judge.starts(pattern.as_bytes(), &hex(hay)) {
-            Ok(all) => println!("{}", all.iter().map(usize::to_string).collect::<Vec<_>>().join(" ")),
+            Ok(all) => {
+                println!("{}", all.iter().map(usize::to_string).collect::<Vec<_>>().join(" "))
+            }
             Err(number) => println!("refused {number}"),
         }
     }

@@ -245,7 +245,8 @@ enum Item {
 /// None for a list that is not simple.
 fn items(list: &[Tok], reverse: bool, in_branch: bool) -> Option<Vec<Item>> {
     let mut out: Vec<Item> = Vec::new();
-    let in_order: Vec<&Tok> = if reverse { list.iter().rev().collect() } else { list.iter().collect() };
+    let in_order: Vec<&Tok> =
+        if reverse { list.iter().rev().collect() } else { list.iter().collect() };
     for token in in_order {
         match token {
             Tok::Byte(b) => out.push(Item::Word(word(0, u32::from(*b), 0))),
@@ -303,7 +304,8 @@ fn long_branch(items: &[Item]) -> bool {
 }
 
 pub fn programs(list: &[Tok]) -> Answer<Compiled> {
-    let (Some(forward), Some(reverse)) = (items(list, false, false), items(list, true, false)) else {
+    let (Some(forward), Some(reverse)) = (items(list, false, false), items(list, true, false))
+    else {
         return refuse(12, 0);
     };
     if long_branch(&forward) || long_branch(&reverse) {
@@ -439,7 +441,9 @@ fn choices(item: &Item, short_first: bool) -> Vec<Vec<u32>> {
         },
         Item::Alternation(branches) => branches
             .iter()
-            .map(|b| b.iter().flat_map(|w| choices(&Item::Word(*w), short_first).remove(0)).collect())
+            .map(|b| {
+                b.iter().flat_map(|w| choices(&Item::Word(*w), short_first).remove(0)).collect()
+            })
             .collect(),
     }
 }
@@ -693,9 +697,8 @@ pub fn pick(list: &[Tok]) -> Answer<Picked> {
         let Some(new) = best_of_run(run)? else {
             continue;
         };
-        let better = best
-            .as_ref()
-            .is_none_or(|old| (new.rank, shortest(&new)) > (old.rank, shortest(old)));
+        let better =
+            best.as_ref().is_none_or(|old| (new.rank, shortest(&new)) > (old.rank, shortest(old)));
         if better {
             best = Some(new);
         }

@@ -69,11 +69,11 @@ pub fn raw(words: &[u32], w: Window) -> (String, String) {
     let Some(program) = Program::new(words) else {
         return ("no such node".into(), "no such node".into());
     };
-    let told = |f: &dyn Fn() -> Option<usize>| {
-        match std::panic::catch_unwind(std::panic::AssertUnwindSafe(f)) {
-            Ok(answer) => format!("{:?}", found(answer)),
-            Err(_) => "panic".into(),
-        }
+    let told = |f: &dyn Fn() -> Option<usize>| match std::panic::catch_unwind(
+        std::panic::AssertUnwindSafe(f),
+    ) {
+        Ok(answer) => format!("{:?}", found(answer)),
+        Err(_) => "panic".into(),
     };
     let forward = told(&|| program.forward(w.hay, w.start, w.end));
     (forward, told(&|| program.reverse(w.hay, w.start, w.end)))
@@ -89,7 +89,9 @@ fn parsed(text: &[u8]) -> Option<Answer<(Vec<Token>, usize)>> {
     if matches!(model::tokens(text.as_bytes()), Err(Refusal { number: 11, .. })) {
         return None;
     }
-    Some(boreal_parser::read(text, LEVELS).map_err(|r| Refusal { number: r.number, place: r.place }))
+    Some(
+        boreal_parser::read(text, LEVELS).map_err(|r| Refusal { number: r.number, place: r.place }),
+    )
 }
 
 fn read(text: &[u8]) -> Option<Answer<Read>> {

@@ -23,28 +23,72 @@ pub fn side() -> Side {
     }
 }
 
-#[allow(dead_code, unused_imports)]
+/// Whether each door that is there refuses short buffers by 18, before all else where it is lent
+/// pools and after all else where it is lent room for literals, and then changes nothing.
+pub fn rooms() -> bool {
+    let wrong = doors::rooms();
+    println!("rooms: {} wrong", wrong.len());
+    wrong.iter().for_each(|what| println!("  WRONG {what}"));
+    wrong.is_empty()
+}
+
+#[allow(dead_code, unused_imports, unused_mut)]
 mod doors {
     use crate::sides::{Answer, Compiled, Found, Picked, Read, Refusal, Window};
 
     unsafe extern "C" {
         #[cfg(tm_read)]
-        fn tm_read(t: *const u8, nt: usize, p: *mut u32, np: usize, place: *mut u64, used: *mut u64) -> u64;
+        fn tm_read(
+            t: *const u8,
+            nt: usize,
+            p: *mut u32,
+            np: usize,
+            place: *mut u64,
+            used: *mut u64,
+        ) -> u64;
         #[cfg(tm_compile)]
         fn tm_compile(
-            t: *const u8, nt: usize, f: *mut u32, nf: usize, r: *mut u32, nr: usize,
-            place: *mut u64, fused: *mut u64, rused: *mut u64,
+            t: *const u8,
+            nt: usize,
+            f: *mut u32,
+            nf: usize,
+            r: *mut u32,
+            nr: usize,
+            place: *mut u64,
+            fused: *mut u64,
+            rused: *mut u64,
         ) -> u64;
         #[cfg(tm_mirror)]
         fn tm_mirror(w: *const u32, nw: usize, out: *mut u32, nout: usize) -> u64;
         #[cfg(tm_forward)]
-        fn tm_forward(w: *const u32, nw: usize, h: *const u8, nh: usize, start: usize, end: usize) -> u64;
+        fn tm_forward(
+            w: *const u32,
+            nw: usize,
+            h: *const u8,
+            nh: usize,
+            start: usize,
+            end: usize,
+        ) -> u64;
         #[cfg(tm_reverse)]
-        fn tm_reverse(w: *const u32, nw: usize, h: *const u8, nh: usize, start: usize, end: usize) -> u64;
+        fn tm_reverse(
+            w: *const u32,
+            nw: usize,
+            h: *const u8,
+            nh: usize,
+            start: usize,
+            end: usize,
+        ) -> u64;
         #[cfg(tm_literals)]
         fn tm_literals(
-            t: *const u8, nt: usize, b: *mut u8, nb: usize, l: *mut u16, nl: usize,
-            place: *mut u64, count: *mut u64, rank: *mut u64,
+            t: *const u8,
+            nt: usize,
+            b: *mut u8,
+            nb: usize,
+            l: *mut u16,
+            nl: usize,
+            place: *mut u64,
+            count: *mut u64,
+            rank: *mut u64,
         ) -> u64;
     }
 
@@ -89,8 +133,15 @@ mod doors {
         // As above.
         let number = unsafe {
             tm_compile(
-                text.as_ptr(), text.len(), f.as_mut_ptr(), f.len(), r.as_mut_ptr(), r.len(),
-                &mut place, &mut nf, &mut nr,
+                text.as_ptr(),
+                text.len(),
+                f.as_mut_ptr(),
+                f.len(),
+                r.as_mut_ptr(),
+                r.len(),
+                &mut place,
+                &mut nf,
+                &mut nr,
             )
         };
         let (forward, reverse) = (used(&f, 512, nf as usize), used(&r, 512, nr as usize));
@@ -105,8 +156,7 @@ mod doors {
     pub fn mirror(words: &[u32]) -> Option<Answer<Vec<u32>>> {
         let mut out = pool(512);
         // As above.
-        let number =
-            unsafe { tm_mirror(words.as_ptr(), words.len(), out.as_mut_ptr(), out.len()) };
+        let number = unsafe { tm_mirror(words.as_ptr(), words.len(), out.as_mut_ptr(), out.len()) };
         let out = used(&out, 512, if number == 0 { words.len() } else { 0 });
         Some(if number == 0 { Ok(out) } else { refusal(number, 0) })
     }
@@ -137,14 +187,21 @@ mod doors {
 
     #[cfg(tm_literals)]
     pub fn literals(text: &[u8]) -> Option<Answer<Picked>> {
-        const BYTES: usize = 256 * 4096;
+        const BYTES: usize = 256 * 512;
         let (mut b, mut l) = (vec![0xA5u8; BYTES], vec![0xA5A5u16; 256 + MARGIN]);
         let (mut place, mut count, mut rank) = (0, 0, 0);
         // As above.
         let number = unsafe {
             tm_literals(
-                text.as_ptr(), text.len(), b.as_mut_ptr(), b.len(), l.as_mut_ptr(), l.len(),
-                &mut place, &mut count, &mut rank,
+                text.as_ptr(),
+                text.len(),
+                b.as_mut_ptr(),
+                b.len(),
+                l.as_mut_ptr(),
+                l.len(),
+                &mut place,
+                &mut count,
+                &mut rank,
             )
         };
         let lengths = &l[..if number == 0 { count as usize } else { 0 }];
@@ -160,5 +217,144 @@ mod doors {
             0 => Ok(Picked { rank: rank as u32, literals: cut.collect() }),
             _ => refusal(number, place),
         })
+    }
+
+    /// A refusal by 18 at 0 with everything as it was.
+    fn short(what: String, number: u64, place: u64, same: bool, wrong: &mut Vec<String>) {
+        if number != 18 || place != 0 || !same {
+            wrong.push(format!("{what}: answer {number} at {place}, unchanged: {same}"));
+        }
+    }
+
+    pub fn rooms() -> Vec<String> {
+        let mut wrong = Vec::new();
+        #[cfg(tm_read)]
+        rooms_of_read(&mut wrong);
+        #[cfg(tm_compile)]
+        rooms_of_compile(&mut wrong);
+        #[cfg(tm_mirror)]
+        rooms_of_mirror(&mut wrong);
+        #[cfg(tm_literals)]
+        rooms_of_literals(&mut wrong);
+        wrong
+    }
+
+    /// Texts that would be read, refused early and refused for their length.
+    fn texts() -> [Vec<u8>; 3] {
+        [b"{ 41 }".to_vec(), b"x".to_vec(), vec![b'{'; 5000]]
+    }
+
+    #[cfg(tm_read)]
+    fn rooms_of_read(wrong: &mut Vec<String>) {
+        for text in texts() {
+            for n in [0, 1, 4, 4095] {
+                let (mut p, mut place, mut used) = (vec![FILL; n], 0, 0);
+                // As above.
+                let number = unsafe {
+                    tm_read(text.as_ptr(), text.len(), p.as_mut_ptr(), n, &mut place, &mut used)
+                };
+                let same = p.iter().all(|w| *w == FILL);
+                short(format!("read, {n} words"), number, place, same, wrong);
+            }
+        }
+    }
+
+    #[cfg(tm_compile)]
+    fn rooms_of_compile(wrong: &mut Vec<String>) {
+        for text in texts() {
+            for (nf, nr) in [(511, 512), (512, 511), (0, 512), (512, 0), (0, 0)] {
+                let (mut f, mut r) = (vec![FILL; nf], vec![FILL; nr]);
+                let (mut place, mut fused, mut rused) = (0, 0, 0);
+                // As above.
+                let number = unsafe {
+                    tm_compile(
+                        text.as_ptr(),
+                        text.len(),
+                        f.as_mut_ptr(),
+                        nf,
+                        r.as_mut_ptr(),
+                        nr,
+                        &mut place,
+                        &mut fused,
+                        &mut rused,
+                    )
+                };
+                let same = f.iter().chain(&r).all(|w| *w == FILL);
+                short(format!("compile, {nf} and {nr} words"), number, place, same, wrong);
+            }
+        }
+    }
+
+    #[cfg(tm_mirror)]
+    fn rooms_of_mirror(wrong: &mut Vec<String>) {
+        for words in [vec![0x4100], vec![7], vec![0x4100; 600]] {
+            for n in [0, 1, 511] {
+                let mut out = vec![FILL; n];
+                // As above.
+                let number = unsafe { tm_mirror(words.as_ptr(), words.len(), out.as_mut_ptr(), n) };
+                let same = out.iter().all(|w| *w == FILL);
+                short(format!("mirror, {n} words"), number, 0, same, wrong);
+            }
+        }
+    }
+
+    /// Literals that need so many bytes and lengths: with just that room, and with one less.
+    #[cfg(tm_literals)]
+    fn rooms_of_literals(wrong: &mut Vec<String>) {
+        let texts: [(&[u8], usize, usize); 4] = [
+            (b"{ 41 42 43 44 45 }", 5, 1),
+            (b"{ 01 02 ?3 04 }", 64, 16),
+            (b"{ ?1 (AA | BB CC) }", 80, 32),
+            (b"{ (41|42 43 44) }", 4, 2),
+        ];
+        for (text, bytes, lengths) in texts {
+            for (nb, nl) in [(bytes, lengths), (bytes - 1, lengths), (bytes, lengths - 1), (0, 0)] {
+                let (mut b, mut l) = (vec![0xA5u8; nb], vec![0xA5A5u16; nl]);
+                let (mut place, mut count, mut rank) = (0, 0, 0);
+                // As above.
+                let number = unsafe {
+                    tm_literals(
+                        text.as_ptr(),
+                        text.len(),
+                        b.as_mut_ptr(),
+                        nb,
+                        l.as_mut_ptr(),
+                        nl,
+                        &mut place,
+                        &mut count,
+                        &mut rank,
+                    )
+                };
+                let what = format!("literals, {nb} bytes and {nl} lengths");
+                let same = b.iter().all(|x| *x == 0xA5) && l.iter().all(|x| *x == 0xA5A5);
+                if (nb, nl) != (bytes, lengths) {
+                    short(what, number, place, same, wrong);
+                } else if number != 0 || count as usize != lengths {
+                    wrong.push(format!("{what}: answer {number}, {count} literals"));
+                }
+            }
+        }
+        // Where 17 or 19 is due, the room does not matter.
+        for (text, due) in [(&b"{ (41|??) }"[..], 19), (&b"{ 4 }"[..], 2)] {
+            let (mut place, mut count, mut rank) = (0, 0, 0);
+            let (mut b, mut l) = ([0u8; 1], [0u16; 1]);
+            // As above.
+            let number = unsafe {
+                tm_literals(
+                    text.as_ptr(),
+                    text.len(),
+                    b.as_mut_ptr(),
+                    0,
+                    l.as_mut_ptr(),
+                    0,
+                    &mut place,
+                    &mut count,
+                    &mut rank,
+                )
+            };
+            if number != due {
+                wrong.push(format!("literals without room: answer {number}, due {due}"));
+            }
+        }
     }
 }

@@ -13,9 +13,8 @@ pub struct Judge {
 
 /// One side's answer; a panic is an answer that equals no other.
 fn ask<T>(f: impl FnOnce() -> Option<Answer<T>>) -> Option<Answer<T>> {
-    std::panic::catch_unwind(std::panic::AssertUnwindSafe(f)).unwrap_or(Some(Err(
-        crate::sides::Refusal { number: 99, place: 0 },
-    )))
+    std::panic::catch_unwind(std::panic::AssertUnwindSafe(f))
+        .unwrap_or(Some(Err(crate::sides::Refusal { number: 99, place: 0 })))
 }
 
 macro_rules! answers {
@@ -238,7 +237,9 @@ impl Judge {
                 }
             }
         }
-        println!("spans of random texts, seed {seed}: {patterns} patterns, {windows} windows, {found} found, {wrong} differ");
+        println!(
+            "spans of random texts, seed {seed}: {patterns} patterns, {windows} windows, {found} found, {wrong} differ"
+        );
         wrong == 0
     }
 
@@ -287,7 +288,8 @@ impl Judge {
         let mut rng = Rng::new(seed);
         let (mut checks, mut mirror) = <([Tally; 2], Tally)>::default();
         for _ in 0..count {
-            let alphabet: &[u8] = rng.pick(&[&b"AB"[..], &b"A"[..], &b"AB\n"[..], &b"\x00\x01\x10\xff"[..]]);
+            let alphabet: &[u8] =
+                rng.pick(&[&b"AB"[..], &b"A"[..], &b"AB\n"[..], &b"\x00\x01\x10\xff"[..]]);
             let most = rng.pick(&[3, 6, 10]);
             let mut words = generate::program(&mut rng, alphabet, most);
             if rng.one_in(8) {

@@ -48,20 +48,26 @@ fn place(answer: &Answer<Read>) -> (u32, usize) {
 fn reading(side: &Side, count: &mut Count) {
     for (text, number, at) in READING {
         if let Some(answer) = side.read.and_then(|f| f(text.as_bytes())) {
-            count.check(place(&answer) == (*number, *at), &format!("{} {text}: {answer:?}", side.name));
+            count.check(
+                place(&answer) == (*number, *at),
+                &format!("{} {text}: {answer:?}", side.name),
+            );
         }
     }
 }
 
 fn searching(side: &Side, count: &mut Count) {
     for (text, hay, end) in FORWARD {
-        let words = model::tokens(text.as_bytes()).and_then(|(l, _)| model::programs(&l)).unwrap().forward;
+        let words =
+            model::tokens(text.as_bytes()).and_then(|(l, _)| model::programs(&l)).unwrap().forward;
         let window = Window { hay, start: 0, end: hay.len() };
         if let Some(answer) = side.forward.and_then(|f| f(&words, window)) {
-            count.check(answer == Ok(Found::At(*end)), &format!("{} {text}: {answer:?}", side.name));
+            count
+                .check(answer == Ok(Found::At(*end)), &format!("{} {text}: {answer:?}", side.name));
         }
     }
-    let words = model::tokens(b"{ (61|62 61) }").and_then(|(l, _)| model::programs(&l)).unwrap().reverse;
+    let words =
+        model::tokens(b"{ (61|62 61) }").and_then(|(l, _)| model::programs(&l)).unwrap().reverse;
     let window = Window { hay: b"ba", start: 0, end: 2 };
     if let Some(answer) = side.reverse.and_then(|f| f(&words, window)) {
         count.check(answer == Ok(Found::At(1)), &format!("{} backwards: {answer:?}", side.name));
@@ -76,14 +82,20 @@ fn compiling(side: &Side, count: &mut Count) {
     for (text, forward, reverse) in [
         ("{ A? }", vec![0x00F0_A001], vec![0x00F0_A001]),
         ("{ 61 [0-2] 63 }", vec![0x6100, 0x2_0004, 0x6300], vec![0x6300, 0x2_0004, 0x6100]),
-        (four, vec![0xAB00, 0x6403, 0xFA03, 0x6403, 0xCD00], vec![0xCD00, 0x9603, 0xC803, 0x6403, 0xAB00]),
+        (
+            four,
+            vec![0xAB00, 0x6403, 0xFA03, 0x6403, 0xCD00],
+            vec![0xCD00, 0x9603, 0xC803, 0x6403, 0xAB00],
+        ),
     ] {
         if let Some(answer) = compile(text.as_bytes()) {
             let good = answer.as_ref().is_ok_and(|c| c.forward == forward && c.reverse == reverse);
             count.check(good, &format!("{} {text}: {answer:x?}", side.name));
         }
     }
-    for (text, number) in [("{ AB [255] CD }", 0), ("{ AB [256] CD }", 12), ("{ AB [4294967295] CD }", 12)] {
+    for (text, number) in
+        [("{ AB [255] CD }", 0), ("{ AB [256] CD }", 12), ("{ AB [4294967295] CD }", 12)]
+    {
         if let Some(answer) = compile(text.as_bytes()) {
             let got = answer.as_ref().err().map_or(0, |r| r.number);
             count.check(got == number, &format!("{} {text}: {answer:x?}", side.name));
@@ -101,8 +113,12 @@ fn picking(side: &Side, count: &mut Count) {
         ("{ 61 [0-2] 63 }", 20, 1, vec![0x63]),
     ] {
         if let Some(answer) = literals(text.as_bytes()) {
-            let right = |p: &Picked| p.rank == rank && p.literals.len() == number && p.literals[0] == first;
-            count.check(answer.as_ref().is_ok_and(right), &format!("{} {text}: {answer:x?}", side.name));
+            let right =
+                |p: &Picked| p.rank == rank && p.literals.len() == number && p.literals[0] == first;
+            count.check(
+                answer.as_ref().is_ok_and(right),
+                &format!("{} {text}: {answer:x?}", side.name),
+            );
         }
     }
 }

@@ -8,7 +8,11 @@ use crate::sides::Answer;
 const EXAMPLES: usize = 5;
 
 fn shortened(text: String) -> String {
-    if text.chars().count() > 300 { text.chars().take(300).chain("..".chars()).collect() } else { text }
+    if text.chars().count() > 300 {
+        text.chars().take(300).chain("..".chars()).collect()
+    } else {
+        text
+    }
 }
 
 #[derive(Default)]

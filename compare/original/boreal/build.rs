@@ -7,7 +7,11 @@ fn main() {
         "parts",
         &[
             Laid { path: "boreal/src/matcher/analysis.rs", module: "analysis", seam: None },
-            Laid { path: "boreal/src/matcher/literals.rs", module: "literals", seam: Some("pick.rs") },
+            Laid {
+                path: "boreal/src/matcher/literals.rs",
+                module: "literals",
+                seam: Some("pick.rs"),
+            },
         ],
     );
     lay(
