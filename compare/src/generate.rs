@@ -361,6 +361,36 @@ pub fn program(rng: &mut Rng, alphabet: &[u8], most: usize) -> Vec<u32> {
     words
 }
 
+/// A sound program with long jumps, or an alternation whose count needs both fields, and a
+/// haystack of about its length.
+pub fn wide(rng: &mut Rng) -> (Vec<u32>, Vec<u8>) {
+    let most = 200 + rng.below(500);
+    let mut hay = vec![0x41; most];
+    for _ in 0..rng.below(4) {
+        hay[rng.below(most)] = 0x42;
+    }
+    let mut words = Vec::new();
+    if rng.one_in(2) {
+        for _ in 0..1 + rng.below(3) {
+            let n = rng.pick(&[100, 200, 254, 255]);
+            words.push(7 + 256 * n);
+            words.extend((0..n).map(|_| if rng.one_in(60) { 0x4200 } else { 0x4100 }));
+        }
+        words.truncate(500);
+        let last = words.iter().rposition(|w| w % 256 == 7).unwrap_or(0);
+        words[last] = 7 + 256 * (words.len() - last - 1) as u32;
+        words.insert(0, 6 + 256 * words.len() as u32);
+    } else {
+        let (a, b) = (rng.below(256) as u32, rng.below(256) as u32);
+        words.push(4 + 256 * a.min(b) + 65536 * a.max(b));
+        words.push(0x4200);
+        words.push(3 + 256 * rng.below(256) as u32);
+        words.push(4 + 256 * rng.below(3) as u32 + 65536 * (3 + rng.below(20) as u32));
+    }
+    words.push(rng.pick(&[0x4200, 0x4100, 5]));
+    (words, hay)
+}
+
 /// A program with a few words spoilt, mostly unsound.
 pub fn spoilt(rng: &mut Rng, words: &[u32]) -> Vec<u32> {
     let mut out = words.to_vec();

@@ -26,8 +26,8 @@ pub fn side() -> Side {
 /// Whether each door that is there refuses short buffers by 18, before all else where it is lent
 /// pools and after all else where it is lent room for literals, and then changes nothing.
 pub fn rooms() -> bool {
-    let wrong = doors::rooms();
-    println!("rooms: {} wrong", wrong.len());
+    let (run, wrong) = doors::rooms();
+    println!("rooms of ours: {run} doors tried, {} answers wrong", wrong.len());
     wrong.iter().for_each(|what| println!("  WRONG {what}"));
     wrong.is_empty()
 }
@@ -226,17 +226,20 @@ mod doors {
         }
     }
 
-    pub fn rooms() -> Vec<String> {
+    pub fn rooms() -> (usize, Vec<String>) {
+        let doors: &[fn(&mut Vec<String>)] = &[
+            #[cfg(tm_read)]
+            rooms_of_read,
+            #[cfg(tm_compile)]
+            rooms_of_compile,
+            #[cfg(tm_mirror)]
+            rooms_of_mirror,
+            #[cfg(tm_literals)]
+            rooms_of_literals,
+        ];
         let mut wrong = Vec::new();
-        #[cfg(tm_read)]
-        rooms_of_read(&mut wrong);
-        #[cfg(tm_compile)]
-        rooms_of_compile(&mut wrong);
-        #[cfg(tm_mirror)]
-        rooms_of_mirror(&mut wrong);
-        #[cfg(tm_literals)]
-        rooms_of_literals(&mut wrong);
-        wrong
+        doors.iter().for_each(|door| door(&mut wrong));
+        (doors.len(), wrong)
     }
 
     /// Texts that would be read, refused early and refused for their length.

@@ -298,6 +298,11 @@ impl Judge {
             if rng.one_in(200) {
                 words.resize(rng.pick(&[511, 512, 513]), 256 * 0x41);
             }
+            if rng.one_in(500) {
+                let (words, hay) = generate::wide(&mut rng);
+                self.mirror(&mut mirror, &words);
+                self.checks(&mut checks, &words, Window { hay: &hay, start: 0, end: hay.len() });
+            }
             self.mirror(&mut mirror, &words);
             for _ in 0..8 {
                 let hay = generate::bytes(&mut rng, alphabet, 14);
