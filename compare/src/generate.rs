@@ -322,6 +322,17 @@ pub fn bytes(rng: &mut Rng, alphabet: &[u8], most: usize) -> Vec<u8> {
     (0..rng.below(most + 1)).map(|_| rng.pick(alphabet)).collect()
 }
 
+/// The two ends of a window; some lie the wrong way round or beyond the haystack.
+pub fn window(rng: &mut Rng, length: usize) -> (usize, usize) {
+    let (a, b) = (rng.below(length + 1), rng.below(length + 1));
+    match rng.below(20) {
+        0 => (a, b + rng.below(3)),
+        1 => (a.max(b), a.min(b)),
+        2..=9 => (0, length),
+        _ => (a.min(b), a.max(b)),
+    }
+}
+
 fn plain_word(rng: &mut Rng, alphabet: &[u8]) -> u32 {
     let b = u32::from(rng.pick(alphabet));
     let mask = rng.pick(&[0x00, 0x01, 0x0F, 0xF0, 0xFF, 0x03]);
@@ -420,6 +431,7 @@ pub const WORDS: &[u32] = &[
     0x0001_0004,
     0x0002_0004,
     0x0002_0104,
+    0x0001_0104,
     0x0000_0005,
     0x0000_0206,
     0x0000_0306,

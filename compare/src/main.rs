@@ -30,45 +30,36 @@ fn main() {
 fn main() -> std::process::ExitCode {
     std::panic::set_hook(Box::new(|info| eprintln!("panicked: {info}")));
     let args: Vec<String> = std::env::args().skip(1).collect();
-    let number =
-        |at: usize, usual: u64| args.get(at).map_or(usual, |a| a.parse().expect("a number"));
     let judge = runs::Judge::new();
-    let good = match args.first().map_or("all", String::as_str) {
+    let good = compared(&judge, &args).or_else(|| shown(&judge, &args)).unwrap_or_else(|| {
+        eprintln!("no such comparison; compare/run names them");
+        false
+    });
+    if good { std::process::ExitCode::SUCCESS } else { std::process::ExitCode::FAILURE }
+}
+
+#[cfg(original)]
+fn number(args: &[String], at: usize, usual: u64) -> u64 {
+    args.get(at).map_or(usual, |a| a.parse().expect("a number"))
+}
+
+/// Runs a comparison and answers whether it was good; None for another name.
+#[cfg(original)]
+fn compared(judge: &runs::Judge, args: &[String]) -> Option<bool> {
+    let seed = || number(args, 1, 1);
+    let length = |usual: u64| number(args, 1, usual) as usize;
+    let count = |usual: u64| number(args, 2, usual) as usize;
+    Some(match args.first().map_or("all", String::as_str) {
         "samples" => samples::samples(),
-        "texts" => judge.texts(number(1, 5) as usize),
-        "pieces" => judge.pieces(number(1, 4) as usize),
-        "random" => judge.random(number(1, 1), number(2, 300_000) as usize),
-        "literals" => judge.random_literals(number(1, 1), number(2, 100_000) as usize),
-        "spans" => judge.spans(number(1, 1), number(2, 100_000) as usize),
-        "programs" => judge.programs(number(1, 4) as usize),
-        "checks" => judge.random_checks(number(1, 1), number(2, 300_000) as usize),
-        "show" => {
-            args[1..].iter().for_each(|text| judge.show(text.as_bytes()));
-            true
-        }
-        "nodes" => {
-            let words: Vec<u32> =
-                args[4..].iter().map(|w| u32::from_str_radix(w, 16).expect("hex")).collect();
-            let (hay, start, end) = (hex(&args[1]), number(2, 0) as usize, number(3, 0) as usize);
-            judge.show_checks(&words, sides::Window { hay: &hay, start, end });
-            true
-        }
-        "listing" => {
-            let mut text = Vec::new();
-            std::io::Read::read_to_end(&mut std::io::stdin(), &mut text).expect("input");
-            print!("{}", listing::listing(&text));
-            true
-        }
-        "listings" => listing::listings(&args[1], number(2, 1), number(3, 2000)),
         "rooms" => ours::rooms(),
-        "patterns" => {
-            runs::Judge::patterns(number(1, 1), number(2, 50) as usize, number(3, 50) as usize);
-            true
-        }
-        "starts" => {
-            starts(&judge);
-            true
-        }
+        "texts" => judge.texts(length(5)),
+        "pieces" => judge.pieces(length(4)),
+        "random" => judge.random(seed(), count(300_000)),
+        "literals" => judge.random_literals(seed(), count(100_000)),
+        "spans" => judge.spans(seed(), count(100_000)),
+        "programs" => judge.programs(length(4)),
+        "checks" => judge.random_checks(seed(), count(300_000)),
+        "listings" => listing::listings(&args[1], number(args, 2, 1), number(args, 3, 2000)),
         "all" => [
             samples::samples(),
             ours::rooms(),
@@ -82,12 +73,32 @@ fn main() -> std::process::ExitCode {
         ]
         .iter()
         .all(|good| *good),
-        other => {
-            eprintln!("no comparison named {other}; compare/run names them");
-            false
+        _ => return None,
+    })
+}
+
+/// Prints what was asked for; None for another name.
+#[cfg(original)]
+fn shown(judge: &runs::Judge, args: &[String]) -> Option<bool> {
+    let size = |at: usize, usual: u64| number(args, at, usual) as usize;
+    match args[0].as_str() {
+        "show" => args[1..].iter().for_each(|text| judge.show(text.as_bytes())),
+        "nodes" => {
+            let word = |w: &String| u32::from_str_radix(w, 16).expect("hex");
+            let words: Vec<u32> = args[4..].iter().map(word).collect();
+            let (hay, start, end) = (hex(&args[1]), size(2, 0), size(3, 0));
+            judge.show_checks(&words, sides::Window { hay: &hay, start, end });
         }
-    };
-    if good { std::process::ExitCode::SUCCESS } else { std::process::ExitCode::FAILURE }
+        "listing" => {
+            let mut text = Vec::new();
+            std::io::Read::read_to_end(&mut std::io::stdin(), &mut text).expect("input");
+            print!("{}", listing::listing(&text));
+        }
+        "patterns" => runs::Judge::patterns(number(args, 1, 1), size(2, 50), size(3, 50)),
+        "starts" => starts(judge),
+        _ => return None,
+    }
+    Some(true)
 }
 
 #[cfg(original)]

@@ -185,26 +185,24 @@ mod doors {
         })
     }
 
+    /// The answer, the place, the number of literals and their rank.
+    #[cfg(tm_literals)]
+    fn call_literals(text: &[u8], b: &mut [u8], l: &mut [u16]) -> (u64, u64, usize, u64) {
+        let (nb, nl) = (b.len(), l.len());
+        let (b, l) = (b.as_mut_ptr(), l.as_mut_ptr());
+        let (mut place, mut count, mut rank) = (0, 0, 0);
+        let (t, nt) = (text.as_ptr(), text.len());
+        // As above.
+        let number = unsafe { tm_literals(t, nt, b, nb, l, nl, &mut place, &mut count, &mut rank) };
+        (number, place, count as usize, rank)
+    }
+
     #[cfg(tm_literals)]
     pub fn literals(text: &[u8]) -> Option<Answer<Picked>> {
         const BYTES: usize = 256 * 512;
         let (mut b, mut l) = (vec![0xA5u8; BYTES], vec![0xA5A5u16; 256 + MARGIN]);
-        let (mut place, mut count, mut rank) = (0, 0, 0);
-        // As above.
-        let number = unsafe {
-            tm_literals(
-                text.as_ptr(),
-                text.len(),
-                b.as_mut_ptr(),
-                b.len(),
-                l.as_mut_ptr(),
-                l.len(),
-                &mut place,
-                &mut count,
-                &mut rank,
-            )
-        };
-        let lengths = &l[..if number == 0 { count as usize } else { 0 }];
+        let (number, place, count, rank) = call_literals(text, &mut b, &mut l);
+        let lengths = &l[..if number == 0 { count } else { 0 }];
         let total: usize = lengths.iter().map(|n| usize::from(*n)).sum();
         assert!(b[total..].iter().all(|x| *x == 0xA5), "bytes that are not written must stay");
         assert!(l[lengths.len()..].iter().all(|x| *x == 0xA5A5), "other lengths must stay");
@@ -301,7 +299,7 @@ mod doors {
         }
     }
 
-    /// Literals that need so many bytes and lengths: with just that room, and with one less.
+    /// Literals that need so many bytes and lengths: with just that room, and with less.
     #[cfg(tm_literals)]
     fn rooms_of_literals(wrong: &mut Vec<String>) {
         let texts: [(&[u8], usize, usize); 4] = [
@@ -313,48 +311,19 @@ mod doors {
         for (text, bytes, lengths) in texts {
             for (nb, nl) in [(bytes, lengths), (bytes - 1, lengths), (bytes, lengths - 1), (0, 0)] {
                 let (mut b, mut l) = (vec![0xA5u8; nb], vec![0xA5A5u16; nl]);
-                let (mut place, mut count, mut rank) = (0, 0, 0);
-                // As above.
-                let number = unsafe {
-                    tm_literals(
-                        text.as_ptr(),
-                        text.len(),
-                        b.as_mut_ptr(),
-                        nb,
-                        l.as_mut_ptr(),
-                        nl,
-                        &mut place,
-                        &mut count,
-                        &mut rank,
-                    )
-                };
+                let (number, place, count, _) = call_literals(text, &mut b, &mut l);
                 let what = format!("literals, {nb} bytes and {nl} lengths");
                 let same = b.iter().all(|x| *x == 0xA5) && l.iter().all(|x| *x == 0xA5A5);
                 if (nb, nl) != (bytes, lengths) {
                     short(what, number, place, same, wrong);
-                } else if number != 0 || count as usize != lengths {
+                } else if number != 0 || count != lengths {
                     wrong.push(format!("{what}: answer {number}, {count} literals"));
                 }
             }
         }
-        // Where 17 or 19 is due, the room does not matter.
+        // Where another refusal is due, the room does not matter.
         for (text, due) in [(&b"{ (41|??) }"[..], 19), (&b"{ 4 }"[..], 2)] {
-            let (mut place, mut count, mut rank) = (0, 0, 0);
-            let (mut b, mut l) = ([0u8; 1], [0u16; 1]);
-            // As above.
-            let number = unsafe {
-                tm_literals(
-                    text.as_ptr(),
-                    text.len(),
-                    b.as_mut_ptr(),
-                    0,
-                    l.as_mut_ptr(),
-                    0,
-                    &mut place,
-                    &mut count,
-                    &mut rank,
-                )
-            };
+            let number = call_literals(text, &mut [], &mut []).0;
             if number != due {
                 wrong.push(format!("literals without room: answer {number}, due {due}"));
             }

@@ -306,13 +306,7 @@ impl Judge {
             self.mirror(&mut mirror, &words);
             for _ in 0..8 {
                 let hay = generate::bytes(&mut rng, alphabet, 14);
-                let (a, b) = (rng.below(hay.len() + 1), rng.below(hay.len() + 1));
-                let (start, end) = match rng.below(20) {
-                    0 => (a, b + rng.below(3)),
-                    1 => (b.max(a), a.min(b)),
-                    2..=9 => (0, hay.len()),
-                    _ => (a.min(b), a.max(b)),
-                };
+                let (start, end) = generate::window(&mut rng, hay.len());
                 self.checks(&mut checks, &words, Window { hay: &hay, start, end });
             }
         }
