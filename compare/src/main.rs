@@ -10,6 +10,10 @@ mod model;
 mod original;
 #[cfg(original)]
 mod ours;
+/// The C functions of the library, as its Rust binding declares them.
+#[allow(dead_code)]
+#[path = "../../bindings/rust/src/raw.rs"]
+mod raw;
 #[cfg(original)]
 mod runs;
 #[cfg(original)]

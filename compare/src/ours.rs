@@ -1,4 +1,4 @@
-//! The library as a side, through the C functions of tokenmarsh.h. Each call lends buffers with
+//! The library as a side, through the C functions of include/tokenmarsh.h. Each call lends buffers with
 //! a known filling and a margin, and holds the answer to what document 01 says of their content.
 
 use crate::sides::Side;
@@ -34,63 +34,10 @@ pub fn rooms() -> bool {
 
 #[allow(dead_code, unused_imports, unused_mut)]
 mod doors {
+    use crate::raw::{
+        self, CheckResult, tm_compile, tm_forward, tm_literals, tm_mirror, tm_read, tm_reverse,
+    };
     use crate::sides::{Answer, Compiled, Found, Picked, Read, Refusal, Window};
-
-    unsafe extern "C" {
-        #[cfg(tm_read)]
-        fn tm_read(
-            t: *const u8,
-            nt: usize,
-            p: *mut u32,
-            np: usize,
-            place: *mut u64,
-            used: *mut u64,
-        ) -> u64;
-        #[cfg(tm_compile)]
-        fn tm_compile(
-            t: *const u8,
-            nt: usize,
-            f: *mut u32,
-            nf: usize,
-            r: *mut u32,
-            nr: usize,
-            place: *mut u64,
-            fused: *mut u64,
-            rused: *mut u64,
-        ) -> u64;
-        #[cfg(tm_mirror)]
-        fn tm_mirror(w: *const u32, nw: usize, out: *mut u32, nout: usize) -> u64;
-        #[cfg(tm_forward)]
-        fn tm_forward(
-            w: *const u32,
-            nw: usize,
-            h: *const u8,
-            nh: usize,
-            start: usize,
-            end: usize,
-        ) -> u64;
-        #[cfg(tm_reverse)]
-        fn tm_reverse(
-            w: *const u32,
-            nw: usize,
-            h: *const u8,
-            nh: usize,
-            start: usize,
-            end: usize,
-        ) -> u64;
-        #[cfg(tm_literals)]
-        fn tm_literals(
-            t: *const u8,
-            nt: usize,
-            b: *mut u8,
-            nb: usize,
-            l: *mut u16,
-            nl: usize,
-            place: *mut u64,
-            count: *mut u64,
-            rank: *mut u64,
-        ) -> u64;
-    }
 
     const FILL: u32 = 0xA5A5_A5A5;
     const MARGIN: usize = 3;
@@ -107,48 +54,41 @@ mod doors {
         pool[..used].to_vec()
     }
 
-    fn refusal<T>(number: u64, place: u64) -> Answer<T> {
-        Err(Refusal { number: number as u32, place: place as usize })
+    fn refusal<T>(number: u32, place: u64) -> Answer<T> {
+        Err(Refusal { number, place: place as usize })
     }
 
     #[cfg(tm_read)]
     pub fn read(text: &[u8]) -> Option<Answer<Read>> {
-        let (mut p, mut place, mut n) = (pool(4096), 0, 0);
-        // The slices and the two numbers are lent for the call only.
-        let number = unsafe {
-            tm_read(text.as_ptr(), text.len(), p.as_mut_ptr(), p.len(), &mut place, &mut n)
-        };
-        let words = used(&p, 4096, n as usize);
-        assert!(number == 0 || n == 0, "a refusal uses no words");
-        Some(match number {
-            0 => Ok(Read { words, reached: place as usize }),
-            _ => refusal(number, place),
+        let mut p = pool(4096);
+        // The slices are lent for the call only.
+        let r = unsafe { tm_read(text.as_ptr(), text.len(), p.as_mut_ptr(), p.len()) };
+        let words = used(&p, 4096, r.words as usize);
+        assert!(r.refusal == 0 || r.words == 0, "a refusal uses no words");
+        Some(match r.refusal {
+            0 => Ok(Read { words, reached: r.reached as usize }),
+            n => refusal(n, r.place),
         })
+    }
+
+    /// As the C function, with slices.
+    #[cfg(tm_compile)]
+    fn call_compile(text: &[u8], f: &mut [u32], r: &mut [u32]) -> raw::CompileResult {
+        let (nf, nr) = (f.len(), r.len());
+        // As above.
+        unsafe { tm_compile(text.as_ptr(), text.len(), f.as_mut_ptr(), nf, r.as_mut_ptr(), nr) }
     }
 
     #[cfg(tm_compile)]
     pub fn compile(text: &[u8]) -> Option<Answer<Compiled>> {
         let (mut f, mut r) = (pool(512), pool(512));
-        let (mut place, mut nf, mut nr) = (0, 0, 0);
-        // As above.
-        let number = unsafe {
-            tm_compile(
-                text.as_ptr(),
-                text.len(),
-                f.as_mut_ptr(),
-                f.len(),
-                r.as_mut_ptr(),
-                r.len(),
-                &mut place,
-                &mut nf,
-                &mut nr,
-            )
-        };
-        let (forward, reverse) = (used(&f, 512, nf as usize), used(&r, 512, nr as usize));
-        assert!(number == 0 || (nf == 0 && nr == 0), "a refusal uses no words");
-        Some(match number {
+        let got = call_compile(text, &mut f, &mut r);
+        let forward = used(&f, 512, got.forward as usize);
+        let reverse = used(&r, 512, got.reverse as usize);
+        assert!(got.refusal == 0 || got.forward + got.reverse == 0, "a refusal uses no words");
+        Some(match got.refusal {
             0 => Ok(Compiled { forward, reverse }),
-            _ => refusal(number, place),
+            n => refusal(n, got.place),
         })
     }
 
@@ -156,16 +96,17 @@ mod doors {
     pub fn mirror(words: &[u32]) -> Option<Answer<Vec<u32>>> {
         let mut out = pool(512);
         // As above.
-        let number = unsafe { tm_mirror(words.as_ptr(), words.len(), out.as_mut_ptr(), out.len()) };
-        let out = used(&out, 512, if number == 0 { words.len() } else { 0 });
-        Some(if number == 0 { Ok(out) } else { refusal(number, 0) })
+        let r = unsafe { tm_mirror(words.as_ptr(), words.len(), out.as_mut_ptr(), out.len()) };
+        let out = used(&out, 512, r.words as usize);
+        assert!(r.refusal == 0 || r.words == 0, "a refusal uses no words");
+        Some(if r.refusal == 0 { Ok(out) } else { refusal(r.refusal, 0) })
     }
 
-    fn found(answer: u64) -> Option<Answer<Found>> {
-        Some(match u64::MAX - answer {
-            0 => Ok(Found::Nothing),
-            n if n < 64 => refusal(n, 0),
-            _ => Ok(Found::At(answer as usize)),
+    fn found(r: CheckResult) -> Option<Answer<Found>> {
+        Some(match (r.refusal, r.found) {
+            (0, 1) => Ok(Found::At(r.offset as usize)),
+            (0, _) => Ok(Found::Nothing),
+            (n, _) => refusal(n, 0),
         })
     }
 
@@ -187,14 +128,12 @@ mod doors {
 
     /// The answer, the place, the number of literals and their rank.
     #[cfg(tm_literals)]
-    fn call_literals(text: &[u8], b: &mut [u8], l: &mut [u16]) -> (u64, u64, usize, u64) {
+    fn call_literals(text: &[u8], b: &mut [u8], l: &mut [u16]) -> (u32, u64, usize, u32) {
         let (nb, nl) = (b.len(), l.len());
         let (b, l) = (b.as_mut_ptr(), l.as_mut_ptr());
-        let (mut place, mut count, mut rank) = (0, 0, 0);
-        let (t, nt) = (text.as_ptr(), text.len());
         // As above.
-        let number = unsafe { tm_literals(t, nt, b, nb, l, nl, &mut place, &mut count, &mut rank) };
-        (number, place, count as usize, rank)
+        let r = unsafe { tm_literals(text.as_ptr(), text.len(), b, nb, l, nl) };
+        (r.refusal, r.place, r.count as usize, r.rank)
     }
 
     #[cfg(tm_literals)]
@@ -212,13 +151,13 @@ mod doors {
             b[at - usize::from(*n)..at].to_vec()
         });
         Some(match number {
-            0 => Ok(Picked { rank: rank as u32, literals: cut.collect() }),
+            0 => Ok(Picked { rank, literals: cut.collect() }),
             _ => refusal(number, place),
         })
     }
 
     /// A refusal by 18 at 0 with everything as it was.
-    fn short(what: String, number: u64, place: u64, same: bool, wrong: &mut Vec<String>) {
+    fn short(what: String, number: u32, place: u64, same: bool, wrong: &mut Vec<String>) {
         if number != 18 || place != 0 || !same {
             wrong.push(format!("{what}: answer {number} at {place}, unchanged: {same}"));
         }
@@ -249,13 +188,11 @@ mod doors {
     fn rooms_of_read(wrong: &mut Vec<String>) {
         for text in texts() {
             for n in [0, 1, 4, 4095] {
-                let (mut p, mut place, mut used) = (vec![FILL; n], 0, 0);
+                let mut p = vec![FILL; n];
                 // As above.
-                let number = unsafe {
-                    tm_read(text.as_ptr(), text.len(), p.as_mut_ptr(), n, &mut place, &mut used)
-                };
+                let r = unsafe { tm_read(text.as_ptr(), text.len(), p.as_mut_ptr(), n) };
                 let same = p.iter().all(|w| *w == FILL);
-                short(format!("read, {n} words"), number, place, same, wrong);
+                short(format!("read, {n} words"), r.refusal, r.place, same, wrong);
             }
         }
     }
@@ -265,23 +202,10 @@ mod doors {
         for text in texts() {
             for (nf, nr) in [(511, 512), (512, 511), (0, 512), (512, 0), (0, 0)] {
                 let (mut f, mut r) = (vec![FILL; nf], vec![FILL; nr]);
-                let (mut place, mut fused, mut rused) = (0, 0, 0);
-                // As above.
-                let number = unsafe {
-                    tm_compile(
-                        text.as_ptr(),
-                        text.len(),
-                        f.as_mut_ptr(),
-                        nf,
-                        r.as_mut_ptr(),
-                        nr,
-                        &mut place,
-                        &mut fused,
-                        &mut rused,
-                    )
-                };
+                let got = call_compile(&text, &mut f, &mut r);
                 let same = f.iter().chain(&r).all(|w| *w == FILL);
-                short(format!("compile, {nf} and {nr} words"), number, place, same, wrong);
+                let what = format!("compile, {nf} and {nr} words");
+                short(what, got.refusal, got.place, same, wrong);
             }
         }
     }
@@ -292,9 +216,9 @@ mod doors {
             for n in [0, 1, 511] {
                 let mut out = vec![FILL; n];
                 // As above.
-                let number = unsafe { tm_mirror(words.as_ptr(), words.len(), out.as_mut_ptr(), n) };
+                let r = unsafe { tm_mirror(words.as_ptr(), words.len(), out.as_mut_ptr(), n) };
                 let same = out.iter().all(|w| *w == FILL);
-                short(format!("mirror, {n} words"), number, 0, same, wrong);
+                short(format!("mirror, {n} words"), r.refusal, 0, same, wrong);
             }
         }
     }
