@@ -1,0 +1,2 @@
+-- What is known of reading.
+pub mod Samples
