@@ -1,0 +1,1 @@
+-- What is read is spelled, and what is spelled within the limits is read.
