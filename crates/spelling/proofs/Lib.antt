@@ -1,1 +1,4 @@
 -- What is read is spelled, and what is spelled within the limits is read.
+pub mod Standing
+pub mod DigitLaws
+pub mod PiecesSpelled

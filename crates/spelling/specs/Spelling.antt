@@ -96,9 +96,12 @@ unfoldable pub Ordered : ℕ → Option ℕ → Type 0
 Ordered from none = Unit {0}
 Ordered from (some to) = (from ≤ to) × (0 < to)
 
+unfoldable pub Bracketed : ℕ → Option ℕ → Language
+Bracketed from to s = ((to ≡ some from) × Single from s) ⊎ Dashed from to s
+
 -- a jump with these bounds
 unfoldable pub Bounds : ℕ → Option ℕ → Language
-Bounds from to s = Ordered from to × (((to ≡ some from) × Single from s) ⊎ Dashed from to s)
+Bounds from to s = Ordered from to × Bracketed from to s
 
 -- in alternatives a jump has a bound, of at most 200
 unfoldable pub Allowed : Bool → Option ℕ → Type 0
