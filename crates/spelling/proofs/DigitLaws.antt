@@ -30,7 +30,7 @@ pub below-within : (a b c : ℕ) → c < a → within a b c ≡ false
 unfolding within
 below-within a b c h = rw (lt-leb a c h) refl
 
-and-false : (x : Bool) → x && false ≡ false
+pub and-false : (x : Bool) → x && false ≡ false
 and-false true = refl
 and-false false = refl
 

@@ -2,3 +2,6 @@
 pub mod Standing
 pub mod DigitLaws
 pub mod PiecesSpelled
+pub mod BoundLaws
+pub mod ListsSpelled
+pub mod TextSpelled

@@ -32,7 +32,7 @@ else-sound P t at (refused r z) y p q = p
 ends : {P : Language} {t : List ℕ} {at e e′ : ℕ} → e ≡ e′ → Stands P t at e → Stands P t at e′
 ends {P = P} {t = t} {at = at} q p = subst (λ (x : ℕ). Stands P t at x) q p
 
-nothing-stands : (t : List ℕ) (at : ℕ) → Stands (λ s. s ≡ []) t at at
+pub nothing-stands : (t : List ℕ) (at : ℕ) → Stands (λ s. s ≡ []) t at at
 nothing-stands t at = record { string = []; split = refl; reach = omega arith; spelled = refl }
 
 digit-stands : (t : List ℕ) (at v : ℕ) → digit (here t at) ≡ some v → Stands (HexDigit v) t at (at + 1)
@@ -185,26 +185,38 @@ range-sound t at = go (eqb (here t at) 91) refl
         lower-sound t at (skip t (at + 1)) (numberAt t (skip t (at + 1))) (mark-stands t at 91 (eqb-true (here t at) 91 d) (omega arith)) (number-sound t (skip t (at + 1)))
     go false d = tt
 
+-- a token other than alternatives
+unfoldable pub Plain : Token → Type 0
+Plain (Byte v) = Unit {0}
+Plain (NotByte v) = Unit {0}
+Plain (MaskedByte v m) = Unit {0}
+Plain (NotMaskedByte v m) = Unit {0}
+Plain (Jump from to) = Unit {0}
+Plain (Alternatives ls) = ⊥
+
+unfoldable pub SpellsPlain : Bool → Token → Language
+SpellsPlain inside tok s = SpellsToken inside tok s × Plain tok
+
 -- `[1]` and `[1-1]` spell `??`, and the rest jumps
 jump-spelled : (t : List ℕ) (inside : Bool) (at from to e : ℕ) → Allowed inside (some to) → Stands (Bounds from (some to)) t at e
-    → Stands (λ s. SpellsToken inside (jumpToken from to) s) t at e
-unfolding jumpToken SpellsToken NotOne AsJump
+    → Stands (λ s. SpellsPlain inside (jumpToken from to) s) t at e
+unfolding jumpToken SpellsPlain SpellsToken Plain NotOne AsJump
 jump-spelled t inside at from to e w p = go (eqb from 1) (eqb to 1) refl refl
   where
-    go : (a b : Bool) → eqb from 1 ≡ a → eqb to 1 ≡ b → Stands (λ s. SpellsToken inside (cond (a && b) (MaskedByte 0 all) (Jump from (some to))) s) t at e
+    go : (a b : Bool) → eqb from 1 ≡ a → eqb to 1 ≡ b → Stands (λ s. SpellsPlain inside (cond (a && b) (MaskedByte 0 all) (Jump from (some to))) s) t at e
     go true true c d =
-        change (λ s q. inr (refl, subst (λ (y : ℕ). Bounds 1 (some y) s) (eqb-true to 1 d) (subst (λ (x : ℕ). Bounds x (some to) s) (eqb-true from 1 c) q))) p
-    go true false c d = change (λ s q. (q, (λ x y. eqb-false to 1 d y), w)) p
-    go false b c d = change (λ s q. (q, (λ x y. eqb-false from 1 c x), w)) p
+        change (λ s q. (inr (refl, subst (λ (y : ℕ). Bounds 1 (some y) s) (eqb-true to 1 d) (subst (λ (x : ℕ). Bounds x (some to) s) (eqb-true from 1 c) q)), tt)) p
+    go true false c d = change (λ s q. ((q, (λ x y. eqb-false to 1 d y), w), tt)) p
+    go false b c d = change (λ s q. ((q, (λ x y. eqb-false from 1 c x), w), tt)) p
 
-jumped-sound : (t : List ℕ) (inside : Bool) (at : ℕ) (r : Seen Range) → Sound SpellsRange t at r → Sound (λ tok s. SpellsToken inside tok s) t at (jumped inside at r)
-unfolding Sound jumped SpellsRange SpellsToken NotOne Allowed
+jumped-sound : (t : List ℕ) (inside : Bool) (at : ℕ) (r : Seen Range) → Sound SpellsRange t at r → Sound (SpellsPlain inside) t at (jumped inside at r)
+unfolding Sound jumped SpellsRange SpellsPlain SpellsToken Plain NotOne Allowed
 jumped-sound t true at (found (between from none) s e) p = tt
-jumped-sound t false at (found (between from none) s e) p = change (λ u q. (q, tt, tt)) p
+jumped-sound t false at (found (between from none) s e) p = change (λ u q. ((q, tt, tt), tt)) p
 jumped-sound t inside at (found (between from (some to)) s e) p = go inside (ltb 200 to) refl p
   where
     go : (i c : Bool) → ltb 200 to ≡ c → Stands (Bounds from (some to)) t at e
-        → Sound (λ tok u. SpellsToken i tok u) t at (cond (i && c) (refused JumpTooBigInAlternation at) (found (jumpToken from to) s e))
+        → Sound (SpellsPlain i) t at (cond (i && c) (refused JumpTooBigInAlternation at) (found (jumpToken from to) s e))
     go true true g p = tt
     go true false g p = jump-spelled t true at from to e (ltb-false 200 to g) p
     go false c g p = jump-spelled t false at from to e tt p
@@ -212,35 +224,34 @@ jumped-sound t inside at absent p = tt
 jumped-sound t inside at (refused r z) p = tt
 
 -- bytes
-plainly-sound : (t : List ℕ) (inside : Bool) (at : ℕ) (h : Seen Hex) → Sound SpellsHex t at h → Sound (λ tok s. SpellsToken inside tok s) t at (plainly h)
-unfolding Sound plainly SpellsHex SpellsToken
-plainly-sound t inside at (found (whole v) s e) p = change (λ u q. q) p
-plainly-sound t inside at (found (masked v m) s e) p = change (λ u q. inl q) p
+plainly-sound : (t : List ℕ) (inside : Bool) (at : ℕ) (h : Seen Hex) → Sound SpellsHex t at h → Sound (SpellsPlain inside) t at (plainly h)
+unfolding Sound plainly SpellsHex SpellsPlain SpellsToken Plain
+plainly-sound t inside at (found (whole v) s e) p = change (λ u q. (q, tt)) p
+plainly-sound t inside at (found (masked v m) s e) p = change (λ u q. (inl q, tt)) p
 plainly-sound t inside at absent p = tt
 plainly-sound t inside at (refused r z) p = tt
 
 negated-sound : (t : List ℕ) (inside : Bool) (at : ℕ) (h : Seen Hex) → Stands (Sign 126) t at (at + 1) → Sound SpellsHex t (at + 1) h
-    → Sound (λ tok s. SpellsToken inside tok s) t at (negated at h)
-unfolding Sound negated SpellsHex SpellsToken Negatable
-negated-sound t inside at (found (whole v) s e) m p = change (λ u q. q) (seq m (change {Q = Spaced (Whole v)} (λ u q. q) p))
-negated-sound t inside at (found (masked v left) s e) m p = change (λ u q. (tt, q)) (seq m (change {Q = Spaced (Masked v left)} (λ u q. q) p))
-negated-sound t inside at (found (masked v right) s e) m p = change (λ u q. (tt, q)) (seq m (change {Q = Spaced (Masked v right)} (λ u q. q) p))
+    → Sound (SpellsPlain inside) t at (negated at h)
+unfolding Sound negated SpellsHex SpellsPlain SpellsToken Plain Negatable
+negated-sound t inside at (found (whole v) s e) m p = change (λ u q. (q, tt)) (seq m (change {Q = Spaced (Whole v)} (λ u q. q) p))
+negated-sound t inside at (found (masked v left) s e) m p = change (λ u q. ((tt, q), tt)) (seq m (change {Q = Spaced (Masked v left)} (λ u q. q) p))
+negated-sound t inside at (found (masked v right) s e) m p = change (λ u q. ((tt, q), tt)) (seq m (change {Q = Spaced (Masked v right)} (λ u q. q) p))
 negated-sound t inside at (found (masked v all) s e) m p = tt
 negated-sound t inside at absent m p = tt
 negated-sound t inside at (refused r z) m p = tt
 
-not-sound : (t : List ℕ) (inside : Bool) (at : ℕ) → Sound (λ tok s. SpellsToken inside tok s) t at (notAt t at)
+not-sound : (t : List ℕ) (inside : Bool) (at : ℕ) → Sound (SpellsPlain inside) t at (notAt t at)
 unfolding Sound notAt
 not-sound t inside at = go (eqb (here t at) 126) refl
   where
-    go : (a : Bool) → eqb (here t at) 126 ≡ a → Sound (λ tok s. SpellsToken inside tok s) t at (cond a (negated at (hexAt t (at + 1))) absent)
+    go : (a : Bool) → eqb (here t at) 126 ≡ a → Sound (SpellsPlain inside) t at (cond a (negated at (hexAt t (at + 1))) absent)
     go true d = negated-sound t inside at (hexAt t (at + 1)) (sign-stands t at 126 (eqb-true (here t at) 126 d) (omega arith)) (hex-sound t (at + 1))
     go false d = tt
 
--- a token other than alternatives
-pub plain-sound : (t : List ℕ) (inside : Bool) (at : ℕ) → Sound (λ tok s. SpellsToken inside tok s) t at (plainAt t inside at)
+pub plain-sound : (t : List ℕ) (inside : Bool) (at : ℕ) → Sound (SpellsPlain inside) t at (plainAt t inside at)
 unfolding plainAt
 plain-sound t inside at =
-    else-sound (λ tok s. SpellsToken inside tok s) t at (notAt t at) (plainly (hexAt t at) else jumped inside at (rangeAt t at)) (not-sound t inside at)
-    (else-sound (λ tok s. SpellsToken inside tok s) t at (plainly (hexAt t at)) (jumped inside at (rangeAt t at)) (plainly-sound t inside at (hexAt t at) (hex-sound t at))
+    else-sound (SpellsPlain inside) t at (notAt t at) (plainly (hexAt t at) else jumped inside at (rangeAt t at)) (not-sound t inside at)
+    (else-sound (SpellsPlain inside) t at (plainly (hexAt t at)) (jumped inside at (rangeAt t at)) (plainly-sound t inside at (hexAt t at) (hex-sound t at))
     (jumped-sound t inside at (rangeAt t at) (range-sound t at)))
