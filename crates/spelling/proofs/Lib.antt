@@ -5,3 +5,5 @@ pub mod PiecesSpelled
 pub mod BoundLaws
 pub mod ListsSpelled
 pub mod TextSpelled
+pub mod Fronts
+pub mod PiecesRead

@@ -26,6 +26,13 @@ pub record Stands (P : Language) (t : List ℕ) (at e : ℕ) : Type 0 where
 pub after : (t : List ℕ) (at : ℕ) (w r : List ℕ) → drop at t ≡ w ++ r → drop (at + length w) t ≡ r
 after t at w r h = sym (drop-drop (length w) at t) ∙ ap (λ (s : List ℕ). drop (length w) s) h ∙ drop-append-seam w r
 
+-- a string in two parts: each stands where it should
+pub cut : (t : List ℕ) (at : ℕ) (w a b r : List ℕ) → drop at t ≡ w ++ r → w ≡ a ++ b
+    → (drop at t ≡ a ++ (b ++ r)) × (drop (at + length a) t ≡ b ++ r) × (length w ≡ length a + length b)
+cut t at w a b r h p =
+    let g : drop at t ≡ a ++ (b ++ r) = h ∙ ap (λ (s : List ℕ). s ++ r) p ∙ append-assoc a b r in
+    (g, after t at a (b ++ r) g, ap (λ (s : List ℕ). length s) p ∙ length-append a b)
+
 pub stands : (P : Language) (t : List ℕ) (at e : ℕ) (w r : List ℕ) → drop at t ≡ w ++ r → e ≡ at + length w → P w → Stands P t at e
 stands P t at e w r h q p =
     record {
