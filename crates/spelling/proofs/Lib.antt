@@ -7,3 +7,4 @@ pub mod ListsSpelled
 pub mod TextSpelled
 pub mod Fronts
 pub mod PiecesRead
+pub mod ListsRead

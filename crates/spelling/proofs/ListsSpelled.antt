@@ -36,7 +36,7 @@ ListRight t level count at = Right (SpellsList (ltb 1 level)) (λ ts. total ts) 
 abbrev ListsRight : List ℕ → ℕ → ℕ → ℕ → Parsed Lists → Type 0
 ListsRight t level count at = Right (λ ls s. SpellsLists ls s) (λ ls. totals ls) (λ ls. depths ls) t (9 - level) count at
 
-plain-one : (tok : Token) → Plain tok → (totalIn tok ≡ 1) × (depthIn tok ≡ 0)
+pub plain-one : (tok : Token) → Plain tok → (totalIn tok ≡ 1) × (depthIn tok ≡ 0)
 unfolding Plain totalIn depthIn
 plain-one (Byte v) h = (refl, refl)
 plain-one (NotByte v) h = (refl, refl)
