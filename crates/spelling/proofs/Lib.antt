@@ -8,3 +8,4 @@ pub mod TextSpelled
 pub mod Fronts
 pub mod PiecesRead
 pub mod ListsRead
+pub mod TextRead
