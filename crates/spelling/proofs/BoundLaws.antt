@@ -8,8 +8,8 @@ use lib.Dec.{leb}
 use Rattle.meaning.specs.Tokens.{Token, Tokens, Byte, NotByte, MaskedByte, NotMaskedByte, Jump, Alternatives, nothing, _then_}
 use Rattle.meaning.specs.Entries.{tokenCount}
 use Rattle.reading.specs.Lists.{isJump, begins, endsIn, ends, atBound}
+use Rattle.reading.proofs.PieceLaws.{never}
 use Rattle.spelling.specs.Spelling.{NoJump, EndsWell, Bounded}
-use Rattle.spelling.proofs.Standing.{never}
 use Rattle.spelling.proofs.DigitLaws.{and-false}
 
 no-jump : (tok : Token) → isJump tok ≡ false → NoJump tok

@@ -10,17 +10,8 @@ use borrow.Author.Tests.{leb-true, leb-false, le-leb, lt-leb}
 use lib.Dec.{eqb, leb, ltb}
 use lib.ListN.{length}
 use Rattle.reading.specs.Pieces.{within, digit, decimals, numeral}
+use Rattle.reading.proofs.PieceLaws.{never, within-true}
 use Rattle.spelling.specs.Spelling.{Digit, decimal, upper, lower, Decimals, value, Blank, Blanks}
-use Rattle.spelling.proofs.Standing.{never}
-
-pub within-true : (a b c : ℕ) → within a b c ≡ true → (a ≤ c) × (c ≤ b)
-unfolding within
-within-true a b c h = go (leb a c) (leb c b) refl refl h
-  where
-    go : (x y : Bool) → leb a c ≡ x → leb c b ≡ y → x && y ≡ true → (a ≤ c) × (c ≤ b)
-    go true true d e h = (leb-true a c d, leb-true c b e)
-    go true false d e h = never (cc)
-    go false y d e h = never (cc)
 
 pub in-within : (a b c : ℕ) → a ≤ c → c ≤ b → within a b c ≡ true
 unfolding within

@@ -14,7 +14,7 @@ use Rattle.reading.specs.Blanks.{here, skip}
 use Rattle.reading.specs.Pieces.{Seen, found, absent, refused, plainAt}
 use Rattle.reading.specs.Lists.{Parsed, read, missing, stopped, tokenOr, asToken, bracketed, before, thenMore, atBound, listOf, beside, thenLists, tokenF, moreF, listF, listsF}
 use Rattle.spelling.specs.Spelling.{Language, _⨾_, Marked, Bounded, SpellsToken, SpellsTokens, SpellsLists, SpellsRest, SpellsList, depthIn, depth, depths, totalIn, total, totals}
-use Rattle.spelling.proofs.Standing.{Stands, seq, change, never, mark-stands}
+use Rattle.spelling.proofs.Standing.{Stands, seq, change, mark-stands}
 use Rattle.spelling.proofs.PiecesSpelled.{Sound, Plain, SpellsPlain, plain-sound, nothing-stands}
 use Rattle.spelling.proofs.BoundLaws.{bounded}
 

@@ -12,6 +12,7 @@ use lib.ListN.{length, drop, length-append}
 use Rattle.meaning.specs.Tokens.{Mask, left, right, all, Token, Byte, NotByte, MaskedByte, NotMaskedByte, Jump, Alternatives}
 use Rattle.reading.specs.Blanks.{here, skip}
 use Rattle.reading.specs.Pieces.{Seen, found, absent, refused, _else_, within, digit, Hex, whole, masked, twoDigits, byteAt, oneDigit, maskedAt, hexAt, plainly, negated, notAt, decimals, numeral, numberAt, Range, between, checked, closedAt, upperAt, dashAt, lowerAt, rangeAt, jumpToken, jumped, plainAt}
+use Rattle.reading.proofs.PieceSteps.{byte-none, byte-half, byte-both, masked-all, masked-left, masked-right, masked-no-right, hex-byte, hex-masked, not-else, not-hex, number-absent, number-found, checked-open, checked-both, closed-at, dash-at, range-else, range-at, lower-closed, lower-dash, jumped-open, jumped-found}
 use Rattle.spelling.specs.Spelling.{_⨾_, Blank, Blanks, NoBlank, Spaced, Sign, Marked, HexDigit, Digit, Whole, Masked, Decimals, value, Numeral, Number, From, To, Single, Dashed, Bracketed, Ordered, Bounds, Allowed, NotOne, AsJump, Negatable, SpellsToken}
 use Rattle.spelling.proofs.Standing.{after, cut, here-is, skips}
 use Rattle.spelling.proofs.DigitLaws.{digit-complete, digits-count, digits-value, in-within, below-within, and-false}
@@ -19,12 +20,7 @@ use Rattle.spelling.proofs.Fronts.{digit-range, two-form, two-seen, mar
 use Rattle.spelling.proofs.PiecesSpelled.{Plain, SpellsHex}
 
 -- a byte
-two-digits : (t : List ℕ) (at c d h l e : ℕ) → here t at ≡ c → here t (at + 1) ≡ d → digit c ≡ some h → digit d ≡ some l → skip t (at + 2) ≡ e
-    → byteAt t at ≡ found (whole (16 * h + l)) (at + 2) e
-unfolding byteAt twoDigits
-two-digits t at c d h l e p q i j k = rw (p, q, i, j, k) refl
-
-byte-found : (t : List ℕ) (at v : ℕ) (w r : List ℕ) → drop at t ≡ w ++ r → Spaced (Whole v) w → NoBlank r → byteAt t at ≡ found (whole v) (at + 2) (at + length w)
+byte-found : (t : List ℕ) (at v : ℕ) (w r : List ℕ) → drop at t ≡ w ++ r → Spaced (Whole v) w → NoBlank r → hexAt t at ≡ found (whole v) (at + 2) (at + length w)
 unfolding Spaced Whole _⨾_ HexDigit
 byte-found t at v w r h p q =
     let u = p .3 in
@@ -32,27 +28,13 @@ byte-found t at v w r h p q =
     let c = x .3 in
     let d = x .4 in
     let s = two-seen t at (c .0) (d .0) (p .1) w r h (two-form (c .0) (d .0) w (p .0) (x .0) (x .1) (p .1) (p .2) (x .2) (c .1) (d .1)) (p .4) q in
-    two-digits t at (c .0) (d .0) (u .0) (u .1) (at + length w) (s .0) (s .1) (digit-complete (c .0) (u .0) (c .2)) (digit-complete (d .0) (u .1) (d .2)) (s .2)
-    ∙ ap (λ (y : ℕ). found (whole y) (at + 2) (at + length w)) (sym (u .2))
+    hex-byte t at (byte-both t at (ap digit (s .0) ∙ digit-complete (c .0) (u .0) (c .2)) (ap digit (s .1) ∙ digit-complete (d .0) (u .1) (d .2)))
+    ∙ ap₂ (λ (y e : ℕ). found (whole y) (at + 2) e) (sym (u .2)) (s .2)
 
 -- a masked byte
 no-digit-63 : digit 63 ≡ none
 unfolding digit within
 no-digit-63 = refl
-
-left-found : (t : List ℕ) (at c v e : ℕ) → here t at ≡ 63 → here t (at + 1) ≡ c → (c ≡ 63 → ⊥) → digit c ≡ some v → skip t (at + 2) ≡ e
-    → hexAt t at ≡ found (masked v left) (at + 2) e
-unfolding hexAt byteAt twoDigits maskedAt oneDigit _else_
-left-found t at c v e p q n i k = rw (p, q, no-digit-63, i, ne-eqb c 63 n, k) refl
-
-right-found : (t : List ℕ) (at c v e : ℕ) → here t at ≡ c → here t (at + 1) ≡ 63 → (c ≡ 63 → ⊥) → digit c ≡ some v → skip t (at + 2) ≡ e
-    → hexAt t at ≡ found (masked v right) (at + 2) e
-unfolding hexAt byteAt twoDigits maskedAt oneDigit _else_
-right-found t at c v e p q n i k = rw (p, q, no-digit-63, i, ne-eqb c 63 n, k) refl
-
-all-found : (t : List ℕ) (at e : ℕ) → here t at ≡ 63 → here t (at + 1) ≡ 63 → skip t (at + 2) ≡ e → hexAt t at ≡ found (masked 0 all) (at + 2) e
-unfolding hexAt byteAt twoDigits maskedAt oneDigit _else_
-all-found t at e p q k = rw (p, q, no-digit-63, k) refl
 
 masked-found : (t : List ℕ) (at v : ℕ) (m : Mask) (w r : List ℕ) → drop at t ≡ w ++ r → Spaced (Masked v m) w → NoBlank r
     → hexAt t at ≡ found (masked v m) (at + 2) (at + length w)
@@ -61,23 +43,25 @@ masked-found t at v left w r h p q =
     let x = p .3 in
     let d = x .4 in
     let s = two-seen t at 63 (d .0) (p .1) w r h (two-form 63 (d .0) w (p .0) (x .0) (x .1) (p .1) (p .2) (x .2) (x .3) (d .1)) (p .4) q in
-    left-found t at (d .0) v (at + length w) (s .0) (s .1) (digit-range (d .0) v (d .2) .2) (digit-complete (d .0) v (d .2)) (s .2)
+    hex-masked t at (byte-none t at (ap digit (s .0) ∙ no-digit-63))
+    ∙ masked-left t at (s .0) (λ e. digit-range (d .0) v (d .2) .2 (sym (s .1) ∙ e)) (ap digit (s .1) ∙ digit-complete (d .0) v (d .2))
+    ∙ ap (λ (e : ℕ). found (masked v left) (at + 2) e) (s .2)
 masked-found t at v right w r h p q =
     let x = p .3 in
     let c = x .3 in
     let s = two-seen t at (c .0) 63 (p .1) w r h (two-form (c .0) 63 w (p .0) (x .0) (x .1) (p .1) (p .2) (x .2) (c .1) (x .4)) (p .4) q in
-    right-found t at (c .0) v (at + length w) (s .0) (s .1) (digit-range (c .0) v (c .2) .2) (digit-complete (c .0) v (c .2)) (s .2)
+    let d : digit (here t at) ≡ some v = ap digit (s .0) ∙ digit-complete (c .0) v (c .2) in
+    hex-masked t at (byte-half t at d (ap digit (s .1) ∙ no-digit-63)) ∙ masked-right t at (λ e. digit-range (c .0) v (c .2) .2 (sym (s .0) ∙ e)) d (s .1)
+    ∙ ap (λ (e : ℕ). found (masked v right) (at + 2) e) (s .2)
 masked-found t at v all w r h p q =
     let x = p .3 .1 in
     let s = two-seen t at 63 63 (p .1) w r h (two-form 63 63 w (p .0) (x .0) (x .1) (p .1) (p .2) (x .2) (x .3) (x .4)) (p .4) q in
-    all-found t at (at + length w) (s .0) (s .1) (s .2) ∙ ap (λ (y : ℕ). found (masked y all) (at + 2) (at + length w)) (sym (p .3 .0))
+    hex-masked t at (byte-none t at (ap digit (s .0) ∙ no-digit-63)) ∙ masked-all t at (s .0) (s .1)
+    ∙ ap₂ (λ (y e : ℕ). found (masked y all) (at + 2) e) (sym (p .3 .0)) (s .2)
 
 hex-found : (t : List ℕ) (at : ℕ) (x : Hex) (w r : List ℕ) → drop at t ≡ w ++ r → SpellsHex x w → NoBlank r → hexAt t at ≡ found x (at + 2) (at + length w)
 unfolding SpellsHex
-hex-found t at (whole v) w r h p q = go (byte-found t at v w r h p q)
-  where
-    go : byteAt t at ≡ found (whole v) (at + 2) (at + length w) → hexAt t at ≡ found (whole v) (at + 2) (at + length w)
-    go e = unfold hexAt _else_ in (rw e refl)
+hex-found t at (whole v) w r h p q = byte-found t at v w r h p q
 hex-found t at (masked v m) w r h p q = masked-found t at v m w r h p q
 
 -- a number
@@ -94,39 +78,31 @@ unfolding Blanks
 blanks-front [] c r p h = (c, r, refl, h)
 blanks-front (x ∷ b) c r p h = (x, b ++ (c ∷ r), refl, below-within 48 57 x (blank-low x (p .0)))
 
-number-steps : (t : List ℕ) (at c n k e : ℕ) → here t at ≡ c → within 48 57 c ≡ true → numeral 0 (drop at t) ≡ n → n ≤ 4294967295 → decimals (drop at t) ≡ k → skip t (at + k) ≡ e
-    → numberAt t at ≡ found n (at + k) e
-unfolding numberAt
-number-steps t at c n k e p q i l j s = rw (p, q, i, le-leb n 4294967295 l, j, s) refl
-
 numeral-front : (n : ℕ) (d : List ℕ) → Numeral n d → (c : ℕ) × (u : List ℕ) × (d ≡ c ∷ u) × (within 48 57 c ≡ true)
 unfolding Numeral Decimals
 numeral-front n [] p = let z : 0 < 0 = p .1 in absurd (omega arith)
 numeral-front n (c ∷ u) p = (c, u, refl, in-within 48 57 c (p .0 .0) (p .0 .1))
 
-number-found : (t : List ℕ) (at n : ℕ) (w : List ℕ) (c : ℕ) (r : List ℕ) → drop at t ≡ w ++ (c ∷ r) → Number n w → within 48 57 c ≡ false → 33 ≤ c
+number-seen : (t : List ℕ) (at n : ℕ) (w : List ℕ) (c : ℕ) (r : List ℕ) → drop at t ≡ w ++ (c ∷ r) → Number n w → within 48 57 c ≡ false → 33 ≤ c
     → (s : ℕ) × (numberAt t at ≡ found n s (at + length w))
 unfolding Number Spaced _⨾_ Numeral
-number-found t at n w c r h p z y =
+number-seen t at n w c r h p z y =
     let d = p .0 in
     let b = p .1 in
     let m = p .3 in
-    let g : drop at t ≡ d ++ (b ++ (c ∷ r)) = h ∙ ap (λ (s : List ℕ). s ++ (c ∷ r)) (p .2) ∙ append-assoc d b (c ∷ r) in
+    let g = cut t at w d b (c ∷ r) h (p .2) in
     let x = blanks-front b c r (p .4) z in
-    let i : drop at t ≡ d ++ (x .0 ∷ x .1) = g ∙ ap (λ (s : List ℕ). d ++ s) (x .2) in
+    let i : drop at t ≡ d ++ (x .0 ∷ x .1) = g .0 ∙ ap (λ (s : List ℕ). d ++ s) (x .2) in
     let f = numeral-front n d m in
     let k : decimals (drop at t) ≡ length d = ap decimals i ∙ digits-count d (x .1) (x .0) (x .3) (m .0) in
     let v : numeral 0 (drop at t) ≡ 0 * 10 ^ length d + value d = ap (numeral 0) i ∙ digits-value 0 d (x .1) (x .0) (x .3) (m .0) in
     let u : n ≡ value d = m .2 in
     let o : numeral 0 (drop at t) ≡ n = omega arith in
-    let j : skip t (at + length d) ≡ at + length d + length b = skips t (at + length d) b (c ∷ r) (after t at d (b ++ (c ∷ r)) g) (p .4) (cons-clear c r y) in
-    let l : length w ≡ length d + length b = ap (λ (s : List ℕ). length s) (p .2) ∙ length-append d b in
+    let j : skip t (at + length d) ≡ at + length d + length b = skips t (at + length d) b (c ∷ r) (g .1) (p .4) (cons-clear c r y) in
+    let l : length w ≡ length d + length b = g .2 in
     let e : skip t (at + length d) ≡ at + length w = omega arith in
-    (at + length d, number-steps t at (f .0) n (length d) (at + length w) (here-is t at (f .0) (f .1 ++ (x .0 ∷ x .1)) (i ∙ ap (λ (s : List ℕ). s ++ (x .0 ∷ x .1)) (f .2))) (f .3) o (m .3) k e)
-
-number-absent : (t : List ℕ) (at c : ℕ) → here t at ≡ c → within 48 57 c ≡ false → numberAt t at ≡ absent
-unfolding numberAt
-number-absent t at c p h = rw (p, h) refl
+    let a : here t at ≡ f .0 = here-is t at (f .0) (f .1 ++ (x .0 ∷ x .1)) (i ∙ ap (λ (s : List ℕ). s ++ (x .0 ∷ x .1)) (f .2)) in
+    (at + length d, number-found t at (ap (within 48 57) a ∙ f .3) o (ap (λ (q : ℕ). at + q) k) (m .3) ∙ ap (λ (q : ℕ). found n (at + length d) q) e)
 
 -- jumps: the number before the dash, or none
 no-digit-45 : within 48 57 45 ≡ false
@@ -137,10 +113,6 @@ no-digit-93 : within 48 57 93 ≡ false
 unfolding within
 no-digit-93 = refl
 
-from-number : (t : List ℕ) (at x from s e : ℕ) → numberAt t x ≡ found from s e → here t e ≡ 45 → lowerAt t at x (numberAt t x) ≡ dashAt t at from e
-unfolding lowerAt
-from-number t at x from s e p q = rw (p, q) refl
-
 from-nothing : (t : List ℕ) (at x : ℕ) → numberAt t x ≡ absent → lowerAt t at x (numberAt t x) ≡ dashAt t at 0 x
 unfolding lowerAt
 from-nothing t at x p = rw p refl
@@ -148,22 +120,23 @@ from-nothing t at x p = rw p refl
 from-found : (t : List ℕ) (at x from : ℕ) (w r : List ℕ) → drop x t ≡ w ++ (45 ∷ r) → From from w → lowerAt t at x (numberAt t x) ≡ dashAt t at from (x + length w)
 unfolding From
 from-found t at x from w r h (inl p) =
-    let n = number-found t x from w 45 r h p no-digit-45 (omega arith) in
-    from-number t at x from (n .0) (x + length w) (n .1) (here-is t (x + length w) 45 r (after t x w (45 ∷ r) h))
+    let n = number-seen t x from w 45 r h p no-digit-45 (omega arith) in
+    let i : here t (x + length w) ≡ 45 = here-is t (x + length w) 45 r (after t x w (45 ∷ r) h) in
+    ap (lowerAt t at x) (n .1) ∙ lower-dash t at x from (n .0) (x + length w) (omega arith)
 from-found t at x from w r h (inr p) =
     let i : drop x t ≡ 45 ∷ r = h ∙ ap (λ (s : List ℕ). s ++ (45 ∷ r)) (p .1) in
     let l : length w ≡ 0 = ap (λ (s : List ℕ). length s) (p .1) in
     let e : x ≡ x + length w = omega arith in
-    from-nothing t at x (number-absent t x 45 (here-is t x 45 r i) no-digit-45) ∙ ap₂ (λ (a b : ℕ). dashAt t at a b) (sym (p .0)) e
+    from-nothing t at x (number-absent t x (ap (within 48 57) (here-is t x 45 r i) ∙ no-digit-45)) ∙ ap₂ (λ (a b : ℕ). dashAt t at a b) (sym (p .0)) e
 
 -- the number after the dash, or none, and the `]`
-to-number : (t : List ℕ) (at from x n s e : ℕ) → numberAt t x ≡ found n s e → here t e ≡ 93 → upperAt t at from x (numberAt t x) ≡ checked t at from (some n) (e + 1)
-unfolding upperAt closedAt
-to-number t at from x n s e p q = rw (p, q) refl
+to-number : (t : List ℕ) (at from x n s e : ℕ) → numberAt t x ≡ found n s e → upperAt t at from x (numberAt t x) ≡ closedAt t at from (some n) e
+unfolding upperAt
+to-number t at from x n s e p = rw p refl
 
-to-nothing : (t : List ℕ) (at from x : ℕ) → numberAt t x ≡ absent → here t x ≡ 93 → upperAt t at from x (numberAt t x) ≡ checked t at from none (x + 1)
-unfolding upperAt closedAt
-to-nothing t at from x p q = rw (p, q) refl
+to-nothing : (t : List ℕ) (at from x : ℕ) → numberAt t x ≡ absent → upperAt t at from x (numberAt t x) ≡ closedAt t at from none x
+unfolding upperAt
+to-nothing t at from x p = rw p refl
 
 to-found : (t : List ℕ) (at from x : ℕ) (to : Option ℕ) (w r : List ℕ) → drop x t ≡ w ++ (93 ∷ r) → To to w
     → upperAt t at from x (numberAt t x) ≡ checked t at from to (x + length w + 1)
@@ -173,24 +146,20 @@ to-found t at from x none w r h p =
     let l : length w ≡ 0 = ap (λ (s : List ℕ). length s) p in
     let e : x + 1 ≡ x + length w + 1 = omega arith in
     let j : here t x ≡ 93 = here-is t x 93 r i in
-    to-nothing t at from x (number-absent t x 93 j no-digit-93) j ∙ ap (λ (y : ℕ). checked t at from none y) e
+    to-nothing t at from x (number-absent t x (ap (within 48 57) j ∙ no-digit-93)) ∙ closed-at t at from none x j ∙ ap (λ (y : ℕ). checked t at from none y) e
 to-found t at from x (some n) w r h p =
-    let k = number-found t x n w 93 r h p no-digit-93 (omega arith) in
-    to-number t at from x n (k .0) (x + length w) (k .1) (here-is t (x + length w) 93 r (after t x w (93 ∷ r) h))
+    let k = number-seen t x n w 93 r h p no-digit-93 (omega arith) in
+    to-number t at from x n (k .0) (x + length w) (k .1) ∙ closed-at t at from (some n) (x + length w) (here-is t (x + length w) 93 r (after t x w (93 ∷ r) h))
 
 checked-found : (t : List ℕ) (at from : ℕ) (to : Option ℕ) (stop e : ℕ) → Ordered from to → skip t stop ≡ e → checked t at from to stop ≡ found (between from to) stop e
-unfolding checked Ordered
-checked-found t at from none stop e o h = rw h refl
+unfolding Ordered
+checked-found t at from none stop e o h = checked-open t at from stop ∙ ap (λ (x : ℕ). found (between from none) stop x) h
 checked-found t at from (some to) stop e o h =
     let l : 0 < to = o .1 in
-    let n : to ≡ 0 → ⊥ = omega arith in
-    rw (ne-eqb to 0 n, and-false (eqb from 0), le-ltb to from (o .0), h) refl
+    let n : eqb from 0 && eqb to 0 ≡ false = ap (λ (b : Bool). eqb from 0 && b) (ne-eqb to 0 (omega arith)) ∙ and-false (eqb from 0) in
+    checked-both t at from to stop n (o .0) ∙ ap (λ (x : ℕ). found (between from (some to)) stop x) h
 
 -- `[n]`
-single-steps : (t : List ℕ) (at x n s y : ℕ) → here t at ≡ 91 → skip t (at + 1) ≡ x → numberAt t x ≡ found n s y → here t y ≡ 93 → rangeAt t at ≡ checked t at n (some n) (y + 1)
-unfolding rangeAt lowerAt
-single-steps t at x n s y p q k i = rw (p, q, k, i) refl
-
 single-found : (t : List ℕ) (at n : ℕ) (w r : List ℕ) → drop at t ≡ w ++ r → Single n w → NoBlank r → Ordered n (some n)
     → (s : ℕ) × (rangeAt t at ≡ found (between n (some n)) s (at + length w))
 unfolding Single _⨾_
@@ -204,20 +173,15 @@ single-found t at n w r h p q o =
     let c = cut t at w m (p .1) r h (p .2) in
     let g = cut t x (p .1) d k r (c .1) (p .4 .2) in
     let a = mark-seen t at 91 m (p .1 ++ r) (c .0) (p .3) (opens-clear (p .1) r (opens-seq (p .1) d k (p .4 .2) (number-opens n d (p .4 .3)))) in
-    let i = number-found t x n d 93 (b .0 ++ r) (g .0 ∙ ap (λ (s : List ℕ). d ++ (s ++ r)) (b .1)) (p .4 .3) no-digit-93 (omega arith) in
+    let i = number-seen t x n d 93 (b .0 ++ r) (g .0 ∙ ap (λ (s : List ℕ). d ++ (s ++ r)) (b .1)) (p .4 .3) no-digit-93 (omega arith) in
     let z = mark-seen t y 93 k r (g .1) (p .4 .4) q in
     let l : length w ≡ length m + length (p .1) = c .2 in
     let j : length (p .1) ≡ length d + length k = g .2 in
     let v : skip t (y + 1) ≡ at + length m + length d + length k = z .1 in
     let e : skip t (y + 1) ≡ at + length w = omega arith in
-    (y + 1, single-steps t at x n (i .0) y (a .0) (a .1) (i .1) (z .0) ∙ checked-found t at n (some n) (y + 1) (at + length w) o e)
+    (y + 1, range-at t at x (a .0) (sym (a .1)) (i .1) ∙ lower-closed t at x n (i .0) y (z .0) ∙ checked-found t at n (some n) (y + 1) (at + length w) o e)
 
 -- `[a-b]`, `[a-]`, `[-b]`, `[-]`
-dash-steps : (t : List ℕ) (at x from y z : ℕ) (u : Seen Range) → here t at ≡ 91 → skip t (at + 1) ≡ x → lowerAt t at x (numberAt t x) ≡ dashAt t at from y → here t y ≡ 45
-    → skip t (y + 1) ≡ z → upperAt t at from z (numberAt t z) ≡ u → rangeAt t at ≡ u
-unfolding rangeAt dashAt
-dash-steps t at x from y z u p q k i j l = rw (p, q, k, i, j) l
-
 dashed-found : (t : List ℕ) (at from : ℕ) (to : Option ℕ) (w r : List ℕ) → drop at t ≡ w ++ r → Dashed from to w → NoBlank r → Ordered from to
     → (s : ℕ) × (rangeAt t at ≡ found (between from to) s (at + length w))
 unfolding Dashed _⨾_
@@ -252,7 +216,7 @@ dashed-found t at from to w r h p q o =
     let l4 : length (p .4 .4 .1) ≡ length n + length k = c4 .2 in
     let v : skip t (u + 1) ≡ at + length m + length a + length d + length n + length k = s5 .1 in
     let e : skip t (u + 1) ≡ at + length w = omega arith in
-    (u + 1, dash-steps t at x from y z (checked t at from to (u + 1)) (s1 .0) (s1 .1) s2 (s3 .0) (s3 .1) s4 ∙ checked-found t at from to (u + 1) (at + length w) o e)
+    (u + 1, range-at t at x (s1 .0) (sym (s1 .1)) refl ∙ s2 ∙ dash-at t at from y z (s3 .0) (sym (s3 .1)) refl ∙ s4 ∙ checked-found t at from to (u + 1) (at + length w) o e)
 
 range-found : (t : List ℕ) (at from : ℕ) (to : Option ℕ) (w r : List ℕ) → drop at t ≡ w ++ r → Bounds from to w → NoBlank r
     → (s : ℕ) × (rangeAt t at ≡ found (between from to) s (at + length w))
@@ -277,38 +241,26 @@ bounds-front from to w p = go (p .1)
     go (inl q) = front w (q .1 .0) (q .1 .1) (q .1 .2) (q .1 .3)
     go (inr q) = front w (q .0) (q .1) (q .2) (q .3)
 
--- where no byte begins
-cond-same : {A : Type 0} (b : Bool) (x : A) → cond b x x ≡ x
-cond-same true x = refl
-cond-same false x = refl
-
-hex-absent : (t : List ℕ) (at c : ℕ) → here t at ≡ c → digit c ≡ none → (c ≡ 63 → ⊥) → hexAt t at ≡ absent
-unfolding hexAt byteAt twoDigits maskedAt oneDigit _else_
-hex-absent t at c p h n = rw (p, h, ne-eqb c 63 n) (cond-same (eqb (here t (at + 1)) 63) absent)
-
-not-absent : (t : List ℕ) (at c : ℕ) → here t at ≡ c → (c ≡ 126 → ⊥) → notAt t at ≡ absent
-unfolding notAt
-not-absent t at c p n = rw (p, ne-eqb c 126 n) refl
-
-range-absent : (t : List ℕ) (at c : ℕ) → here t at ≡ c → (c ≡ 91 → ⊥) → rangeAt t at ≡ absent
-unfolding rangeAt
-range-absent t at c p n = rw (p, ne-eqb c 91 n) refl
-
 -- where no token but alternatives begins
+hex-absent : (t : List ℕ) (at c : ℕ) → here t at ≡ c → digit c ≡ none → (c ≡ 63 → ⊥) → hexAt t at ≡ absent
+hex-absent t at c p h n =
+    let d : digit (here t at) ≡ none = ap digit p ∙ h in
+    hex-masked t at (byte-none t at d) ∙ masked-no-right t at (λ e. n (sym p ∙ e)) d
+
 pub plain-absent : (t : List ℕ) (inside : Bool) (at c : ℕ) → here t at ≡ c → digit c ≡ none → (c ≡ 63 → ⊥) → (c ≡ 126 → ⊥) → (c ≡ 91 → ⊥) → plainAt t inside at ≡ absent
 unfolding plainAt plainly jumped _else_
-plain-absent t inside at c p h i j k = rw (not-absent t at c p j, hex-absent t at c p h i, range-absent t at c p k) refl
+plain-absent t inside at c p h i j k = rw (not-else t at (λ e. j (sym p ∙ e)), hex-absent t at c p h i, range-else t at (λ e. k (sym p ∙ e))) refl
 
 -- the tokens that are no alternatives
-plain-hex : (t : List ℕ) (inside : Bool) (at c : ℕ) (x : Hex) (tok : Token) (s e : ℕ) → here t at ≡ c → (c ≡ 126 → ⊥) → hexAt t at ≡ found x s e
-    → plainly (found x s e) ≡ found tok s e → plainAt t inside at ≡ found tok s e
+plain-hex : (t : List ℕ) (inside : Bool) (at : ℕ) (x : Hex) (tok : Token) (s e : ℕ) → (here t at ≡ 126 → ⊥) → hexAt t at ≡ found x s e → plainly (found x s e) ≡ found tok s e
+    → plainAt t inside at ≡ found tok s e
 unfolding plainAt _else_
-plain-hex t inside at c x tok s e p n h k = rw (not-absent t at c p n, h, k) refl
+plain-hex t inside at x tok s e n h k = rw (not-else t at n, h, k) refl
 
-plain-not : (t : List ℕ) (inside : Bool) (at : ℕ) (x : Hex) (tok : Token) (s e : ℕ) → here t at ≡ 126 → hexAt t (at + 1) ≡ found x s e
+plain-negated : (t : List ℕ) (inside : Bool) (at : ℕ) (x : Hex) (tok : Token) (s e : ℕ) → here t at ≡ 126 → hexAt t (at + 1) ≡ found x s e
     → negated at (found x s e) ≡ found tok s e → plainAt t inside at ≡ found tok s e
-unfolding plainAt notAt _else_
-plain-not t inside at x tok s e p h k = rw (p, h, k) refl
+unfolding plainAt _else_
+plain-negated t inside at x tok s e p h k = rw (not-hex t at p h, k) refl
 
 no-digit-91 : digit 91 ≡ none
 unfolding digit within
@@ -317,13 +269,14 @@ no-digit-91 = refl
 plain-jump : (t : List ℕ) (inside : Bool) (at from : ℕ) (to : Option ℕ) (tok : Token) (s e : ℕ) → here t at ≡ 91 → rangeAt t at ≡ found (between from to) s e
     → jumped inside at (found (between from to) s e) ≡ found tok s e → plainAt t inside at ≡ found tok s e
 unfolding plainAt plainly _else_
-plain-jump t inside at from to tok s e p h k = rw (not-absent t at 91 p (omega arith), hex-absent t at 91 p no-digit-91 (omega arith), h, k) refl
+plain-jump t inside at from to tok s e p h k = rw (not-else t at (omega arith), hex-absent t at 91 p no-digit-91 (omega arith), h, k) refl
 
 low-found : (t : List ℕ) (inside : Bool) (at : ℕ) (x : Hex) (tok : Token) (w r : List ℕ) → drop at t ≡ w ++ r → SpellsHex x w → OpensLow w → NoBlank r
     → plainly (found x (at + 2) (at + length w)) ≡ found tok (at + 2) (at + length w) → (s : ℕ) × (plainAt t inside at ≡ found tok s (at + length w))
 low-found t inside at x tok w r h p o q k =
     let i : o .0 ≤ 102 = o .4 in
-    (at + 2, plain-hex t inside at (o .0) x tok (at + 2) (at + length w) (here-is t at (o .0) (o .1 ++ r) (h ∙ ap (λ (s : List ℕ). s ++ r) (o .2))) (omega arith) (hex-found t at x w r h p q) k)
+    let j : here t at ≡ o .0 = here-is t at (o .0) (o .1 ++ r) (h ∙ ap (λ (s : List ℕ). s ++ r) (o .2)) in
+    (at + 2, plain-hex t inside at x tok (at + 2) (at + length w) (omega arith) (hex-found t at x w r h p q) k)
 
 not-found : (t : List ℕ) (inside : Bool) (at : ℕ) (x : Hex) (tok : Token) (w r : List ℕ) → drop at t ≡ w ++ r → (Sign 126 ⨾ SpellsHex x) w → NoBlank r
     → ((s e : ℕ) → negated at (found x s e) ≡ found tok s e) → (s : ℕ) × (plainAt t inside at ≡ found tok s (at + length w))
@@ -333,7 +286,7 @@ not-found t inside at x tok w r h p q k =
     let l : length w ≡ 1 + length (p .1) = c .2 in
     let e : at + 1 + length (p .1) ≡ at + length w = omega arith in (
       at + 1 + 2,
-      plain-not t inside at x tok (at + 1 + 2) (at + length w) (here-is t at 126 (p .1 ++ r) (c .0))
+      plain-negated t inside at x tok (at + 1 + 2) (at + length w) (here-is t at 126 (p .1 ++ r) (c .0))
           (hex-found t (at + 1) x (p .1) r (c .1) (p .4) q ∙ ap (λ (y : ℕ). found x (at + 1 + 2) y) e) (k (at + 1 + 2) (at + length w)),
     )
 
@@ -354,11 +307,11 @@ not-one from to n = go (eqb from 1) (eqb to 1) refl refl
     go false b d e = refl
 
 jump-made : (inside : Bool) (at from : ℕ) (to : Option ℕ) (s e : ℕ) → NotOne from to → Allowed inside to → jumped inside at (found (between from to) s e) ≡ found (Jump from to) s e
-unfolding jumped NotOne Allowed
+unfolding NotOne Allowed
 jump-made true at from none s e n a = absurd a
-jump-made false at from none s e n a = refl
-jump-made true at from (some to) s e n a = rw (le-ltb 200 to a, not-one from to n) refl
-jump-made false at from (some to) s e n a = rw (not-one from to n) refl
+jump-made false at from none s e n a = jumped-open at from s e false refl
+jump-made true at from (some to) s e n a = jumped-found at from s e true to (le-ltb 200 to a) ∙ ap (λ (x : Token). found x s e) (not-one from to n)
+jump-made false at from (some to) s e n a = jumped-found at from s e false to refl ∙ ap (λ (x : Token). found x s e) (not-one from to n)
 
 one-made : (inside : Bool) (at s e : ℕ) → jumped inside at (found (between 1 (some 1)) s e) ≡ found (MaskedByte 0 all) s e
 unfolding jumped jumpToken

@@ -5,15 +5,13 @@ use mathlib.Core.Logic.{_⊎_, inl, inr}
 use mathlib.Core.List.{List, [], _∷_, _++_, append-assoc}
 use Prim.Native.Nat.{ℕ, zero, suc, _+_, _<_, _≤_}
 use native.Mathlib.Omega.{arith}
-use borrow.Author.Tests.{ltb-true, ltb-false, eqb-true, eqb-false, eq-eqb, ne-eqb}
-use lib.Dec.{eqb, ltb}
-use lib.ListN.{length, drop, getD, length-append, List·getD-eq-default}
-use lib.Seq.{drop-cons, drop-drop, drop-append-seam, getD-drop}
+use borrow.Author.Tests.{eqb-true}
+use lib.Dec.{eqb}
+use lib.ListN.{length, drop, getD, length-append}
+use lib.Seq.{drop-cons, drop-drop, drop-append-seam}
 use Rattle.reading.specs.Blanks.{here, blank, blanks, skip}
+use Rattle.reading.proofs.PieceLaws.{never, here-at, first-drop}
 use Rattle.spelling.specs.Spelling.{Language, _⨾_, Blank, Blanks, NoBlank, Spaced, Sign, Marked}
-
-pub never : {A : Type 0} → _≡_ {A = ℕ} 0 1 → A
-never z = absurd (let y : _≡_ {A = ℕ} 0 1 = z in omega arith)
 
 -- at `at` stands a string of P, and it ends at e
 pub record Stands (P : Language) (t : List ℕ) (at e : ℕ) : Type 0 where
@@ -59,24 +57,11 @@ pub change : {P Q : Language} {t : List ℕ} {a b : ℕ} → ((s : List ℕ) →
 change f p = record { string = p .string; split = p .split; reach = p .reach; spelled = f (p .string) (p .spelled) }
 
 -- the byte at an offset
-pub first-drop : (t : List ℕ) (at : ℕ) → getD (drop at t) 0 0 ≡ getD t at 0
-first-drop t at = let e : at + 0 ≡ at = omega arith in getD-drop at t 0 0 ∙ ap (λ (i : ℕ). getD t i 0) e
-
 pub here-is : (t : List ℕ) (at c : ℕ) (r : List ℕ) → drop at t ≡ c ∷ r → here t at ≡ c
 here-is t at c r h = sym (first-drop t at) ∙ ap (λ (s : List ℕ). getD s 0 0) h
 
--- a byte that is not 0 stands inside the text
-pub here-in : (t : List ℕ) (at : ℕ) → 0 < getD t at 0 → at < length t
-here-in t at h = go (ltb at (length t)) refl
-  where
-    go : (b : Bool) → ltb at (length t) ≡ b → at < length t
-    go true e = ltb-true at (length t) e
-    go false e = let z : getD t at 0 ≡ 0 = List·getD-eq-default t 0 (ltb-false at (length t) e) in absurd (omega arith)
-
 pub here-cons : (t : List ℕ) (at c : ℕ) → here t at ≡ c → 0 < c → drop at t ≡ c ∷ drop (suc at) t
-here-cons t at c h p =
-    let q : 0 < getD t at 0 = omega arith in
-    drop-cons t at 0 (here-in t at q) ∙ ap (λ (x : ℕ). x ∷ drop (suc at) t) h
+here-cons t at c h p = drop-cons t at 0 (here-at t at c h p) ∙ ap (λ (x : ℕ). x ∷ drop (suc at) t) h
 
 pub sign-stands : (t : List ℕ) (at c : ℕ) → here t at ≡ c → 0 < c → Stands (Sign c) t at (at + 1)
 unfolding Sign
