@@ -1,17 +1,17 @@
 -- Digits and numbers: the tests of the reader and what the grammar says. Assumes nothing.
-use mathlib.Core.Path.{_≡_, refl, sym, ap, _∙_, subst}
+use mathlib.Core.Path.{_≡_, refl, ap, _∙_}
 use mathlib.Core.Bool.{Bool, true, false, cond, _&&_}
-use mathlib.Core.Option.{Option, none, some}
+use mathlib.Core.Option.{none, some}
 use mathlib.Core.List.{List, [], _∷_, _++_}
-use Prim.Native.Nat.{ℕ, zero, suc, _+_, _-_, _*_, _^_, _<_, _≤_}
+use Prim.Native.Nat.{ℕ, suc, _+_, _-_, _*_, _^_, _<_, _≤_}
 use native.Mathlib.Nat.{pow-suc}
 use native.Mathlib.Omega.{arith}
-use borrow.Author.Tests.{leb-true, leb-false, le-leb, lt-leb}
-use lib.Dec.{eqb, leb, ltb}
+use borrow.Author.Tests.{le-leb, lt-leb}
+use lib.Dec.{leb}
 use lib.ListN.{length}
 use Rattle.reading.specs.Pieces.{within, digit, decimals, numeral}
 use Rattle.reading.proofs.PieceLaws.{never, within-true}
-use Rattle.spelling.specs.Spelling.{Digit, decimal, upper, lower, Decimals, value, Blank, Blanks}
+use Rattle.spelling.specs.Spelling.{Digit, decimal, upper, lower, Decimals, value}
 
 pub in-within : (a b c : ℕ) → a ≤ c → c ≤ b → within a b c ≡ true
 unfolding within

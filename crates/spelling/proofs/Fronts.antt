@@ -1,15 +1,15 @@
 -- How spellings begin, so that blanks before them end there; and what the reader sees of a sign and of two. Assumes nothing.
 use mathlib.Core.Path.{_≡_, refl, sym, ap, ap₂, _∙_, subst}
-use mathlib.Core.Bool.{Bool, true, false}
+use mathlib.Core.Bool.{Bool}
 use mathlib.Core.Logic.{_⊎_, inl, inr}
 use mathlib.Core.Option.{Option, none, some}
-use mathlib.Core.List.{List, [], _∷_, _++_, append-assoc}
-use Prim.Native.Nat.{ℕ, zero, suc, _+_, _<_, _≤_}
+use mathlib.Core.List.{List, [], _∷_, _++_}
+use Prim.Native.Nat.{ℕ, suc, _+_, _<_, _≤_}
 use native.Mathlib.Omega.{arith}
 use lib.ListN.{length, drop}
-use Rattle.meaning.specs.Tokens.{Mask, left, right, all, Token, Tokens, Lists, Byte, NotByte, MaskedByte, NotMaskedByte, Jump, Alternatives, nothing, _then_, neither, _or_}
+use Rattle.meaning.specs.Tokens.{Mask, left, right, all, Token, Tokens, Byte, NotByte, MaskedByte, NotMaskedByte, Jump, Alternatives, nothing, _then_, _or_}
 use Rattle.reading.specs.Blanks.{here, skip}
-use Rattle.spelling.specs.Spelling.{Language, _⨾_, Blank, Blanks, NoBlank, Spaced, Sign, Marked, Digit, decimal, upper, lower, HexDigit, Whole, Masked, Decimals, Numeral, Number, From, To, Single, Dashed, Bracketed, Bounds, AsJump, SpellsToken, SpellsTokens, SpellsLists, SpellsRest}
+use Rattle.spelling.specs.Spelling.{Language, _⨾_, Blank, Blanks, NoBlank, Spaced, Sign, Marked, Digit, decimal, upper, lower, HexDigit, Whole, Masked, Decimals, Numeral, Number, From, To, Single, Dashed, Bracketed, Bounds, AsJump, SpellsToken, SpellsTokens, SpellsLists}
 use Rattle.spelling.proofs.Standing.{after, here-is, skips}
 
 -- a string that begins with a byte past the blanks

@@ -1,19 +1,17 @@
 -- What the readers of tokens and lists read is spelled as the grammar says, within the limits. Assumes nothing.
-use mathlib.Core.Path.{_≡_, refl, sym, ap, _∙_, subst}
+use mathlib.Core.Path.{_≡_, refl, subst}
 use mathlib.Core.Bool.{Bool, true, false, cond}
-use mathlib.Core.Logic.{_⊎_, inl, inr}
-use mathlib.Core.List.{List, [], _∷_, _++_}
-use Prim.Native.Nat.{ℕ, zero, suc, _+_, _-_, _<_, _≤_, max}
+use mathlib.Core.List.{List}
+use Prim.Native.Nat.{ℕ, zero, suc, _+_, _-_, _<_, _≤_}
 use native.Mathlib.Omega.{arith}
-use borrow.Author.Tests.{ltb-true, ltb-false, leb-true, eqb-true, eqb-false, lt-ltb}
-use lib.Dec.{eqb, leb, ltb}
-use lib.ListN.{length, drop}
-use Rattle.base.specs.declared.Refusal.the-variants.{TooManyTokens, Unexpected, JumpAtBound, HexStringTooDeep, TextTooLong}
+use borrow.Author.Tests.{ltb-true, ltb-false, eqb-true, lt-ltb}
+use lib.Dec.{eqb, ltb}
+use Rattle.base.specs.declared.Refusal.the-variants.{TooManyTokens, Unexpected, JumpAtBound, HexStringTooDeep}
 use Rattle.meaning.specs.Tokens.{Token, Tokens, Lists, Byte, NotByte, MaskedByte, NotMaskedByte, Jump, Alternatives, nothing, _then_, neither, _or_}
 use Rattle.reading.specs.Blanks.{here, skip}
 use Rattle.reading.specs.Pieces.{Seen, found, absent, refused, plainAt}
 use Rattle.reading.specs.Lists.{Parsed, read, missing, stopped, tokenOr, asToken, bracketed, before, thenMore, atBound, listOf, beside, thenLists, tokenF, moreF, listF, listsF}
-use Rattle.spelling.specs.Spelling.{Language, _⨾_, Marked, Bounded, SpellsToken, SpellsTokens, SpellsLists, SpellsRest, SpellsList, depthIn, depth, depths, totalIn, total, totals}
+use Rattle.spelling.specs.Spelling.{Language, _⨾_, Marked, SpellsToken, SpellsTokens, SpellsLists, SpellsRest, SpellsList, depthIn, depth, depths, totalIn, total, totals}
 use Rattle.spelling.proofs.Standing.{Stands, seq, change, mark-stands}
 use Rattle.spelling.proofs.PiecesSpelled.{Sound, Plain, SpellsPlain, plain-sound, nothing-stands}
 use Rattle.spelling.proofs.BoundLaws.{bounded}

@@ -3,17 +3,17 @@ use mathlib.Core.Path.{_≡_, refl, sym, ap, ap₂, _∙_, subst}
 use mathlib.Core.Bool.{Bool, true, false, cond, _&&_}
 use mathlib.Core.Logic.{_⊎_, inl, inr}
 use mathlib.Core.Option.{Option, none, some}
-use mathlib.Core.List.{List, [], _∷_, _++_, append-assoc}
-use Prim.Native.Nat.{ℕ, zero, suc, _+_, _-_, _*_, _^_, _<_, _≤_}
+use mathlib.Core.List.{List, [], _∷_, _++_}
+use Prim.Native.Nat.{ℕ, _+_, _*_, _^_, _<_, _≤_}
 use native.Mathlib.Omega.{arith}
-use borrow.Author.Tests.{le-leb, le-ltb, ne-eqb, eqb-true}
-use lib.Dec.{eqb, leb, ltb}
-use lib.ListN.{length, drop, length-append}
+use borrow.Author.Tests.{le-ltb, ne-eqb, eqb-true}
+use lib.Dec.{eqb}
+use lib.ListN.{length, drop}
 use Rattle.meaning.specs.Tokens.{Mask, left, right, all, Token, Byte, NotByte, MaskedByte, NotMaskedByte, Jump, Alternatives}
 use Rattle.reading.specs.Blanks.{here, skip}
-use Rattle.reading.specs.Pieces.{Seen, found, absent, refused, _else_, within, digit, Hex, whole, masked, twoDigits, byteAt, oneDigit, maskedAt, hexAt, plainly, negated, notAt, decimals, numeral, numberAt, Range, between, checked, closedAt, upperAt, dashAt, lowerAt, rangeAt, jumpToken, jumped, plainAt}
+use Rattle.reading.specs.Pieces.{found, absent, _else_, within, digit, Hex, whole, masked, hexAt, plainly, negated, decimals, numeral, numberAt, between, checked, closedAt, upperAt, dashAt, lowerAt, rangeAt, jumpToken, jumped, plainAt}
 use Rattle.reading.proofs.PieceSteps.{byte-none, byte-half, byte-both, masked-all, masked-left, masked-right, masked-no-right, hex-byte, hex-masked, not-else, not-hex, number-absent, number-found, checked-open, checked-both, closed-at, dash-at, range-else, range-at, lower-closed, lower-dash, jumped-open, jumped-found}
-use Rattle.spelling.specs.Spelling.{_⨾_, Blank, Blanks, NoBlank, Spaced, Sign, Marked, HexDigit, Digit, Whole, Masked, Decimals, value, Numeral, Number, From, To, Single, Dashed, Bracketed, Ordered, Bounds, Allowed, NotOne, AsJump, Negatable, SpellsToken}
+use Rattle.spelling.specs.Spelling.{_⨾_, Blank, Blanks, NoBlank, Spaced, Sign, Marked, HexDigit, Whole, Masked, Decimals, value, Numeral, Number, From, To, Single, Dashed, Bracketed, Ordered, Bounds, Allowed, NotOne, AsJump, Negatable, SpellsToken}
 use Rattle.spelling.proofs.Standing.{after, cut, here-is, skips}
 use Rattle.spelling.proofs.DigitLaws.{digit-complete, digits-count, digits-value, in-within, below-within, and-false}
 use Rattle.spelling.proofs.Fronts.{digit-range, two-form, two-seen, mark-seen, marked-form, number-opens, mark-opens, opens-clear, opens-seq, cons-clear, from-clear, to-clear, OpensLow, whole-low, masked-low}

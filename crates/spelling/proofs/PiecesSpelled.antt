@@ -1,20 +1,20 @@
 -- What the small readers find is spelled as the grammar says. Assumes nothing.
-use mathlib.Core.Path.{_≡_, refl, sym, ap, _∙_, subst}
+use mathlib.Core.Path.{_≡_, refl, ap, subst}
 use mathlib.Core.Bool.{Bool, true, false, cond, _&&_}
-use mathlib.Core.Logic.{_⊎_, inl, inr}
+use mathlib.Core.Logic.{inl, inr}
 use mathlib.Core.Option.{Option, none, some}
-use mathlib.Core.List.{List, [], _∷_, _++_}
-use Prim.Native.Nat.{ℕ, zero, suc, _+_, _-_, _*_, _^_, _<_, _≤_}
+use mathlib.Core.List.{List, [], _∷_}
+use Prim.Native.Nat.{ℕ, suc, _+_, _*_, _^_, _<_, _≤_}
 use native.Mathlib.Omega.{arith}
-use borrow.Author.Tests.{ltb-true, ltb-false, leb-true, eqb-true, eqb-false}
+use borrow.Author.Tests.{ltb-false, leb-true, eqb-true, eqb-false}
 use lib.Dec.{eqb, leb, ltb}
 use lib.ListN.{length, drop}
-use Rattle.base.specs.declared.Refusal.the-variants.{NumberTooBig, JumpEmpty, JumpRangeInvalid, JumpUnboundedInAlternation, JumpTooBigInAlternation}
-use Rattle.meaning.specs.Tokens.{Mask, left, right, all, Token, Byte, NotByte, MaskedByte, NotMaskedByte, Jump, Alternatives}
+use Rattle.base.specs.declared.Refusal.the-variants.{NumberTooBig, JumpEmpty, JumpRangeInvalid, JumpTooBigInAlternation}
+use Rattle.meaning.specs.Tokens.{left, right, all, Token, Byte, NotByte, MaskedByte, NotMaskedByte, Jump, Alternatives}
 use Rattle.reading.specs.Blanks.{here, skip}
 use Rattle.reading.specs.Pieces.{Seen, found, absent, refused, upTo, _else_, within, digit, Hex, whole, masked, twoDigits, byteAt, oneDigit, maskedAt, hexAt, plainly, negated, notAt, decimals, numeral, numberAt, Range, between, checked, closedAt, upperAt, dashAt, lowerAt, rangeAt, jumpToken, jumped, plainAt}
 use Rattle.reading.proofs.PieceLaws.{within-true}
-use Rattle.spelling.specs.Spelling.{Language, _⨾_, Blanks, Spaced, Sign, Marked, HexDigit, Digit, Whole, Masked, Decimals, value, Numeral, Number, From, To, Single, Dashed, Bracketed, Ordered, Bounds, Allowed, NotOne, AsJump, Negatable, SpellsToken}
+use Rattle.spelling.specs.Spelling.{Language, _⨾_, Spaced, Sign, Marked, HexDigit, Whole, Masked, value, Numeral, Number, From, To, Single, Dashed, Bracketed, Ordered, Bounds, Allowed, NotOne, AsJump, Negatable, SpellsToken}
 use Rattle.spelling.proofs.Standing.{Stands, stands, seq, change, here-cons, sign-stands, spaced-stands, mark-stands}
 use Rattle.spelling.proofs.DigitLaws.{digit-sound, digits-split}
 

@@ -1,19 +1,18 @@
 -- A text that is spelled within the limits is accepted, so its tokens and its offset are the only ones. Assumes nothing.
 use mathlib.Core.Path.{_≡_, refl, sym, ap, _∙_, subst}
-use mathlib.Core.Bool.{Bool, true, false, cond}
-use mathlib.Core.Logic.{_⊎_, inl, inr}
-use mathlib.Core.List.{List, [], _∷_, _++_}
+use mathlib.Core.Bool.{false}
+use mathlib.Core.List.{List, _++_}
 use Prim.Native.Nat.{ℕ, _+_, _≤_}
 use native.Mathlib.Omega.{arith}
 use borrow.Author.Tests.{le-leb}
 use lib.ListN.{length, drop}
-use Rattle.meaning.specs.Tokens.{Tokens, nothing, _then_}
+use Rattle.meaning.specs.Tokens.{Tokens, nothing}
 use Rattle.reading.specs.Blanks.{here, skip}
-use Rattle.reading.specs.Lists.{Parsed, read, list, enough, Outcome, accepted, rejected, closing, reading}
-use Rattle.spelling.specs.Spelling.{_⨾_, NoBlank, Marked, Bounded, SpellsTokens, SpellsList, SpellsString, SpellsText, depth, total}
+use Rattle.reading.specs.Lists.{read, list, Outcome, accepted, rejected, closing, reading}
+use Rattle.spelling.specs.Spelling.{_⨾_, NoBlank, SpellsString, SpellsText, depth, total}
 use Rattle.spelling.proofs.Standing.{cut}
 use Rattle.spelling.proofs.Fronts.{opens-clear, mark-opens, tokens-clear, marked-form, mark-seen}
-use Rattle.spelling.proofs.ListsRead.{list-is-read}
+use Rattle.spelling.proofs.ListsRead.{outer-is-read}
 
 text-steps : (t : List ℕ) (x : ℕ) (ts : Tokens) (y c e : ℕ) → length t ≤ 4096 → here t 0 ≡ 123 → skip t 1 ≡ x → list t 1 0 x ≡ read ts y c → here t y ≡ 125 → skip t (y + 1) ≡ e
     → reading t ≡ accepted e ts
@@ -32,8 +31,7 @@ string-read t ts w r h p q d n l =
     let closed : NoBlank (k ++ r) = opens-clear k r (mark-opens 125 k (omega arith) (p .4 .4)) in
     let s1 = mark-seen t 0 123 m (p .1 ++ r) (c1 .0) (p .3) (subst NoBlank (sym (c2 .0) ∙ c1 .1) (tokens-clear false ts u (k ++ r) (p .4 .3 .1) closed)) in
     let f = marked-form 125 k (p .4 .4) in
-    let s2 = list-is-read ts (enough t (0 + length m)) t 1 0 (0 + length m) u 125 (f .0 ++ r) (c2 .0 ∙ ap (λ (s : List ℕ). u ++ (s ++ r)) (f .1)) (inr (inr refl)) (p .4 .3 .1) (p .4 .3 .0)
-    (omega arith) (omega arith) (omega arith) (omega arith) in
+    let s2 = outer-is-read ts t (0 + length m) u (f .0 ++ r) (c2 .0 ∙ ap (λ (s : List ℕ). u ++ (s ++ r)) (f .1)) (p .4 .3 .1) (p .4 .3 .0) d n in
     let s3 = mark-seen t (0 + length m + length u) 125 k r (c2 .1) (p .4 .4) q in
     let i : length w ≡ length m + length (p .1) = c1 .2 in
     let j : length (p .1) ≡ length u + length k = c2 .2 in
