@@ -9,3 +9,4 @@ pub mod Fronts
 pub mod PiecesRead
 pub mod ListsRead
 pub mod TextRead
+pub mod OneSpelling

@@ -14,9 +14,9 @@ use Rattle.reading.specs.Blanks.{here, skip}
 use Rattle.reading.specs.Pieces.{found, absent, within, digit, plainAt}
 use Rattle.reading.specs.Lists.{Parsed, read, missing, tokenOr, asToken, bracketed, before, listOf, beside, token, more, list, lists}
 use Rattle.reading.proofs.ListSteps.{token-step, more-read, more-none, list-of, lists-closed, lists-barred}
-use Rattle.spelling.specs.Spelling.{_⨾_, NoBlank, Bounded, SpellsToken, SpellsTokens, SpellsLists, SpellsRest, depthIn, depth, depths, totalIn, total, totals}
+use Rattle.spelling.specs.Spelling.{_⨾_, NoBlank, Bounded, SpellsToken, SpellsTokens, SpellsLists, SpellsRest, SpellsList, Marked, depthIn, depth, depths, totalIn, total, totals}
 use Rattle.spelling.proofs.Standing.{cut, here-is}
-use Rattle.spelling.proofs.Fronts.{Opens, opens-clear, opens-seq, cons-clear, token-opens, tokens-clear, marked-form, mark-seen}
+use Rattle.spelling.proofs.Fronts.{Opens, opens-clear, opens-seq, cons-clear, mark-opens, token-opens, tokens-clear, marked-form, mark-seen}
 use Rattle.spelling.proofs.PiecesSpelled.{Plain}
 use Rattle.spelling.proofs.PiecesRead.{plain-found, plain-absent}
 use Rattle.spelling.proofs.ListsSpelled.{plain-one}
@@ -26,16 +26,16 @@ use Rattle.spelling.proofs.BoundLaws.{is-bounded}
 abbrev pub Closer : ℕ → Type 0
 Closer c = (c ≡ 41) ⊎ ((c ≡ 124) ⊎ (c ≡ 125))
 
-closer-high : (c : ℕ) → Closer c → 33 ≤ c
+pub closer-high : (c : ℕ) → Closer c → 33 ≤ c
 closer-high c (inl e) = omega arith
 closer-high c (inr (inl e)) = omega arith
 closer-high c (inr (inr e)) = omega arith
 
-no-digits : (digit 41 ≡ none) × (digit 124 ≡ none) × (digit 125 ≡ none) × (digit 40 ≡ none)
+pub no-digits : (digit 41 ≡ none) × (digit 124 ≡ none) × (digit 125 ≡ none) × (digit 40 ≡ none)
 unfolding digit within
 no-digits = (refl, refl, refl, refl)
 
-none-at : (t : List ℕ) (inside : Bool) (at c : ℕ) → here t at ≡ c → Closer c → plainAt t inside at ≡ absent
+pub none-at : (t : List ℕ) (inside : Bool) (at c : ℕ) → here t at ≡ c → Closer c → plainAt t inside at ≡ absent
 none-at t inside at c h (inl e) = plain-absent t inside at 41 (h ∙ e) (no-digits .0) (omega arith) (omega arith) (omega arith)
 none-at t inside at c h (inr (inl e)) = plain-absent t inside at 124 (h ∙ e) (no-digits .1) (omega arith) (omega arith) (omega arith)
 none-at t inside at c h (inr (inr e)) = plain-absent t inside at 125 (h ∙ e) (no-digits .2) (omega arith) (omega arith) (omega arith)
@@ -78,7 +78,7 @@ depth-some nothing = omega arith
 depth-some (tok then ts) = omega arith
 
 -- what follows a list begins with what ends it
-rest-form : (ls : Lists) (w : List ℕ) → SpellsRest ls w → (c : ℕ) × (u : List ℕ) × (w ≡ c ∷ u) × Closer c
+pub rest-form : (ls : Lists) (w : List ℕ) → SpellsRest ls w → (c : ℕ) × (u : List ℕ) × (w ≡ c ∷ u) × Closer c
 unfolding SpellsRest _⨾_
 rest-form neither w p = let f = marked-form 41 w p in (41, f .0, f .1, inl refl)
 rest-form (ts or ls) w p =
@@ -86,7 +86,7 @@ rest-form (ts or ls) w p =
     let f = marked-form 124 (q .0) (q .3) in
     (124, f .0 ++ q .1, q .2 ∙ ap (λ (s : List ℕ). s ++ q .1) (f .1), inr (inl refl))
 
-rest-opens : (ls : Lists) (w : List ℕ) → SpellsRest ls w → Opens w
+pub rest-opens : (ls : Lists) (w : List ℕ) → SpellsRest ls w → Opens w
 rest-opens ls w p = let f = rest-form ls w p in (f .0, f .1, f .2, closer-high (f .0) (f .3))
 
 -- what is to be shown of a token, of tokens before what ends them, of lists, and of what follows a list in brackets:
@@ -118,7 +118,7 @@ plain-read tok k t level count at w r h q p l d n =
     let e : count + 1 ≡ count + totalIn tok = omega arith in
     token-found t level count at tok (x .0) (at + length w) (x .1) (omega arith) ∙ ap (λ (m : ℕ). read tok (at + length w) m) e
 
-lists-clear : (ls : Lists) (w r : List ℕ) → SpellsLists ls w → NoBlank (w ++ r)
+pub lists-clear : (ls : Lists) (w r : List ℕ) → SpellsLists ls w → NoBlank (w ++ r)
 unfolding SpellsLists _⨾_ Bounded SpellsTokens
 lists-clear neither w r p = absurd p
 lists-clear (nothing or ls) w r p = absurd (p .0)
@@ -243,6 +243,11 @@ mutual
   rest-is-read (ts or ls) = next-read ts ls (more-is-read ts) (rest-is-read ls)
 
 -- the outer list, before its `}`
+pub outer-clear : (ts : Tokens) (w r : List ℕ) → (SpellsList false ts ⨾ Marked 125) w → NoBlank (w ++ r)
+unfolding _⨾_
+outer-clear ts w r p =
+    subst NoBlank (sym (cut (w ++ r) 0 w (p .0) (p .1) r refl (p .2) .0)) (tokens-clear false ts (p .0) (p .1 ++ r) (p .3 .1) (opens-clear (p .1) r (mark-opens 125 (p .1) (omega arith) (p .4))))
+
 pub outer-is-read : (ts : Tokens) (t : List ℕ) (at : ℕ) (w r : List ℕ) → drop at t ≡ w ++ (125 ∷ r) → SpellsTokens false ts w → Bounded ts → depth ts ≤ 8 → total ts ≤ 512
     → list t 1 0 at ≡ read ts (at + length w) (0 + total ts)
 outer-is-read ts t at w r h p b d n = list-read ts (more-is-read ts) t 1 0 at w 125 r h (inr (inr refl)) p b (omega arith) (omega arith) (omega arith)

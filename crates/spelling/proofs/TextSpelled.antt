@@ -11,13 +11,9 @@ use Rattle.base.specs.declared.Refusal.the-variants.{Unexpected, TextTooLong}
 use Rattle.meaning.specs.Tokens.{Tokens}
 use Rattle.reading.specs.Blanks.{here, skip}
 use Rattle.reading.specs.Lists.{Parsed, read, missing, stopped, list, enough, Outcome, accepted, rejected, closing, reading}
-use Rattle.spelling.specs.Spelling.{Marked, SpellsString, SpellsText, depth, total}
+use Rattle.spelling.specs.Spelling.{Marked, SpellsString, SpellsText, Spelled, total}
 use Rattle.spelling.proofs.Standing.{Stands, seq, skip-clear, mark-stands}
 use Rattle.spelling.proofs.ListsSpelled.{Right, ListRight, list-right-all}
-
--- spelled, and within the limits
-abbrev pub Spelled : List ℕ → ℕ → Tokens → Type 0
-Spelled t e ts = SpellsText t e ts × (depth ts ≤ 8) × (total ts ≤ 512) × (length t ≤ 4096)
 
 abbrev OutcomeRight : List ℕ → Outcome → Type 0
 OutcomeRight t (accepted e ts) = Spelled t e ts
@@ -51,5 +47,5 @@ reading-right t = go (leb (length t) 4096) (eqb (here t 0) 123) refl refl
     go false b d e = tt
 
 -- an accepted text spells the tokens read, up to the offset reached, within the limits
-pub accepted-spelled : (t : List ℕ) (e : ℕ) (ts : Tokens) → reading t ≡ accepted e ts → SpellsText t e ts × (depth ts ≤ 8) × (total ts ≤ 512) × (length t ≤ 4096)
+pub accepted-spelled : (t : List ℕ) (e : ℕ) (ts : Tokens) → reading t ≡ accepted e ts → Spelled t e ts
 accepted-spelled t e ts h = subst (λ (o : Outcome). OutcomeRight t o) h (reading-right t)

@@ -31,7 +31,7 @@ Blanks (c ∷ s) = Blank c × Blanks s
 unfoldable pub Spaced : Language → Language
 Spaced P = P ⨾ Blanks
 
--- one byte, and none but that
+-- one byte, by its number: 40 `(`, 41 `)`, 45 `-`, 63 `?`, 91 `[`, 93 `]`, 123 `{`, 124 `|`, 125 `}`, 126 `~`
 unfoldable pub Sign : ℕ → Language
 Sign c s = s ≡ c ∷ []
 
@@ -45,6 +45,7 @@ pub data Digit (c v : ℕ) : Type 0 where
   upper : 10 ≤ v → v < 16 → c ≡ 65 + (v - 10) → Digit c v
   lower : 10 ≤ v → v < 16 → c ≡ 97 + (v - 10) → Digit c v
 
+-- one hexadecimal digit
 unfoldable pub HexDigit : ℕ → Language
 HexDigit v s = (c : ℕ) × (s ≡ c ∷ []) × Digit c v
 
@@ -63,7 +64,7 @@ unfoldable pub Decimals : Language
 Decimals [] = Unit {0}
 Decimals (c ∷ s) = (48 ≤ c) × (c ≤ 57) × Decimals s
 
--- the number that they spell: each counts ten times the power of ten of the next
+-- the number that they spell: each digit times ten to the number of digits after it
 unfoldable pub value : List ℕ → ℕ
 value [] = 0
 value (c ∷ s) = (c - 48) * 10 ^ length s + value s
@@ -72,13 +73,15 @@ value (c ∷ s) = (c - 48) * 10 ^ length s + value s
 unfoldable pub Numeral : ℕ → Language
 Numeral n s = Decimals s × (0 < length s) × (n ≡ value s) × (n ≤ 4294967295)
 
+-- a number and the blanks that may follow it
 unfoldable pub Number : ℕ → Language
 Number n = Spaced (Numeral n)
 
--- before a jump's dash stands a number, or nothing for 0; after it a number, or nothing where there is no to
+-- before a jump's dash: a number, or nothing for 0
 unfoldable pub From : ℕ → Language
 From from s = Number from s ⊎ ((from ≡ 0) × (s ≡ []))
 
+-- after it: a number, or nothing where there is no to
 unfoldable pub To : Option ℕ → Language
 To none s = s ≡ []
 To (some to) s = Number to s
@@ -96,6 +99,7 @@ unfoldable pub Ordered : ℕ → Option ℕ → Type 0
 Ordered from none = Unit {0}
 Ordered from (some to) = (from ≤ to) × (0 < to)
 
+-- either of the two; `[n]` has n for from and to
 unfoldable pub Bracketed : ℕ → Option ℕ → Language
 Bracketed from to s = ((to ≡ some from) × Single from s) ⊎ Dashed from to s
 
@@ -109,11 +113,12 @@ Allowed false to = Unit {0}
 Allowed true none = ⊥
 Allowed true (some to) = to ≤ 200
 
--- `[1]` and `[1-1]` spell `??`, and no jump
+-- `[1]` and `[1-1]` spell no jump
 unfoldable pub NotOne : ℕ → Option ℕ → Type 0
 NotOne from none = Unit {0}
 NotOne from (some to) = from ≡ 1 → to ≡ 1 → ⊥
 
+-- they spell `??`
 unfoldable pub AsJump : ℕ → Mask → Language
 AsJump v left s = ⊥
 AsJump v right s = ⊥
@@ -125,6 +130,7 @@ Negatable left = Unit {0}
 Negatable right = Unit {0}
 Negatable all = ⊥
 
+-- any token but a jump
 unfoldable pub NoJump : Token → Type 0
 NoJump (Byte v) = Unit {0}
 NoJump (NotByte v) = Unit {0}
@@ -168,7 +174,7 @@ unfoldable mutual
   SpellsRest neither s = Marked 41 s
   SpellsRest (ts or ls) s = Bounded ts × (Marked 124 ⨾ ((λ a. SpellsTokens true ts a) ⨾ (λ b. SpellsRest ls b))) s
 
--- a list
+-- a list: tokens, with no jump at its bounds
 abbrev pub SpellsList : Bool → Tokens → Language
 SpellsList inside ts s = Bounded ts × SpellsTokens inside ts s
 
@@ -176,6 +182,7 @@ SpellsList inside ts s = Bounded ts × SpellsTokens inside ts s
 unfoldable pub SpellsString : Tokens → Language
 SpellsString ts = Marked 123 ⨾ (SpellsList false ts ⨾ Marked 125)
 
+-- a string that does not begin with a blank
 unfoldable pub NoBlank : Language
 NoBlank [] = Unit {0}
 NoBlank (c ∷ s) = Blank c → ⊥
@@ -219,3 +226,7 @@ unfoldable mutual
   pub totals : Lists → ℕ
   totals neither = 0
   totals (ts or ls) = total ts + totals ls
+
+-- a text that is spelled within 01's limits: 8 list levels, 512 tokens, 4,096 bytes
+abbrev pub Spelled : List ℕ → ℕ → Tokens → Type 0
+Spelled t e ts = SpellsText t e ts × (depth ts ≤ 8) × (total ts ≤ 512) × (length t ≤ 4096)
