@@ -1,8 +1,8 @@
--- What is read is spelled, and what is spelled within the limits is read.
+-- What is read is spelled, and what is spelled within the limits is read; and a text has one spelling.
 pub mod Standing
 pub mod DigitLaws
-pub mod PiecesSpelled
 pub mod BoundLaws
+pub mod PiecesSpelled
 pub mod ListsSpelled
 pub mod TextSpelled
 pub mod Fronts
