@@ -9,12 +9,12 @@ use lib.ListN.{length, drop}
 use Rattle.meaning.specs.Tokens.{Token, Tokens, Lists, Byte, NotByte, MaskedByte, NotMaskedByte, Jump, Alternatives, nothing, _then_, neither, _or_}
 use Rattle.reading.specs.Blanks.{here, skip}
 use Rattle.reading.proofs.PieceLaws.{never}
-use Rattle.spelling.specs.Spelling.{_⨾_, NoBlank, Marked, SpellsToken, SpellsTokens, SpellsLists, SpellsRest, SpellsString, SpellsText}
-use Rattle.spelling.proofs.Standing.{cut, here-is}
-use Rattle.spelling.proofs.Fronts.{opens-clear, cons-clear, tokens-clear, marked-form, mark-seen}
-use Rattle.spelling.proofs.PiecesSpelled.{Plain}
-use Rattle.spelling.proofs.PiecesRead.{plain-found, plain-absent}
-use Rattle.spelling.proofs.ListsRead.{Closer, closer-high, no-digits, none-at, lists-clear, rest-form, rest-opens, outer-clear}
+use Rattle.grammar.specs.Spelling.{_⨾_, NoBlank, Marked, SpellsToken, SpellsTokens, SpellsLists, SpellsRest, SpellsString, SpellsText}
+use Rattle.grammar.proofs.Standing.{cut, here-is}
+use Rattle.grammar.proofs.Fronts.{opens-clear, cons-clear, tokens-clear, marked-form, mark-seen}
+use Rattle.grammar.proofs.PiecesSpelled.{Plain}
+use Rattle.grammar.proofs.PiecesRead.{plain-found, plain-absent}
+use Rattle.grammar.proofs.ListsRead.{Closer, closer-high, no-digits, none-at, lists-clear, rest-form, rest-opens, outer-clear}
 
 plain-or : (tok : Token) → Plain tok ⊎ ((ls : Lists) × (tok ≡ Alternatives ls))
 unfolding Plain

@@ -11,9 +11,9 @@ use Rattle.base.specs.declared.Refusal.the-variants.{Unexpected, TextTooLong}
 use Rattle.meaning.specs.Tokens.{Tokens}
 use Rattle.reading.specs.Blanks.{here, skip}
 use Rattle.reading.specs.Lists.{Parsed, read, missing, stopped, list, enough, Outcome, accepted, rejected, closing, reading}
-use Rattle.spelling.specs.Spelling.{Marked, SpellsString, SpellsText, Spelled, total}
-use Rattle.spelling.proofs.Standing.{Stands, seq, skip-clear, mark-stands}
-use Rattle.spelling.proofs.ListsSpelled.{Right, ListRight, list-right-all}
+use Rattle.grammar.specs.Spelling.{Marked, SpellsString, SpellsText, Spelled, total}
+use Rattle.grammar.proofs.Standing.{Stands, seq, skip-clear, mark-stands}
+use Rattle.grammar.proofs.ListsSpelled.{Right, ListRight, list-right-all}
 
 abbrev OutcomeRight : List ℕ → Outcome → Type 0
 OutcomeRight t (accepted e ts) = Spelled t e ts

@@ -11,11 +11,11 @@ use Rattle.reading.specs.Blanks.{here, skip}
 use Rattle.reading.specs.Lists.{read, list, Outcome, accepted, rejected, closing, reading}
 use Rattle.base.specs.declared.Refusal.{Refusal}
 use Rattle.reading.proofs.PieceLaws.{never}
-use Rattle.spelling.specs.Spelling.{_⨾_, NoBlank, SpellsString, SpellsText, Spelled, depth, total}
-use Rattle.spelling.proofs.Standing.{cut}
-use Rattle.spelling.proofs.Fronts.{marked-form, mark-seen}
-use Rattle.spelling.proofs.TextSpelled.{accepted-spelled}
-use Rattle.spelling.proofs.ListsRead.{outer-clear, outer-is-read}
+use Rattle.grammar.specs.Spelling.{_⨾_, NoBlank, SpellsString, SpellsText, Spelled, depth, total}
+use Rattle.grammar.proofs.Standing.{cut}
+use Rattle.grammar.proofs.Fronts.{marked-form, mark-seen}
+use Rattle.grammar.proofs.TextSpelled.{accepted-spelled}
+use Rattle.grammar.proofs.ListsRead.{outer-clear, outer-is-read}
 
 text-steps : (t : List ℕ) (x : ℕ) (ts : Tokens) (y c e : ℕ) → length t ≤ 4096 → here t 0 ≡ 123 → skip t 1 ≡ x → list t 1 0 x ≡ read ts y c → here t y ≡ 125 → skip t (y + 1) ≡ e
     → reading t ≡ accepted e ts

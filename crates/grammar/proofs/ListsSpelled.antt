@@ -11,10 +11,10 @@ use Rattle.meaning.specs.Tokens.{Token, Tokens, Lists, Byte, NotByte, MaskedByt
 use Rattle.reading.specs.Blanks.{here, skip}
 use Rattle.reading.specs.Pieces.{Seen, found, absent, refused, plainAt}
 use Rattle.reading.specs.Lists.{Parsed, read, missing, stopped, tokenOr, asToken, bracketed, before, thenMore, atBound, listOf, beside, thenLists, tokenF, moreF, listF, listsF}
-use Rattle.spelling.specs.Spelling.{Language, _⨾_, Marked, SpellsToken, SpellsTokens, SpellsLists, SpellsRest, SpellsList, depthIn, depth, depths, totalIn, total, totals}
-use Rattle.spelling.proofs.Standing.{Stands, seq, change, mark-stands}
-use Rattle.spelling.proofs.PiecesSpelled.{Sound, Plain, SpellsPlain, plain-sound, nothing-stands}
-use Rattle.spelling.proofs.BoundLaws.{bounded}
+use Rattle.grammar.specs.Spelling.{Language, _⨾_, Marked, SpellsToken, SpellsTokens, SpellsLists, SpellsRest, SpellsList, depthIn, depth, depths, totalIn, total, totals}
+use Rattle.grammar.proofs.Standing.{Stands, seq, change, mark-stands}
+use Rattle.grammar.proofs.PiecesSpelled.{Sound, Plain, SpellsPlain, plain-sound, nothing-stands}
+use Rattle.grammar.proofs.BoundLaws.{bounded}
 
 -- what was read stands there; it has the tokens that were counted, at most 512 with those before it; and it has no more levels than were left
 unfoldable pub Right : {A : Type 0} → (A → Language) → (A → ℕ) → (A → ℕ) → List ℕ → ℕ → ℕ → ℕ → Parsed A → Type 0
