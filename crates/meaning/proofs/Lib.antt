@@ -9,3 +9,4 @@ pub mod SoundLaws
 pub mod JoinLaws
 pub mod MirrorWords
 pub mod FieldLaws
+pub mod MirrorSteps

@@ -1,0 +1,150 @@
+-- What is written in front and the mirror of what is left are the mirror of all. Assumes nothing.
+use mathlib.Core.Path.{refl, sym, _∙_}
+use Prim.Native.Nat.{_+_, _-_}
+use lib.ListN.{length, length-set}
+use Rattle.mirror.proofs.MirrorTurns as law
+use native.Mathlib.Omega.{arith}
+use borrow.Author.Needs.{needs}
+use Rattle.mirror.proofs.mirror_branches.Statement.{statement}
+use Rattle.mirror.proofs.mirror_branches.Tie as tie
+
+abbrev Inv-loop : tie.InvT-loop
+Inv-loop alts out₀ n bs₀ out bs = law.BranchesLeft alts out bs
+
+abbrev μ-loop : tie.MeasureT-loop
+μ-loop alts out₀ n bs₀ out bs = length bs
+
+loop-holds : tie.Need-loop-holds Inv-loop μ-loop
+loop-holds c = law.branches-start (c .before .before .args .alts .now) (c .before .before .args .out .now) (c .before .before .pre .0) (c .before .before .pre .1)
+
+first-word-requires : tie.Need-first-word-requires Inv-loop μ-loop
+first-word-requires c κs = search needs
+
+enum-known-w : tie.Need-enum-known-w Inv-loop μ-loop
+enum-known-w c = search needs
+
+enum-told : tie.Need-enum-told Inv-loop μ-loop
+enum-told c = search needs
+
+same-length : tie.Need-same-length Inv-loop μ-loop
+same-length c = search needs
+
+returns : tie.Need-returns Inv-loop μ-loop
+returns c = law.branches-end (c .before .before .before .before .before .before .args .alts .now) (c .before .before .before .loop .out) (c .before .before .before .loop .bs .now) (c .before .before .before .loop .inv) (sym (c .before .before .first-word .ensures) ∙ c .enum-told .given .1)
+
+branch-inside-requires : tie.Need-branch-inside-requires Inv-loop μ-loop
+branch-inside-requires c κs = search needs
+
+enum-known-k : tie.Need-enum-known-k Inv-loop μ-loop
+enum-known-k c = search needs
+
+enum-told-2 : tie.Need-enum-told-2 Inv-loop μ-loop
+enum-told-2 c = search needs
+
+same-length-2 : tie.Need-same-length-2 Inv-loop μ-loop
+same-length-2 c = search needs
+
+returns-2 : tie.Need-returns-2 Inv-loop μ-loop
+returns-2 c = law.branches-unfit (c .before .before .before .before .before .before .before .loop .bs .now) (c .before .before .before .before .w .given .0 .0) (c .before .before .before .before .before .before .before .loop .inv .sound) (sym (c .before .before .before .before .before .before .first-word .ensures) ∙ c .before .before .before .before .w .given .1) (sym (c .before .before .branch-inside .ensures) ∙ c .enum-told2 .given .1)
+
+cast-whole : tie.Need-cast-whole Inv-loop μ-loop
+cast-whole c = search needs
+
+add-whole : tie.Need-add-whole Inv-loop μ-loop
+add-whole c = search needs
+
+sub-to : tie.Need-sub-to Inv-loop μ-loop
+sub-to c = search needs
+
+mul-out : tie.Need-mul-out Inv-loop μ-loop
+mul-out c = search needs
+
+slice-write-out : tie.Need-slice-write-out Inv-loop μ-loop
+slice-write-out c = omega (arith, law.branch-fits (c .before .before .before .before .before .before .before .before .loop .bs .now) (c .before .before .before .before .before .w .given .0 .0) (c .before .k .given .0 .0) (c .before .before .before .before .before .before .before .before .loop .inv .sound) (sym (c .before .before .before .before .before .before .before .first-word .ensures) ∙ c .before .before .before .before .before .w .given .1) (sym (c .before .before .before .branch-inside .ensures) ∙ c .before .k .given .1), c .before .before .before .before .before .before .before .before .loop .inv .short, c .before .before .before .before .before .before .before .before .loop .inv .size)
+
+add-start : tie.Need-add-start Inv-loop μ-loop
+add-start c = search needs
+
+add-end : tie.Need-add-end Inv-loop μ-loop
+add-end c = omega (arith, law.branch-fits (c .before .before .before .before .before .before .before .before .loop .bs .now) (c .before .before .before .before .before .w .given .0 .0) (c .before .k .given .0 .0) (c .before .before .before .before .before .before .before .before .loop .inv .sound) (sym (c .before .before .before .before .before .before .before .first-word .ensures) ∙ c .before .before .before .before .before .w .given .1) (sym (c .before .before .before .branch-inside .ensures) ∙ c .before .k .given .1), c .before .before .before .before .before .before .before .before .loop .inv .short, c .before .before .before .before .before .before .before .before .before .before .before .pre .2)
+
+sub-reverse-into : tie.Need-sub-reverse-into Inv-loop μ-loop
+sub-reverse-into c = omega arith
+
+part-reverse-into-start : tie.Need-part-reverse-into-start Inv-loop μ-loop
+part-reverse-into-start c = search needs
+
+part-reverse-into-end : tie.Need-part-reverse-into-end Inv-loop μ-loop
+part-reverse-into-end c = law.branch-fits (c .before .before .before .before .before .before .before .before .loop .bs .now) (c .before .before .before .before .before .w .given .0 .0) (c .before .k .given .0 .0) (c .before .before .before .before .before .before .before .before .loop .inv .sound) (sym (c .before .before .before .before .before .before .before .first-word .ensures) ∙ c .before .before .before .before .before .w .given .1) (sym (c .before .before .before .branch-inside .ensures) ∙ c .before .k .given .1)
+
+mul-reverse-into : tie.Need-mul-reverse-into Inv-loop μ-loop
+mul-reverse-into c = search needs
+
+sub-reverse-into-2 : tie.Need-sub-reverse-into-2 Inv-loop μ-loop
+sub-reverse-into-2 c = search needs
+
+part-reverse-into-start-2 : tie.Need-part-reverse-into-start-2 Inv-loop μ-loop
+part-reverse-into-start-2 c = search needs
+
+part-reverse-into-end-2 : tie.Need-part-reverse-into-end-2 Inv-loop μ-loop
+part-reverse-into-end-2 c = omega (arith, law.branch-fits (c .before .before .before .before .before .before .before .before .before .loop .bs .now) (c .before .before .before .before .before .before .w .given .0 .0) (c .before .before .k .given .0 .0) (c .before .before .before .before .before .before .before .before .before .loop .inv .sound) (sym (c .before .before .before .before .before .before .before .before .first-word .ensures) ∙ c .before .before .before .before .before .before .w .given .1) (sym (c .before .before .before .before .branch-inside .ensures) ∙ c .before .before .k .given .1), c .before .before .before .before .before .before .before .before .before .loop .inv .short, c .before .before .before .before .before .before .before .before .before .loop .inv .size, length-set (c .before .before .before .before .before .before .before .before .before .loop .out) (length (c .before .before .before .before .before .before .before .before .before .before .before .before .args .alts .now) - length (c .before .before .before .before .before .before .before .before .before .loop .bs .now)) (c .before .before .before .before .before .before .w .given .0 .0))
+
+reverse-into-requires : tie.Need-reverse-into-requires Inv-loop μ-loop
+reverse-into-requires c κs = law.places-length (c .before .before .before .before .before .before .before .before .before .before .loop .bs .now) (c .before .before .before .k .given .0 .0) (law.branch-fits (c .before .before .before .before .before .before .before .before .before .before .loop .bs .now) (c .before .before .before .before .before .before .before .w .given .0 .0) (c .before .before .before .k .given .0 .0) (c .before .before .before .before .before .before .before .before .before .before .loop .inv .sound) (sym (c .before .before .before .before .before .before .before .before .before .first-word .ensures) ∙ c .before .before .before .before .before .before .before .w .given .1) (sym (c .before .before .before .before .before .branch-inside .ensures) ∙ c .before .before .before .k .given .1)) (c .before .before .before .before .before .before .before .before .before .before .loop .out) (c .before .before .before .before .before .before .before .w .given .0 .0) (length (c .before .before .before .before .before .before .before .before .before .before .before .before .before .args .alts .now) - length (c .before .before .before .before .before .before .before .before .before .before .loop .bs .now)) ((length (c .before .before .before .before .before .before .before .before .before .before .before .before .before .args .alts .now) - length (c .before .before .before .before .before .before .before .before .before .before .loop .bs .now)) + (1 + (c .before .before .before .k .given .0 .0))) refl (omega (arith, law.branch-fits (c .before .before .before .before .before .before .before .before .before .before .loop .bs .now) (c .before .before .before .before .before .before .before .w .given .0 .0) (c .before .before .before .k .given .0 .0) (c .before .before .before .before .before .before .before .before .before .before .loop .inv .sound) (sym (c .before .before .before .before .before .before .before .before .before .first-word .ensures) ∙ c .before .before .before .before .before .before .before .w .given .1) (sym (c .before .before .before .before .before .branch-inside .ensures) ∙ c .before .before .before .k .given .1), c .before .before .before .before .before .before .before .before .before .before .loop .inv .short, c .before .before .before .before .before .before .before .before .before .before .loop .inv .size)) ∙ sym (law.inside-length (c .before .before .before .before .before .before .before .before .before .before .loop .bs .now) (c .before .before .before .k .given .0 .0) (law.branch-fits (c .before .before .before .before .before .before .before .before .before .before .loop .bs .now) (c .before .before .before .before .before .before .before .w .given .0 .0) (c .before .before .before .k .given .0 .0) (c .before .before .before .before .before .before .before .before .before .before .loop .inv .sound) (sym (c .before .before .before .before .before .before .before .before .before .first-word .ensures) ∙ c .before .before .before .before .before .before .before .w .given .1) (sym (c .before .before .before .before .before .branch-inside .ensures) ∙ c .before .before .before .k .given .1)))
+
+mul-bs : tie.Need-mul-bs Inv-loop μ-loop
+mul-bs c = search needs
+
+sub-bs : tie.Need-sub-bs Inv-loop μ-loop
+sub-bs c = law.branch-fits (c .before .before .before .before .before .before .before .before .before .before .before .before .before .loop .bs .now) (c .before .before .before .before .before .before .before .before .before .before .w .given .0 .0) (c .before .before .before .before .before .before .k .given .0 .0) (c .before .before .before .before .before .before .before .before .before .before .before .before .before .loop .inv .sound) (sym (c .before .before .before .before .before .before .before .before .before .before .before .before .first-word .ensures) ∙ c .before .before .before .before .before .before .before .before .before .before .w .given .1) (sym (c .before .before .before .before .before .before .before .before .branch-inside .ensures) ∙ c .before .before .before .before .before .before .k .given .1)
+
+part-bs-start : tie.Need-part-bs-start Inv-loop μ-loop
+part-bs-start c = law.branch-fits (c .before .before .before .before .before .before .before .before .before .before .before .before .before .loop .bs .now) (c .before .before .before .before .before .before .before .before .before .before .w .given .0 .0) (c .before .before .before .before .before .before .k .given .0 .0) (c .before .before .before .before .before .before .before .before .before .before .before .before .before .loop .inv .sound) (sym (c .before .before .before .before .before .before .before .before .before .before .before .before .first-word .ensures) ∙ c .before .before .before .before .before .before .before .before .before .before .w .given .1) (sym (c .before .before .before .before .before .before .before .before .branch-inside .ensures) ∙ c .before .before .before .before .before .before .k .given .1)
+
+part-bs-end : tie.Need-part-bs-end Inv-loop μ-loop
+part-bs-end c = search needs
+
+loop-less : tie.Need-loop-less Inv-loop μ-loop
+loop-less c = law.left-less (c .before .before .before .before .before .before .before .before .before .before .before .before .before .before .loop .bs .now) (c .before .before .before .before .before .before .before .k .given .0 .0) (law.branch-fits (c .before .before .before .before .before .before .before .before .before .before .before .before .before .before .loop .bs .now) (c .before .before .before .before .before .before .before .before .before .before .before .w .given .0 .0) (c .before .before .before .before .before .before .before .k .given .0 .0) (c .before .before .before .before .before .before .before .before .before .before .before .before .before .before .loop .inv .sound) (sym (c .before .before .before .before .before .before .before .before .before .before .before .before .before .first-word .ensures) ∙ c .before .before .before .before .before .before .before .before .before .before .before .w .given .1) (sym (c .before .before .before .before .before .before .before .before .before .branch-inside .ensures) ∙ c .before .before .before .before .before .before .before .k .given .1))
+
+loop-again : tie.Need-loop-again Inv-loop μ-loop
+loop-again c = law.branch-turn (c .before .before .before .before .before .before .before .before .before .before .before .before .before .before .loop .bs .now) (c .before .before .before .before .before .before .before .before .before .before .before .w .given .0 .0) (c .before .before .before .before .before .before .before .k .given .0 .0) (c .before .before .before .before .before .before .before .before .before .before .before .before .before .before .loop .inv .sound) (sym (c .before .before .before .before .before .before .before .before .before .before .before .before .before .first-word .ensures) ∙ c .before .before .before .before .before .before .before .before .before .before .before .w .given .1) (sym (c .before .before .before .before .before .before .before .before .before .branch-inside .ensures) ∙ c .before .before .before .before .before .before .before .k .given .1) (c .before .before .before .before .before .before .before .before .before .before .before .before .before .before .before .before .before .args .alts .now) (c .before .before .before .before .before .before .before .before .before .before .before .before .before .before .loop .out) (c .before .before .before .reverse-into .last .1 .0) (c .before .before .before .before .before .before .before .before .before .before .before .before .before .before .loop .inv) (c .before .before .before .reverse-into .ensures) (c .before .before .before .reverse-into .kept .1 .0 ∙ law.places-length (c .before .before .before .before .before .before .before .before .before .before .before .before .before .before .loop .bs .now) (c .before .before .before .before .before .before .before .k .given .0 .0) (law.branch-fits (c .before .before .before .before .before .before .before .before .before .before .before .before .before .before .loop .bs .now) (c .before .before .before .before .before .before .before .before .before .before .before .w .given .0 .0) (c .before .before .before .before .before .before .before .k .given .0 .0) (c .before .before .before .before .before .before .before .before .before .before .before .before .before .before .loop .inv .sound) (sym (c .before .before .before .before .before .before .before .before .before .before .before .before .before .first-word .ensures) ∙ c .before .before .before .before .before .before .before .before .before .before .before .w .given .1) (sym (c .before .before .before .before .before .before .before .before .before .branch-inside .ensures) ∙ c .before .before .before .before .before .before .before .k .given .1)) (c .before .before .before .before .before .before .before .before .before .before .before .before .before .before .loop .out) (c .before .before .before .before .before .before .before .before .before .before .before .w .given .0 .0) (length (c .before .before .before .before .before .before .before .before .before .before .before .before .before .before .before .before .before .args .alts .now) - length (c .before .before .before .before .before .before .before .before .before .before .before .before .before .before .loop .bs .now)) ((length (c .before .before .before .before .before .before .before .before .before .before .before .before .before .before .before .before .before .args .alts .now) - length (c .before .before .before .before .before .before .before .before .before .before .before .before .before .before .loop .bs .now)) + (1 + (c .before .before .before .before .before .before .before .k .given .0 .0))) refl (omega (arith, law.branch-fits (c .before .before .before .before .before .before .before .before .before .before .before .before .before .before .loop .bs .now) (c .before .before .before .before .before .before .before .before .before .before .before .w .given .0 .0) (c .before .before .before .before .before .before .before .k .given .0 .0) (c .before .before .before .before .before .before .before .before .before .before .before .before .before .before .loop .inv .sound) (sym (c .before .before .before .before .before .before .before .before .before .before .before .before .before .first-word .ensures) ∙ c .before .before .before .before .before .before .before .before .before .before .before .w .given .1) (sym (c .before .before .before .before .before .before .before .before .before .branch-inside .ensures) ∙ c .before .before .before .before .before .before .before .k .given .1), c .before .before .before .before .before .before .before .before .before .before .before .before .before .before .loop .inv .short, c .before .before .before .before .before .before .before .before .before .before .before .before .before .before .loop .inv .size)))
+
+pub mirror-branches-spec : {M : Type 1} → statement M
+mirror-branches-spec =
+    tie.close
+    (tie.spec
+    Inv-loop
+    μ-loop
+    loop-holds
+    first-word-requires
+    enum-known-w
+    enum-told
+    same-length
+    returns
+    branch-inside-requires
+    enum-known-k
+    enum-told-2
+    same-length-2
+    returns-2
+    cast-whole
+    add-whole
+    sub-to
+    mul-out
+    slice-write-out
+    add-start
+    add-end
+    sub-reverse-into
+    part-reverse-into-start
+    part-reverse-into-end
+    mul-reverse-into
+    sub-reverse-into-2
+    part-reverse-into-start-2
+    part-reverse-into-end-2
+    reverse-into-requires
+    mul-bs
+    sub-bs
+    part-bs-start
+    part-bs-end
+    loop-less
+    loop-again)
