@@ -163,3 +163,6 @@ module _ (ns : List ℕ) (k : ℕ) (f : 1 + k ≤ length ns) where
 
   pub places-length : (out : List ℕ) (w t e : ℕ) → e ≡ t + (1 + k) → e ≤ length out → length (midOf (t + 1) (e - (t + 1)) (set out t w)) ≡ k
   places-length out w t e h l = mid-len (t + 1) e (set out t w) (omega (arith, length-set out t w)) ∙ omega arith
+
+pub both-are : {a b k : ℕ} → b ≡ k → a ≡ k → a ≡ b
+both-are p q = q ∙ sym p

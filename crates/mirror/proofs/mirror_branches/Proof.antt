@@ -1,7 +1,7 @@
 -- What is written in front and the mirror of what is left are the mirror of all. Assumes nothing.
 use mathlib.Core.Path.{refl, sym, _∙_}
 use Prim.Native.Nat.{_+_, _-_}
-use lib.ListN.{length, length-set}
+use lib.ListN.{length, length-set, length-take, length-drop}
 use Rattle.mirror.proofs.MirrorTurns as law
 use native.Mathlib.Omega.{arith}
 use borrow.Author.Needs.{needs}
@@ -54,7 +54,7 @@ add-whole : tie.Need-add-whole Inv-loop μ-loop
 add-whole c = search needs
 
 sub-to : tie.Need-sub-to Inv-loop μ-loop
-sub-to c = search needs
+sub-to c = omega (arith, law.branch-fits (c .before .before .before .before .before .before .before .before .loop .bs .now) (c .before .before .before .before .before .w .given .0 .0) (c .before .k .given .0 .0) (c .before .before .before .before .before .before .before .before .loop .inv .sound) (sym (c .before .before .before .before .before .before .before .first-word .ensures) ∙ c .before .before .before .before .before .w .given .1) (sym (c .before .before .before .branch-inside .ensures) ∙ c .before .k .given .1), c .before .before .before .before .before .before .before .before .loop .inv .short)
 
 mul-out : tie.Need-mul-out Inv-loop μ-loop
 mul-out c = search needs
@@ -87,10 +87,10 @@ part-reverse-into-start-2 : tie.Need-part-reverse-into-start-2 Inv-loop μ-loop
 part-reverse-into-start-2 c = search needs
 
 part-reverse-into-end-2 : tie.Need-part-reverse-into-end-2 Inv-loop μ-loop
-part-reverse-into-end-2 c = omega (arith, law.branch-fits (c .before .before .before .before .before .before .before .before .before .loop .bs .now) (c .before .before .before .before .before .before .w .given .0 .0) (c .before .before .k .given .0 .0) (c .before .before .before .before .before .before .before .before .before .loop .inv .sound) (sym (c .before .before .before .before .before .before .before .before .first-word .ensures) ∙ c .before .before .before .before .before .before .w .given .1) (sym (c .before .before .before .before .branch-inside .ensures) ∙ c .before .before .k .given .1), c .before .before .before .before .before .before .before .before .before .loop .inv .short, c .before .before .before .before .before .before .before .before .before .loop .inv .size, length-set (c .before .before .before .before .before .before .before .before .before .loop .out) (length (c .before .before .before .before .before .before .before .before .before .before .before .before .args .alts .now) - length (c .before .before .before .before .before .before .before .before .before .loop .bs .now)) (c .before .before .before .before .before .before .w .given .0 .0))
+part-reverse-into-end-2 c = simp length-set (omega (arith, law.branch-fits (c .before .before .before .before .before .before .before .before .before .loop .bs .now) (c .before .before .before .before .before .before .w .given .0 .0) (c .before .before .k .given .0 .0) (c .before .before .before .before .before .before .before .before .before .loop .inv .sound) (sym (c .before .before .before .before .before .before .before .before .first-word .ensures) ∙ c .before .before .before .before .before .before .w .given .1) (sym (c .before .before .before .before .branch-inside .ensures) ∙ c .before .before .k .given .1), c .before .before .before .before .before .before .before .before .before .loop .inv .short, c .before .before .before .before .before .before .before .before .before .loop .inv .size))
 
 reverse-into-requires : tie.Need-reverse-into-requires Inv-loop μ-loop
-reverse-into-requires c κs = law.places-length (c .before .before .before .before .before .before .before .before .before .before .loop .bs .now) (c .before .before .before .k .given .0 .0) (law.branch-fits (c .before .before .before .before .before .before .before .before .before .before .loop .bs .now) (c .before .before .before .before .before .before .before .w .given .0 .0) (c .before .before .before .k .given .0 .0) (c .before .before .before .before .before .before .before .before .before .before .loop .inv .sound) (sym (c .before .before .before .before .before .before .before .before .before .first-word .ensures) ∙ c .before .before .before .before .before .before .before .w .given .1) (sym (c .before .before .before .before .before .branch-inside .ensures) ∙ c .before .before .before .k .given .1)) (c .before .before .before .before .before .before .before .before .before .before .loop .out) (c .before .before .before .before .before .before .before .w .given .0 .0) (length (c .before .before .before .before .before .before .before .before .before .before .before .before .before .args .alts .now) - length (c .before .before .before .before .before .before .before .before .before .before .loop .bs .now)) ((length (c .before .before .before .before .before .before .before .before .before .before .before .before .before .args .alts .now) - length (c .before .before .before .before .before .before .before .before .before .before .loop .bs .now)) + (1 + (c .before .before .before .k .given .0 .0))) refl (omega (arith, law.branch-fits (c .before .before .before .before .before .before .before .before .before .before .loop .bs .now) (c .before .before .before .before .before .before .before .w .given .0 .0) (c .before .before .before .k .given .0 .0) (c .before .before .before .before .before .before .before .before .before .before .loop .inv .sound) (sym (c .before .before .before .before .before .before .before .before .before .first-word .ensures) ∙ c .before .before .before .before .before .before .before .w .given .1) (sym (c .before .before .before .before .before .branch-inside .ensures) ∙ c .before .before .before .k .given .1), c .before .before .before .before .before .before .before .before .before .before .loop .inv .short, c .before .before .before .before .before .before .before .before .before .before .loop .inv .size)) ∙ sym (law.inside-length (c .before .before .before .before .before .before .before .before .before .before .loop .bs .now) (c .before .before .before .k .given .0 .0) (law.branch-fits (c .before .before .before .before .before .before .before .before .before .before .loop .bs .now) (c .before .before .before .before .before .before .before .w .given .0 .0) (c .before .before .before .k .given .0 .0) (c .before .before .before .before .before .before .before .before .before .before .loop .inv .sound) (sym (c .before .before .before .before .before .before .before .before .before .first-word .ensures) ∙ c .before .before .before .before .before .before .before .w .given .1) (sym (c .before .before .before .before .before .branch-inside .ensures) ∙ c .before .before .before .k .given .1)))
+reverse-into-requires c κs = law.both-are (law.inside-length (c .before .before .before .before .before .before .before .before .before .before .loop .bs .now) (c .before .before .before .k .given .0 .0) (law.branch-fits (c .before .before .before .before .before .before .before .before .before .before .loop .bs .now) (c .before .before .before .before .before .before .before .w .given .0 .0) (c .before .before .before .k .given .0 .0) (c .before .before .before .before .before .before .before .before .before .before .loop .inv .sound) (sym (c .before .before .before .before .before .before .before .before .before .first-word .ensures) ∙ c .before .before .before .before .before .before .before .w .given .1) (sym (c .before .before .before .before .before .branch-inside .ensures) ∙ c .before .before .before .k .given .1))) (simp (length-take, length-drop, length-set) (omega (arith, law.branch-fits (c .before .before .before .before .before .before .before .before .before .before .loop .bs .now) (c .before .before .before .before .before .before .before .w .given .0 .0) (c .before .before .before .k .given .0 .0) (c .before .before .before .before .before .before .before .before .before .before .loop .inv .sound) (sym (c .before .before .before .before .before .before .before .before .before .first-word .ensures) ∙ c .before .before .before .before .before .before .before .w .given .1) (sym (c .before .before .before .before .before .branch-inside .ensures) ∙ c .before .before .before .k .given .1), c .before .before .before .before .before .before .before .before .before .before .loop .inv .short, c .before .before .before .before .before .before .before .before .before .before .loop .inv .size)))
 
 mul-bs : tie.Need-mul-bs Inv-loop μ-loop
 mul-bs c = search needs
