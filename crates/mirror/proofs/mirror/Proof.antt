@@ -16,7 +16,11 @@ same-length : tie.Need-same-length
 same-length c = search needs
 
 returns-2 : tie.Need-returns-2
-returns-2 c = let r = law.too-many (c .before .before .before .before .before .before .before .before .args .words .now) (c .before .before .before .before .before .before .before .before .args .pool .now) (c .before .before .before .before .before .if1 .left) (c .before .before .before .before .if2 .taken) in (r .0, c .before .before .zero-words .ensures ∙ r .1)
+returns-2 c =
+    let words = c .before .before .before .before .before .before .before .before .args .words .now in
+    let pool = c .before .before .before .before .before .before .before .before .args .pool .now in
+    let r = law.too-many words pool (c .before .before .before .before .before .if1 .left) (c .before .before .before .before .if2 .taken) in
+    (r .0, c .before .before .zero-words .ensures ∙ r .1)
 
 is-sound-requires : tie.Need-is-sound-requires
 is-sound-requires c κs = search needs
@@ -28,7 +32,11 @@ same-length-2 : tie.Need-same-length-2
 same-length-2 c = search needs
 
 returns-3 : tie.Need-returns-3
-returns-3 c = let r = law.not-sound (c .before .before .before .before .before .before .before .before .before .before .args .words .now) (c .before .before .before .before .before .before .before .before .before .before .args .pool .now) (c .before .before .before .before .before .before .before .if1 .left) (c .before .before .before .before .before .before .if2 .left) (sym (c .before .before .before .before .before .is-sound .ensures) ∙ not-true _ (c .before .before .before .before .if3 .taken)) in (r .0, c .before .before .zero-words2 .ensures ∙ r .1)
+returns-3 c =
+    let words = c .before .before .before .before .before .before .before .before .before .before .args .words .now in
+    let pool = c .before .before .before .before .before .before .before .before .before .before .args .pool .now in
+    let r = law.not-sound words pool (c .before .before .before .before .before .before .before .if1 .left) (c .before .before .before .before .before .before .if2 .left) (sym (c .before .before .before .before .before .is-sound .ensures) ∙ not-true _ (c .before .before .before .before .if3 .taken)) in
+    (r .0, c .before .before .zero-words2 .ensures ∙ r .1)
 
 sub-mirror-words : tie.Need-sub-mirror-words
 sub-mirror-words c = search needs
@@ -40,7 +48,11 @@ part-mirror-words-end : tie.Need-part-mirror-words-end
 part-mirror-words-end c = search needs
 
 mirror-words-requires : tie.Need-mirror-words-requires
-mirror-words-requires c κs = (law.sound-words (c .before .before .before .before .before .before .before .args .words .now) (sym (c .before .before .is-sound .ensures) ∙ not-false _ (c .before .if3 .left)), law.lent-length (c .before .before .before .before .before .before .before .args .words .now) (c .before .before .before .before .before .before .before .args .pool .now) (c .before .before .before .before .if1 .left) (c .before .before .before .if2 .left), (c .before .before .before .if2 .left))
+mirror-words-requires c κs =
+    let words = c .before .before .before .before .before .before .before .args .words .now in
+    let pool = c .before .before .before .before .before .before .before .args .pool .now in
+    let yes = sym (c .before .before .is-sound .ensures) ∙ not-false _ (c .before .if3 .left) in
+    (law.sound-words words yes, law.lent-length words pool (c .before .before .before .before .if1 .left) (c .before .before .before .if2 .left), c .before .before .before .if2 .left)
 
 zero-words-requires-3 : tie.Need-zero-words-requires-3
 zero-words-requires-3 c κs = search needs
@@ -49,7 +61,12 @@ same-length-3 : tie.Need-same-length-3
 same-length-3 c = search needs
 
 returns-4 : tie.Need-returns-4
-returns-4 c = let r = law.success (c .before .before .before .before .before .before .before .before .before .before .before .before .before .before .args .words .now) (c .before .before .before .before .before .before .before .before .before .before .before .before .before .before .args .pool .now) (c .before .before .before .before .before .before .before .before .before .before .before .if1 .left) (c .before .before .before .before .before .before .before .before .before .before .if2 .left) (sym (c .before .before .before .before .before .before .before .before .before .is-sound .ensures) ∙ not-false _ (c .before .before .before .before .before .before .before .before .if3 .left)) (c .before .before .before .before .before .before .mirror-words .last .1 .0) (c .before .before .before .before .before .before .mirror-words .ensures) in (r .0, c .before .before .zero-words3 .ensures ∙ r .1)
+returns-4 c =
+    let words = c .before .before .before .before .before .before .before .before .before .before .before .before .before .before .args .words .now in
+    let pool = c .before .before .before .before .before .before .before .before .before .before .before .before .before .before .args .pool .now in
+    let yes = sym (c .before .before .before .before .before .before .before .before .before .is-sound .ensures) ∙ not-false _ (c .before .before .before .before .before .before .before .before .if3 .left) in
+    let r = law.success words pool (c .before .before .before .before .before .before .before .before .before .before .before .if1 .left) (c .before .before .before .before .before .before .before .before .before .before .if2 .left) yes (c .before .before .before .before .before .before .mirror-words .last .1 .0) (c .before .before .before .before .before .before .mirror-words .ensures) in
+    (r .0, c .before .before .zero-words3 .ensures ∙ r .1)
 
 pub mirror-spec : {M : Type 1} → statement M
 mirror-spec =

@@ -30,7 +30,9 @@ same-length : tie.Need-same-length Inv-loop μ-loop
 same-length c = search needs
 
 returns : tie.Need-returns Inv-loop μ-loop
-returns c = law.branches-end (c .before .before .before .before .before .before .args .alts .now) (c .before .before .before .loop .out) (c .before .before .before .loop .bs .now) (c .before .before .before .loop .inv) (sym (c .before .before .first-word .ensures) ∙ c .enum-told .given .1)
+returns c =
+    let l = c .before .before .before .loop in
+    law.branches-end (c .before .before .before .before .before .before .args .alts .now) (l .out) (l .bs .now) (l .inv) (sym (c .before .before .first-word .ensures) ∙ c .enum-told .given .1)
 
 branch-inside-requires : tie.Need-branch-inside-requires Inv-loop μ-loop
 branch-inside-requires c κs = search needs
@@ -45,7 +47,11 @@ same-length-2 : tie.Need-same-length-2 Inv-loop μ-loop
 same-length-2 c = search needs
 
 returns-2 : tie.Need-returns-2 Inv-loop μ-loop
-returns-2 c = law.branches-unfit (c .before .before .before .before .before .before .before .loop .bs .now) (c .before .before .before .before .w .given .0 .0) (c .before .before .before .before .before .before .before .loop .inv .sound) (sym (c .before .before .before .before .before .before .first-word .ensures) ∙ c .before .before .before .before .w .given .1) (sym (c .before .before .branch-inside .ensures) ∙ c .enum-told2 .given .1)
+returns-2 c =
+    let l = c .before .before .before .before .before .before .before .loop in
+    let w = c .before .before .before .before .w .given in
+    let first = sym (c .before .before .before .before .before .before .first-word .ensures) ∙ w .1 in
+    law.branches-unfit (l .bs .now) (w .0 .0) (l .inv .sound) first (sym (c .before .before .branch-inside .ensures) ∙ c .enum-told2 .given .1)
 
 cast-whole : tie.Need-cast-whole Inv-loop μ-loop
 cast-whole c = search needs
@@ -54,19 +60,40 @@ add-whole : tie.Need-add-whole Inv-loop μ-loop
 add-whole c = search needs
 
 sub-to : tie.Need-sub-to Inv-loop μ-loop
-sub-to c = omega (arith, law.branch-fits (c .before .before .before .before .before .before .before .before .loop .bs .now) (c .before .before .before .before .before .w .given .0 .0) (c .before .k .given .0 .0) (c .before .before .before .before .before .before .before .before .loop .inv .sound) (sym (c .before .before .before .before .before .before .before .first-word .ensures) ∙ c .before .before .before .before .before .w .given .1) (sym (c .before .before .before .branch-inside .ensures) ∙ c .before .k .given .1), c .before .before .before .before .before .before .before .before .loop .inv .short)
+sub-to c =
+    let l = c .before .before .before .before .before .before .before .before .loop in
+    let w = c .before .before .before .before .before .w .given in
+    let k = c .before .k .given in
+    let first = sym (c .before .before .before .before .before .before .before .first-word .ensures) ∙ w .1 in
+    let inside = sym (c .before .before .before .branch-inside .ensures) ∙ k .1 in
+    let fits = law.branch-fits (l .bs .now) (w .0 .0) (k .0 .0) (l .inv .sound) first inside in
+    omega (arith, fits, l .inv .short)
 
 mul-out : tie.Need-mul-out Inv-loop μ-loop
 mul-out c = search needs
 
 slice-write-out : tie.Need-slice-write-out Inv-loop μ-loop
-slice-write-out c = omega (arith, law.branch-fits (c .before .before .before .before .before .before .before .before .loop .bs .now) (c .before .before .before .before .before .w .given .0 .0) (c .before .k .given .0 .0) (c .before .before .before .before .before .before .before .before .loop .inv .sound) (sym (c .before .before .before .before .before .before .before .first-word .ensures) ∙ c .before .before .before .before .before .w .given .1) (sym (c .before .before .before .branch-inside .ensures) ∙ c .before .k .given .1), c .before .before .before .before .before .before .before .before .loop .inv .short, c .before .before .before .before .before .before .before .before .loop .inv .size)
+slice-write-out c =
+    let l = c .before .before .before .before .before .before .before .before .loop in
+    let w = c .before .before .before .before .before .w .given in
+    let k = c .before .k .given in
+    let first = sym (c .before .before .before .before .before .before .before .first-word .ensures) ∙ w .1 in
+    let inside = sym (c .before .before .before .branch-inside .ensures) ∙ k .1 in
+    let fits = law.branch-fits (l .bs .now) (w .0 .0) (k .0 .0) (l .inv .sound) first inside in
+    omega (arith, fits, l .inv .short, l .inv .size)
 
 add-start : tie.Need-add-start Inv-loop μ-loop
 add-start c = search needs
 
 add-end : tie.Need-add-end Inv-loop μ-loop
-add-end c = omega (arith, law.branch-fits (c .before .before .before .before .before .before .before .before .loop .bs .now) (c .before .before .before .before .before .w .given .0 .0) (c .before .k .given .0 .0) (c .before .before .before .before .before .before .before .before .loop .inv .sound) (sym (c .before .before .before .before .before .before .before .first-word .ensures) ∙ c .before .before .before .before .before .w .given .1) (sym (c .before .before .before .branch-inside .ensures) ∙ c .before .k .given .1), c .before .before .before .before .before .before .before .before .loop .inv .short, c .before .before .before .before .before .before .before .before .before .before .before .pre .2)
+add-end c =
+    let l = c .before .before .before .before .before .before .before .before .loop in
+    let w = c .before .before .before .before .before .w .given in
+    let k = c .before .k .given in
+    let first = sym (c .before .before .before .before .before .before .before .first-word .ensures) ∙ w .1 in
+    let inside = sym (c .before .before .before .branch-inside .ensures) ∙ k .1 in
+    let fits = law.branch-fits (l .bs .now) (w .0 .0) (k .0 .0) (l .inv .sound) first inside in
+    omega (arith, fits, l .inv .short, c .before .before .before .before .before .before .before .before .before .before .before .pre .2)
 
 sub-reverse-into : tie.Need-sub-reverse-into Inv-loop μ-loop
 sub-reverse-into c = omega arith
@@ -75,7 +102,14 @@ part-reverse-into-start : tie.Need-part-reverse-into-start Inv-loop μ-loop
 part-reverse-into-start c = search needs
 
 part-reverse-into-end : tie.Need-part-reverse-into-end Inv-loop μ-loop
-part-reverse-into-end c = law.branch-fits (c .before .before .before .before .before .before .before .before .loop .bs .now) (c .before .before .before .before .before .w .given .0 .0) (c .before .k .given .0 .0) (c .before .before .before .before .before .before .before .before .loop .inv .sound) (sym (c .before .before .before .before .before .before .before .first-word .ensures) ∙ c .before .before .before .before .before .w .given .1) (sym (c .before .before .before .branch-inside .ensures) ∙ c .before .k .given .1)
+part-reverse-into-end c =
+    let l = c .before .before .before .before .before .before .before .before .loop in
+    let w = c .before .before .before .before .before .w .given in
+    let k = c .before .k .given in
+    let first = sym (c .before .before .before .before .before .before .before .first-word .ensures) ∙ w .1 in
+    let inside = sym (c .before .before .before .branch-inside .ensures) ∙ k .1 in
+    let fits = law.branch-fits (l .bs .now) (w .0 .0) (k .0 .0) (l .inv .sound) first inside in
+    fits
 
 mul-reverse-into : tie.Need-mul-reverse-into Inv-loop μ-loop
 mul-reverse-into c = search needs
@@ -87,28 +121,72 @@ part-reverse-into-start-2 : tie.Need-part-reverse-into-start-2 Inv-loop μ-loop
 part-reverse-into-start-2 c = search needs
 
 part-reverse-into-end-2 : tie.Need-part-reverse-into-end-2 Inv-loop μ-loop
-part-reverse-into-end-2 c = simp length-set (omega (arith, law.branch-fits (c .before .before .before .before .before .before .before .before .before .loop .bs .now) (c .before .before .before .before .before .before .w .given .0 .0) (c .before .before .k .given .0 .0) (c .before .before .before .before .before .before .before .before .before .loop .inv .sound) (sym (c .before .before .before .before .before .before .before .before .first-word .ensures) ∙ c .before .before .before .before .before .before .w .given .1) (sym (c .before .before .before .before .branch-inside .ensures) ∙ c .before .before .k .given .1), c .before .before .before .before .before .before .before .before .before .loop .inv .short, c .before .before .before .before .before .before .before .before .before .loop .inv .size))
+part-reverse-into-end-2 c =
+    let l = c .before .before .before .before .before .before .before .before .before .loop in
+    let w = c .before .before .before .before .before .before .w .given in
+    let k = c .before .before .k .given in
+    let first = sym (c .before .before .before .before .before .before .before .before .first-word .ensures) ∙ w .1 in
+    let inside = sym (c .before .before .before .before .branch-inside .ensures) ∙ k .1 in
+    let fits = law.branch-fits (l .bs .now) (w .0 .0) (k .0 .0) (l .inv .sound) first inside in
+    simp length-set (omega (arith, fits, l .inv .short, l .inv .size))
 
 reverse-into-requires : tie.Need-reverse-into-requires Inv-loop μ-loop
-reverse-into-requires c κs = law.both-are (law.inside-length (c .before .before .before .before .before .before .before .before .before .before .loop .bs .now) (c .before .before .before .k .given .0 .0) (law.branch-fits (c .before .before .before .before .before .before .before .before .before .before .loop .bs .now) (c .before .before .before .before .before .before .before .w .given .0 .0) (c .before .before .before .k .given .0 .0) (c .before .before .before .before .before .before .before .before .before .before .loop .inv .sound) (sym (c .before .before .before .before .before .before .before .before .before .first-word .ensures) ∙ c .before .before .before .before .before .before .before .w .given .1) (sym (c .before .before .before .before .before .branch-inside .ensures) ∙ c .before .before .before .k .given .1))) (simp (length-take, length-drop, length-set) (omega (arith, law.branch-fits (c .before .before .before .before .before .before .before .before .before .before .loop .bs .now) (c .before .before .before .before .before .before .before .w .given .0 .0) (c .before .before .before .k .given .0 .0) (c .before .before .before .before .before .before .before .before .before .before .loop .inv .sound) (sym (c .before .before .before .before .before .before .before .before .before .first-word .ensures) ∙ c .before .before .before .before .before .before .before .w .given .1) (sym (c .before .before .before .before .before .branch-inside .ensures) ∙ c .before .before .before .k .given .1), c .before .before .before .before .before .before .before .before .before .before .loop .inv .short, c .before .before .before .before .before .before .before .before .before .before .loop .inv .size)))
+reverse-into-requires c κs =
+    let l = c .before .before .before .before .before .before .before .before .before .before .loop in
+    let w = c .before .before .before .before .before .before .before .w .given in
+    let k = c .before .before .before .k .given in
+    let first = sym (c .before .before .before .before .before .before .before .before .before .first-word .ensures) ∙ w .1 in
+    let inside = sym (c .before .before .before .before .before .branch-inside .ensures) ∙ k .1 in
+    let fits = law.branch-fits (l .bs .now) (w .0 .0) (k .0 .0) (l .inv .sound) first inside in
+    law.both-are (law.inside-length (l .bs .now) (k .0 .0) fits) (simp (length-take, length-drop, length-set) (omega (arith, fits, l .inv .short, l .inv .size)))
 
 mul-bs : tie.Need-mul-bs Inv-loop μ-loop
 mul-bs c = search needs
 
 sub-bs : tie.Need-sub-bs Inv-loop μ-loop
-sub-bs c = law.branch-fits (c .before .before .before .before .before .before .before .before .before .before .before .before .before .loop .bs .now) (c .before .before .before .before .before .before .before .before .before .before .w .given .0 .0) (c .before .before .before .before .before .before .k .given .0 .0) (c .before .before .before .before .before .before .before .before .before .before .before .before .before .loop .inv .sound) (sym (c .before .before .before .before .before .before .before .before .before .before .before .before .first-word .ensures) ∙ c .before .before .before .before .before .before .before .before .before .before .w .given .1) (sym (c .before .before .before .before .before .before .before .before .branch-inside .ensures) ∙ c .before .before .before .before .before .before .k .given .1)
+sub-bs c =
+    let l = c .before .before .before .before .before .before .before .before .before .before .before .before .before .loop in
+    let w = c .before .before .before .before .before .before .before .before .before .before .w .given in
+    let k = c .before .before .before .before .before .before .k .given in
+    let first = sym (c .before .before .before .before .before .before .before .before .before .before .before .before .first-word .ensures) ∙ w .1 in
+    let inside = sym (c .before .before .before .before .before .before .before .before .branch-inside .ensures) ∙ k .1 in
+    let fits = law.branch-fits (l .bs .now) (w .0 .0) (k .0 .0) (l .inv .sound) first inside in
+    fits
 
 part-bs-start : tie.Need-part-bs-start Inv-loop μ-loop
-part-bs-start c = law.branch-fits (c .before .before .before .before .before .before .before .before .before .before .before .before .before .loop .bs .now) (c .before .before .before .before .before .before .before .before .before .before .w .given .0 .0) (c .before .before .before .before .before .before .k .given .0 .0) (c .before .before .before .before .before .before .before .before .before .before .before .before .before .loop .inv .sound) (sym (c .before .before .before .before .before .before .before .before .before .before .before .before .first-word .ensures) ∙ c .before .before .before .before .before .before .before .before .before .before .w .given .1) (sym (c .before .before .before .before .before .before .before .before .branch-inside .ensures) ∙ c .before .before .before .before .before .before .k .given .1)
+part-bs-start c =
+    let l = c .before .before .before .before .before .before .before .before .before .before .before .before .before .loop in
+    let w = c .before .before .before .before .before .before .before .before .before .before .w .given in
+    let k = c .before .before .before .before .before .before .k .given in
+    let first = sym (c .before .before .before .before .before .before .before .before .before .before .before .before .first-word .ensures) ∙ w .1 in
+    let inside = sym (c .before .before .before .before .before .before .before .before .branch-inside .ensures) ∙ k .1 in
+    let fits = law.branch-fits (l .bs .now) (w .0 .0) (k .0 .0) (l .inv .sound) first inside in
+    fits
 
 part-bs-end : tie.Need-part-bs-end Inv-loop μ-loop
 part-bs-end c = search needs
 
 loop-less : tie.Need-loop-less Inv-loop μ-loop
-loop-less c = law.left-less (c .before .before .before .before .before .before .before .before .before .before .before .before .before .before .loop .bs .now) (c .before .before .before .before .before .before .before .k .given .0 .0) (law.branch-fits (c .before .before .before .before .before .before .before .before .before .before .before .before .before .before .loop .bs .now) (c .before .before .before .before .before .before .before .before .before .before .before .w .given .0 .0) (c .before .before .before .before .before .before .before .k .given .0 .0) (c .before .before .before .before .before .before .before .before .before .before .before .before .before .before .loop .inv .sound) (sym (c .before .before .before .before .before .before .before .before .before .before .before .before .before .first-word .ensures) ∙ c .before .before .before .before .before .before .before .before .before .before .before .w .given .1) (sym (c .before .before .before .before .before .before .before .before .before .branch-inside .ensures) ∙ c .before .before .before .before .before .before .before .k .given .1))
+loop-less c =
+    let l = c .before .before .before .before .before .before .before .before .before .before .before .before .before .before .loop in
+    let w = c .before .before .before .before .before .before .before .before .before .before .before .w .given in
+    let k = c .before .before .before .before .before .before .before .k .given in
+    let first = sym (c .before .before .before .before .before .before .before .before .before .before .before .before .before .first-word .ensures) ∙ w .1 in
+    let inside = sym (c .before .before .before .before .before .before .before .before .before .branch-inside .ensures) ∙ k .1 in
+    let fits = law.branch-fits (l .bs .now) (w .0 .0) (k .0 .0) (l .inv .sound) first inside in
+    law.left-less (l .bs .now) (k .0 .0) fits
 
 loop-again : tie.Need-loop-again Inv-loop μ-loop
-loop-again c = law.branch-turn (c .before .before .before .before .before .before .before .before .before .before .before .before .before .before .loop .bs .now) (c .before .before .before .before .before .before .before .before .before .before .before .w .given .0 .0) (c .before .before .before .before .before .before .before .k .given .0 .0) (c .before .before .before .before .before .before .before .before .before .before .before .before .before .before .loop .inv .sound) (sym (c .before .before .before .before .before .before .before .before .before .before .before .before .before .first-word .ensures) ∙ c .before .before .before .before .before .before .before .before .before .before .before .w .given .1) (sym (c .before .before .before .before .before .before .before .before .before .branch-inside .ensures) ∙ c .before .before .before .before .before .before .before .k .given .1) (c .before .before .before .before .before .before .before .before .before .before .before .before .before .before .before .before .before .args .alts .now) (c .before .before .before .before .before .before .before .before .before .before .before .before .before .before .loop .out) (c .before .before .before .reverse-into .last .1 .0) (c .before .before .before .before .before .before .before .before .before .before .before .before .before .before .loop .inv) (c .before .before .before .reverse-into .ensures) (c .before .before .before .reverse-into .kept .1 .0 ∙ law.places-length (c .before .before .before .before .before .before .before .before .before .before .before .before .before .before .loop .bs .now) (c .before .before .before .before .before .before .before .k .given .0 .0) (law.branch-fits (c .before .before .before .before .before .before .before .before .before .before .before .before .before .before .loop .bs .now) (c .before .before .before .before .before .before .before .before .before .before .before .w .given .0 .0) (c .before .before .before .before .before .before .before .k .given .0 .0) (c .before .before .before .before .before .before .before .before .before .before .before .before .before .before .loop .inv .sound) (sym (c .before .before .before .before .before .before .before .before .before .before .before .before .before .first-word .ensures) ∙ c .before .before .before .before .before .before .before .before .before .before .before .w .given .1) (sym (c .before .before .before .before .before .before .before .before .before .branch-inside .ensures) ∙ c .before .before .before .before .before .before .before .k .given .1)) (c .before .before .before .before .before .before .before .before .before .before .before .before .before .before .loop .out) (c .before .before .before .before .before .before .before .before .before .before .before .w .given .0 .0) (length (c .before .before .before .before .before .before .before .before .before .before .before .before .before .before .before .before .before .args .alts .now) - length (c .before .before .before .before .before .before .before .before .before .before .before .before .before .before .loop .bs .now)) ((length (c .before .before .before .before .before .before .before .before .before .before .before .before .before .before .before .before .before .args .alts .now) - length (c .before .before .before .before .before .before .before .before .before .before .before .before .before .before .loop .bs .now)) + (1 + (c .before .before .before .before .before .before .before .k .given .0 .0))) refl (omega (arith, law.branch-fits (c .before .before .before .before .before .before .before .before .before .before .before .before .before .before .loop .bs .now) (c .before .before .before .before .before .before .before .before .before .before .before .w .given .0 .0) (c .before .before .before .before .before .before .before .k .given .0 .0) (c .before .before .before .before .before .before .before .before .before .before .before .before .before .before .loop .inv .sound) (sym (c .before .before .before .before .before .before .before .before .before .before .before .before .before .first-word .ensures) ∙ c .before .before .before .before .before .before .before .before .before .before .before .w .given .1) (sym (c .before .before .before .before .before .before .before .before .before .branch-inside .ensures) ∙ c .before .before .before .before .before .before .before .k .given .1), c .before .before .before .before .before .before .before .before .before .before .before .before .before .before .loop .inv .short, c .before .before .before .before .before .before .before .before .before .before .before .before .before .before .loop .inv .size)))
+loop-again c =
+    let l = c .before .before .before .before .before .before .before .before .before .before .before .before .before .before .loop in
+    let w = c .before .before .before .before .before .before .before .before .before .before .before .w .given in
+    let k = c .before .before .before .before .before .before .before .k .given in
+    let first = sym (c .before .before .before .before .before .before .before .before .before .before .before .before .before .first-word .ensures) ∙ w .1 in
+    let inside = sym (c .before .before .before .before .before .before .before .before .before .branch-inside .ensures) ∙ k .1 in
+    let fits = law.branch-fits (l .bs .now) (w .0 .0) (k .0 .0) (l .inv .sound) first inside in
+    let to = length (c .before .before .before .before .before .before .before .before .before .before .before .before .before .before .before .before .before .args .alts .now) - length (l .bs .now) in
+    let places = law.places-length (l .bs .now) (k .0 .0) fits (l .out) (w .0 .0) to (to + (1 + k .0 .0)) refl (omega (arith, fits, l .inv .short, l .inv .size)) in
+    law.branch-turn (l .bs .now) (w .0 .0) (k .0 .0) (l .inv .sound) first inside (c .before .before .before .before .before .before .before .before .before .before .before .before .before .before .before .before .before .args .alts .now) (l .out) (c .before .before .before .reverse-into .last .1 .0) (l .inv) (c .before .before .before .reverse-into .ensures) (c .before .before .before .reverse-into .kept .1 .0 ∙ places)
 
 pub mirror-branches-spec : {M : Type 1} → statement M
 mirror-branches-spec =

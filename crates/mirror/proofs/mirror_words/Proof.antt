@@ -30,7 +30,9 @@ same-length : tie.Need-same-length Inv-loop μ-loop
 same-length c = search needs
 
 returns : tie.Need-returns Inv-loop μ-loop
-returns c = law.items-end (c .before .before .before .before .before .before .args .words .now) (c .before .before .before .loop .out) (c .before .before .before .loop .ns .now) (c .before .before .before .loop .inv) (sym (c .before .before .first-word .ensures) ∙ c .enum-told .given .1)
+returns c =
+    let l = c .before .before .before .loop in
+    law.items-end (c .before .before .before .before .before .before .args .words .now) (l .out) (l .ns .now) (l .inv) (sym (c .before .before .first-word .ensures) ∙ c .enum-told .given .1)
 
 item-inside-requires : tie.Need-item-inside-requires Inv-loop μ-loop
 item-inside-requires c κs = search needs
@@ -45,7 +47,11 @@ same-length-2 : tie.Need-same-length-2 Inv-loop μ-loop
 same-length-2 c = search needs
 
 returns-2 : tie.Need-returns-2 Inv-loop μ-loop
-returns-2 c = law.items-unfit (c .before .before .before .before .before .before .before .loop .ns .now) (c .before .before .before .before .w .given .0 .0) (c .before .before .before .before .before .before .before .loop .inv .sound) (sym (c .before .before .before .before .before .before .first-word .ensures) ∙ c .before .before .before .before .w .given .1) (sym (c .before .before .item-inside .ensures) ∙ c .enum-told2 .given .1)
+returns-2 c =
+    let l = c .before .before .before .before .before .before .before .loop in
+    let w = c .before .before .before .before .w .given in
+    let first = sym (c .before .before .before .before .before .before .first-word .ensures) ∙ w .1 in
+    law.items-unfit (l .ns .now) (w .0 .0) (l .inv .sound) first (sym (c .before .before .item-inside .ensures) ∙ c .enum-told2 .given .1)
 
 cast-whole : tie.Need-cast-whole Inv-loop μ-loop
 cast-whole c = search needs
@@ -54,13 +60,27 @@ add-whole : tie.Need-add-whole Inv-loop μ-loop
 add-whole c = search needs
 
 sub-to : tie.Need-sub-to Inv-loop μ-loop
-sub-to c = law.item-fits (c .before .before .before .before .before .before .before .before .loop .ns .now) (c .before .before .before .before .before .w .given .0 .0) (c .before .k .given .0 .0) (c .before .before .before .before .before .before .before .before .loop .inv .sound) (sym (c .before .before .before .before .before .before .before .first-word .ensures) ∙ c .before .before .before .before .before .w .given .1) (sym (c .before .before .before .item-inside .ensures) ∙ c .before .k .given .1)
+sub-to c =
+    let l = c .before .before .before .before .before .before .before .before .loop in
+    let w = c .before .before .before .before .before .w .given in
+    let k = c .before .k .given in
+    let first = sym (c .before .before .before .before .before .before .before .first-word .ensures) ∙ w .1 in
+    let inside = sym (c .before .before .before .item-inside .ensures) ∙ k .1 in
+    let fits = law.item-fits (l .ns .now) (w .0 .0) (k .0 .0) (l .inv .sound) first inside in
+    fits
 
 mul-out : tie.Need-mul-out Inv-loop μ-loop
 mul-out c = search needs
 
 slice-write-out : tie.Need-slice-write-out Inv-loop μ-loop
-slice-write-out c = omega (arith, law.item-fits (c .before .before .before .before .before .before .before .before .loop .ns .now) (c .before .before .before .before .before .w .given .0 .0) (c .before .k .given .0 .0) (c .before .before .before .before .before .before .before .before .loop .inv .sound) (sym (c .before .before .before .before .before .before .before .first-word .ensures) ∙ c .before .before .before .before .before .w .given .1) (sym (c .before .before .before .item-inside .ensures) ∙ c .before .k .given .1), c .before .before .before .before .before .before .before .before .loop .inv .short, c .before .before .before .before .before .before .before .before .loop .inv .size)
+slice-write-out c =
+    let l = c .before .before .before .before .before .before .before .before .loop in
+    let w = c .before .before .before .before .before .w .given in
+    let k = c .before .k .given in
+    let first = sym (c .before .before .before .before .before .before .before .first-word .ensures) ∙ w .1 in
+    let inside = sym (c .before .before .before .item-inside .ensures) ∙ k .1 in
+    let fits = law.item-fits (l .ns .now) (w .0 .0) (k .0 .0) (l .inv .sound) first inside in
+    omega (arith, fits, l .inv .short, l .inv .size)
 
 add-start : tie.Need-add-start Inv-loop μ-loop
 add-start c = search needs
@@ -72,40 +92,107 @@ part-mirror-branches-start : tie.Need-part-mirror-branches-start Inv-loop μ-loo
 part-mirror-branches-start c = search needs
 
 part-mirror-branches-end : tie.Need-part-mirror-branches-end Inv-loop μ-loop
-part-mirror-branches-end c = law.item-fits (c .before .before .before .before .before .before .before .before .loop .ns .now) (c .before .before .before .before .before .w .given .0 .0) (c .before .k .given .0 .0) (c .before .before .before .before .before .before .before .before .loop .inv .sound) (sym (c .before .before .before .before .before .before .before .first-word .ensures) ∙ c .before .before .before .before .before .w .given .1) (sym (c .before .before .before .item-inside .ensures) ∙ c .before .k .given .1)
+part-mirror-branches-end c =
+    let l = c .before .before .before .before .before .before .before .before .loop in
+    let w = c .before .before .before .before .before .w .given in
+    let k = c .before .k .given in
+    let first = sym (c .before .before .before .before .before .before .before .first-word .ensures) ∙ w .1 in
+    let inside = sym (c .before .before .before .item-inside .ensures) ∙ k .1 in
+    let fits = law.item-fits (l .ns .now) (w .0 .0) (k .0 .0) (l .inv .sound) first inside in
+    fits
 
 mul-mirror-branches : tie.Need-mul-mirror-branches Inv-loop μ-loop
 mul-mirror-branches c = search needs
 
 sub-mirror-branches-2 : tie.Need-sub-mirror-branches-2 Inv-loop μ-loop
-sub-mirror-branches-2 c = omega (arith, law.item-fits (c .before .before .before .before .before .before .before .before .before .loop .ns .now) (c .before .before .before .before .before .before .w .given .0 .0) (c .before .before .k .given .0 .0) (c .before .before .before .before .before .before .before .before .before .loop .inv .sound) (sym (c .before .before .before .before .before .before .before .before .first-word .ensures) ∙ c .before .before .before .before .before .before .w .given .1) (sym (c .before .before .before .before .item-inside .ensures) ∙ c .before .before .k .given .1))
+sub-mirror-branches-2 c =
+    let l = c .before .before .before .before .before .before .before .before .before .loop in
+    let w = c .before .before .before .before .before .before .w .given in
+    let k = c .before .before .k .given in
+    let first = sym (c .before .before .before .before .before .before .before .before .first-word .ensures) ∙ w .1 in
+    let inside = sym (c .before .before .before .before .item-inside .ensures) ∙ k .1 in
+    let fits = law.item-fits (l .ns .now) (w .0 .0) (k .0 .0) (l .inv .sound) first inside in
+    omega (arith, fits)
 
 part-mirror-branches-start-2 : tie.Need-part-mirror-branches-start-2 Inv-loop μ-loop
-part-mirror-branches-start-2 c = omega (arith, law.item-fits (c .before .before .before .before .before .before .before .before .before .loop .ns .now) (c .before .before .before .before .before .before .w .given .0 .0) (c .before .before .k .given .0 .0) (c .before .before .before .before .before .before .before .before .before .loop .inv .sound) (sym (c .before .before .before .before .before .before .before .before .first-word .ensures) ∙ c .before .before .before .before .before .before .w .given .1) (sym (c .before .before .before .before .item-inside .ensures) ∙ c .before .before .k .given .1))
+part-mirror-branches-start-2 c =
+    let l = c .before .before .before .before .before .before .before .before .before .loop in
+    let w = c .before .before .before .before .before .before .w .given in
+    let k = c .before .before .k .given in
+    let first = sym (c .before .before .before .before .before .before .before .before .first-word .ensures) ∙ w .1 in
+    let inside = sym (c .before .before .before .before .item-inside .ensures) ∙ k .1 in
+    let fits = law.item-fits (l .ns .now) (w .0 .0) (k .0 .0) (l .inv .sound) first inside in
+    omega (arith, fits)
 
 part-mirror-branches-end-2 : tie.Need-part-mirror-branches-end-2 Inv-loop μ-loop
-part-mirror-branches-end-2 c = omega (arith, law.item-fits (c .before .before .before .before .before .before .before .before .before .loop .ns .now) (c .before .before .before .before .before .before .w .given .0 .0) (c .before .before .k .given .0 .0) (c .before .before .before .before .before .before .before .before .before .loop .inv .sound) (sym (c .before .before .before .before .before .before .before .before .first-word .ensures) ∙ c .before .before .before .before .before .before .w .given .1) (sym (c .before .before .before .before .item-inside .ensures) ∙ c .before .before .k .given .1), c .before .before .before .before .before .before .before .before .before .loop .inv .short, c .before .before .before .before .before .before .before .before .before .loop .inv .size, length-set (c .before .before .before .before .before .before .before .before .before .loop .out) (length (c .before .before .before .before .before .before .before .before .before .loop .ns .now) - (1 + (c .before .before .k .given .0 .0))) (c .before .before .before .before .before .before .w .given .0 .0))
+part-mirror-branches-end-2 c =
+    let l = c .before .before .before .before .before .before .before .before .before .loop in
+    let w = c .before .before .before .before .before .before .w .given in
+    let k = c .before .before .k .given in
+    let first = sym (c .before .before .before .before .before .before .before .before .first-word .ensures) ∙ w .1 in
+    let inside = sym (c .before .before .before .before .item-inside .ensures) ∙ k .1 in
+    let fits = law.item-fits (l .ns .now) (w .0 .0) (k .0 .0) (l .inv .sound) first inside in
+    simp length-set (omega (arith, fits, l .inv .short, l .inv .size))
 
 mirror-branches-requires : tie.Need-mirror-branches-requires Inv-loop μ-loop
-mirror-branches-requires c κs = (law.item-inside (c .before .before .before .before .before .before .before .before .before .before .loop .ns .now) (c .before .before .before .before .before .before .before .w .given .0 .0) (c .before .before .before .k .given .0 .0) (c .before .before .before .before .before .before .before .before .before .before .loop .inv .sound) (sym (c .before .before .before .before .before .before .before .before .before .first-word .ensures) ∙ c .before .before .before .before .before .before .before .w .given .1) (sym (c .before .before .before .before .before .item-inside .ensures) ∙ c .before .before .before .k .given .1), law.places-length (c .before .before .before .before .before .before .before .before .before .before .loop .ns .now) (c .before .before .before .k .given .0 .0) (law.item-fits (c .before .before .before .before .before .before .before .before .before .before .loop .ns .now) (c .before .before .before .before .before .before .before .w .given .0 .0) (c .before .before .before .k .given .0 .0) (c .before .before .before .before .before .before .before .before .before .before .loop .inv .sound) (sym (c .before .before .before .before .before .before .before .before .before .first-word .ensures) ∙ c .before .before .before .before .before .before .before .w .given .1) (sym (c .before .before .before .before .before .item-inside .ensures) ∙ c .before .before .before .k .given .1)) (c .before .before .before .before .before .before .before .before .before .before .loop .out) (c .before .before .before .before .before .before .before .w .given .0 .0) (length (c .before .before .before .before .before .before .before .before .before .before .loop .ns .now) - (1 + (c .before .before .before .k .given .0 .0))) (length (c .before .before .before .before .before .before .before .before .before .before .loop .ns .now)) (omega (arith, law.item-fits (c .before .before .before .before .before .before .before .before .before .before .loop .ns .now) (c .before .before .before .before .before .before .before .w .given .0 .0) (c .before .before .before .k .given .0 .0) (c .before .before .before .before .before .before .before .before .before .before .loop .inv .sound) (sym (c .before .before .before .before .before .before .before .before .before .first-word .ensures) ∙ c .before .before .before .before .before .before .before .w .given .1) (sym (c .before .before .before .before .before .item-inside .ensures) ∙ c .before .before .before .k .given .1))) (omega (arith, law.item-fits (c .before .before .before .before .before .before .before .before .before .before .loop .ns .now) (c .before .before .before .before .before .before .before .w .given .0 .0) (c .before .before .before .k .given .0 .0) (c .before .before .before .before .before .before .before .before .before .before .loop .inv .sound) (sym (c .before .before .before .before .before .before .before .before .before .first-word .ensures) ∙ c .before .before .before .before .before .before .before .w .given .1) (sym (c .before .before .before .before .before .item-inside .ensures) ∙ c .before .before .before .k .given .1), c .before .before .before .before .before .before .before .before .before .before .loop .inv .short, c .before .before .before .before .before .before .before .before .before .before .loop .inv .size)) ∙ sym (law.inside-length (c .before .before .before .before .before .before .before .before .before .before .loop .ns .now) (c .before .before .before .k .given .0 .0) (law.item-fits (c .before .before .before .before .before .before .before .before .before .before .loop .ns .now) (c .before .before .before .before .before .before .before .w .given .0 .0) (c .before .before .before .k .given .0 .0) (c .before .before .before .before .before .before .before .before .before .before .loop .inv .sound) (sym (c .before .before .before .before .before .before .before .before .before .first-word .ensures) ∙ c .before .before .before .before .before .before .before .w .given .1) (sym (c .before .before .before .before .before .item-inside .ensures) ∙ c .before .before .before .k .given .1))), omega (arith, law.inside-length (c .before .before .before .before .before .before .before .before .before .before .loop .ns .now) (c .before .before .before .k .given .0 .0) (law.item-fits (c .before .before .before .before .before .before .before .before .before .before .loop .ns .now) (c .before .before .before .before .before .before .before .w .given .0 .0) (c .before .before .before .k .given .0 .0) (c .before .before .before .before .before .before .before .before .before .before .loop .inv .sound) (sym (c .before .before .before .before .before .before .before .before .before .first-word .ensures) ∙ c .before .before .before .before .before .before .before .w .given .1) (sym (c .before .before .before .before .before .item-inside .ensures) ∙ c .before .before .before .k .given .1)), law.item-fits (c .before .before .before .before .before .before .before .before .before .before .loop .ns .now) (c .before .before .before .before .before .before .before .w .given .0 .0) (c .before .before .before .k .given .0 .0) (c .before .before .before .before .before .before .before .before .before .before .loop .inv .sound) (sym (c .before .before .before .before .before .before .before .before .before .first-word .ensures) ∙ c .before .before .before .before .before .before .before .w .given .1) (sym (c .before .before .before .before .before .item-inside .ensures) ∙ c .before .before .before .k .given .1), c .before .before .before .before .before .before .before .before .before .before .loop .inv .short, c .before .before .before .before .before .before .before .before .before .before .before .before .before .pre .2))
+mirror-branches-requires c κs =
+    let l = c .before .before .before .before .before .before .before .before .before .before .loop in
+    let w = c .before .before .before .before .before .before .before .w .given in
+    let k = c .before .before .before .k .given in
+    let first = sym (c .before .before .before .before .before .before .before .before .before .first-word .ensures) ∙ w .1 in
+    let inside = sym (c .before .before .before .before .before .item-inside .ensures) ∙ k .1 in
+    let fits = law.item-fits (l .ns .now) (w .0 .0) (k .0 .0) (l .inv .sound) first inside in
+    let to = length (l .ns .now) - (1 + k .0 .0) in
+    let places = law.places-length (l .ns .now) (k .0 .0) fits (l .out) (w .0 .0) to (length (l .ns .now)) (omega (arith, fits)) (omega (arith, fits, l .inv .short, l .inv .size)) in
+    (law.item-inside (l .ns .now) (w .0 .0) (k .0 .0) (l .inv .sound) first inside, places ∙ sym (law.inside-length (l .ns .now) (k .0 .0) fits), omega (arith, law.inside-length (l .ns .now) (k .0 .0) fits, fits, l .inv .short, c .before .before .before .before .before .before .before .before .before .before .before .before .before .pre .2))
 
 mul-ns : tie.Need-mul-ns Inv-loop μ-loop
 mul-ns c = search needs
 
 sub-ns : tie.Need-sub-ns Inv-loop μ-loop
-sub-ns c = law.item-fits (c .before .before .before .before .before .before .before .before .before .before .before .before .before .loop .ns .now) (c .before .before .before .before .before .before .before .before .before .before .w .given .0 .0) (c .before .before .before .before .before .before .k .given .0 .0) (c .before .before .before .before .before .before .before .before .before .before .before .before .before .loop .inv .sound) (sym (c .before .before .before .before .before .before .before .before .before .before .before .before .first-word .ensures) ∙ c .before .before .before .before .before .before .before .before .before .before .w .given .1) (sym (c .before .before .before .before .before .before .before .before .item-inside .ensures) ∙ c .before .before .before .before .before .before .k .given .1)
+sub-ns c =
+    let l = c .before .before .before .before .before .before .before .before .before .before .before .before .before .loop in
+    let w = c .before .before .before .before .before .before .before .before .before .before .w .given in
+    let k = c .before .before .before .before .before .before .k .given in
+    let first = sym (c .before .before .before .before .before .before .before .before .before .before .before .before .first-word .ensures) ∙ w .1 in
+    let inside = sym (c .before .before .before .before .before .before .before .before .item-inside .ensures) ∙ k .1 in
+    let fits = law.item-fits (l .ns .now) (w .0 .0) (k .0 .0) (l .inv .sound) first inside in
+    fits
 
 part-ns-start : tie.Need-part-ns-start Inv-loop μ-loop
-part-ns-start c = law.item-fits (c .before .before .before .before .before .before .before .before .before .before .before .before .before .loop .ns .now) (c .before .before .before .before .before .before .before .before .before .before .w .given .0 .0) (c .before .before .before .before .before .before .k .given .0 .0) (c .before .before .before .before .before .before .before .before .before .before .before .before .before .loop .inv .sound) (sym (c .before .before .before .before .before .before .before .before .before .before .before .before .first-word .ensures) ∙ c .before .before .before .before .before .before .before .before .before .before .w .given .1) (sym (c .before .before .before .before .before .before .before .before .item-inside .ensures) ∙ c .before .before .before .before .before .before .k .given .1)
+part-ns-start c =
+    let l = c .before .before .before .before .before .before .before .before .before .before .before .before .before .loop in
+    let w = c .before .before .before .before .before .before .before .before .before .before .w .given in
+    let k = c .before .before .before .before .before .before .k .given in
+    let first = sym (c .before .before .before .before .before .before .before .before .before .before .before .before .first-word .ensures) ∙ w .1 in
+    let inside = sym (c .before .before .before .before .before .before .before .before .item-inside .ensures) ∙ k .1 in
+    let fits = law.item-fits (l .ns .now) (w .0 .0) (k .0 .0) (l .inv .sound) first inside in
+    fits
 
 part-ns-end : tie.Need-part-ns-end Inv-loop μ-loop
 part-ns-end c = search needs
 
 loop-less : tie.Need-loop-less Inv-loop μ-loop
-loop-less c = law.left-less (c .before .before .before .before .before .before .before .before .before .before .before .before .before .before .loop .ns .now) (c .before .before .before .before .before .before .before .k .given .0 .0) (law.item-fits (c .before .before .before .before .before .before .before .before .before .before .before .before .before .before .loop .ns .now) (c .before .before .before .before .before .before .before .before .before .before .before .w .given .0 .0) (c .before .before .before .before .before .before .before .k .given .0 .0) (c .before .before .before .before .before .before .before .before .before .before .before .before .before .before .loop .inv .sound) (sym (c .before .before .before .before .before .before .before .before .before .before .before .before .before .first-word .ensures) ∙ c .before .before .before .before .before .before .before .before .before .before .before .w .given .1) (sym (c .before .before .before .before .before .before .before .before .before .item-inside .ensures) ∙ c .before .before .before .before .before .before .before .k .given .1))
+loop-less c =
+    let l = c .before .before .before .before .before .before .before .before .before .before .before .before .before .before .loop in
+    let w = c .before .before .before .before .before .before .before .before .before .before .before .w .given in
+    let k = c .before .before .before .before .before .before .before .k .given in
+    let first = sym (c .before .before .before .before .before .before .before .before .before .before .before .before .before .first-word .ensures) ∙ w .1 in
+    let inside = sym (c .before .before .before .before .before .before .before .before .before .item-inside .ensures) ∙ k .1 in
+    let fits = law.item-fits (l .ns .now) (w .0 .0) (k .0 .0) (l .inv .sound) first inside in
+    law.left-less (l .ns .now) (k .0 .0) fits
 
 loop-again : tie.Need-loop-again Inv-loop μ-loop
-loop-again c = law.item-turn (c .before .before .before .before .before .before .before .before .before .before .before .before .before .before .loop .ns .now) (c .before .before .before .before .before .before .before .before .before .before .before .w .given .0 .0) (c .before .before .before .before .before .before .before .k .given .0 .0) (c .before .before .before .before .before .before .before .before .before .before .before .before .before .before .loop .inv .sound) (sym (c .before .before .before .before .before .before .before .before .before .before .before .before .before .first-word .ensures) ∙ c .before .before .before .before .before .before .before .before .before .before .before .w .given .1) (sym (c .before .before .before .before .before .before .before .before .before .item-inside .ensures) ∙ c .before .before .before .before .before .before .before .k .given .1) (c .before .before .before .before .before .before .before .before .before .before .before .before .before .before .before .before .before .args .words .now) (c .before .before .before .before .before .before .before .before .before .before .before .before .before .before .loop .out) (c .before .before .before .mirror-branches .last .1 .0) (c .before .before .before .before .before .before .before .before .before .before .before .before .before .before .loop .inv) (c .before .before .before .mirror-branches .ensures) (c .before .before .before .mirror-branches .kept .1 .0 ∙ law.places-length (c .before .before .before .before .before .before .before .before .before .before .before .before .before .before .loop .ns .now) (c .before .before .before .before .before .before .before .k .given .0 .0) (law.item-fits (c .before .before .before .before .before .before .before .before .before .before .before .before .before .before .loop .ns .now) (c .before .before .before .before .before .before .before .before .before .before .before .w .given .0 .0) (c .before .before .before .before .before .before .before .k .given .0 .0) (c .before .before .before .before .before .before .before .before .before .before .before .before .before .before .loop .inv .sound) (sym (c .before .before .before .before .before .before .before .before .before .before .before .before .before .first-word .ensures) ∙ c .before .before .before .before .before .before .before .before .before .before .before .w .given .1) (sym (c .before .before .before .before .before .before .before .before .before .item-inside .ensures) ∙ c .before .before .before .before .before .before .before .k .given .1)) (c .before .before .before .before .before .before .before .before .before .before .before .before .before .before .loop .out) (c .before .before .before .before .before .before .before .before .before .before .before .w .given .0 .0) (length (c .before .before .before .before .before .before .before .before .before .before .before .before .before .before .loop .ns .now) - (1 + (c .before .before .before .before .before .before .before .k .given .0 .0))) (length (c .before .before .before .before .before .before .before .before .before .before .before .before .before .before .loop .ns .now)) (omega (arith, law.item-fits (c .before .before .before .before .before .before .before .before .before .before .before .before .before .before .loop .ns .now) (c .before .before .before .before .before .before .before .before .before .before .before .w .given .0 .0) (c .before .before .before .before .before .before .before .k .given .0 .0) (c .before .before .before .before .before .before .before .before .before .before .before .before .before .before .loop .inv .sound) (sym (c .before .before .before .before .before .before .before .before .before .before .before .before .before .first-word .ensures) ∙ c .before .before .before .before .before .before .before .before .before .before .before .w .given .1) (sym (c .before .before .before .before .before .before .before .before .before .item-inside .ensures) ∙ c .before .before .before .before .before .before .before .k .given .1))) (omega (arith, law.item-fits (c .before .before .before .before .before .before .before .before .before .before .before .before .before .before .loop .ns .now) (c .before .before .before .before .before .before .before .before .before .before .before .w .given .0 .0) (c .before .before .before .before .before .before .before .k .given .0 .0) (c .before .before .before .before .before .before .before .before .before .before .before .before .before .before .loop .inv .sound) (sym (c .before .before .before .before .before .before .before .before .before .before .before .before .before .first-word .ensures) ∙ c .before .before .before .before .before .before .before .before .before .before .before .w .given .1) (sym (c .before .before .before .before .before .before .before .before .before .item-inside .ensures) ∙ c .before .before .before .before .before .before .before .k .given .1), c .before .before .before .before .before .before .before .before .before .before .before .before .before .before .loop .inv .short, c .before .before .before .before .before .before .before .before .before .before .before .before .before .before .loop .inv .size)))
+loop-again c =
+    let l = c .before .before .before .before .before .before .before .before .before .before .before .before .before .before .loop in
+    let w = c .before .before .before .before .before .before .before .before .before .before .before .w .given in
+    let k = c .before .before .before .before .before .before .before .k .given in
+    let first = sym (c .before .before .before .before .before .before .before .before .before .before .before .before .before .first-word .ensures) ∙ w .1 in
+    let inside = sym (c .before .before .before .before .before .before .before .before .before .item-inside .ensures) ∙ k .1 in
+    let fits = law.item-fits (l .ns .now) (w .0 .0) (k .0 .0) (l .inv .sound) first inside in
+    let to = length (l .ns .now) - (1 + k .0 .0) in
+    let places = law.places-length (l .ns .now) (k .0 .0) fits (l .out) (w .0 .0) to (length (l .ns .now)) (omega (arith, fits)) (omega (arith, fits, l .inv .short, l .inv .size)) in
+    law.item-turn (l .ns .now) (w .0 .0) (k .0 .0) (l .inv .sound) first inside (c .before .before .before .before .before .before .before .before .before .before .before .before .before .before .before .before .before .args .words .now) (l .out) (c .before .before .before .mirror-branches .last .1 .0) (l .inv) (c .before .before .before .mirror-branches .ensures) (c .before .before .before .mirror-branches .kept .1 .0 ∙ places)
 
 pub mirror-words-spec : {M : Type 1} → statement M
 mirror-words-spec =

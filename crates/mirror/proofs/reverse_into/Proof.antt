@@ -16,7 +16,11 @@ abbrev μ-loop : tie.MeasureT-loop
 μ-loop src dst₀ n i₀ dst i = length src - i
 
 loop-holds : tie.Need-loop-holds Inv-loop μ-loop
-loop-holds c = (omega arith, c .pre, law.reversed-none (c .args .src .now) (c .args .dst .now) (c .pre))
+loop-holds c =
+    let src = c .args .src .now in
+    let dst = c .args .dst .now in
+    let same = c .pre in
+    (omega arith, same, law.reversed-none src dst same)
 
 sub-to : tie.Need-sub-to Inv-loop μ-loop
 sub-to c = search needs
@@ -43,13 +47,23 @@ loop-less : tie.Need-loop-less Inv-loop μ-loop
 loop-less c = search needs
 
 loop-again : tie.Need-loop-again Inv-loop μ-loop
-loop-again c = (omega arith, length-set (c .before .before .loop .dst) _ _ ∙ c .before .before .loop .inv .1, ap (λ (x : List ℕ). set x (length (c .before .before .before .args .src .now) - 1 - c .before .before .loop .i) (getD (c .before .before .before .args .src .now) (c .before .before .loop .i) 0)) (c .before .before .loop .inv .2) ∙ law.reversed-more (c .before .before .before .args .src .now) (c .before .before .before .args .dst .now) (c .before .before .before .pre) (c .before .before .loop .i) (omega arith))
+loop-again c =
+    let src = c .before .before .before .args .src .now in
+    let dst = c .before .before .before .args .dst .now in
+    let same = c .before .before .before .pre in
+    let l = c .before .before .loop in
+    (omega arith, length-set (l .dst) _ _ ∙ l .inv .1, ap (λ (x : List ℕ). set x (length src - 1 - l .i) (getD src (l .i) 0)) (l .inv .2) ∙ law.reversed-more src dst same (l .i) (omega arith))
 
 same-length : tie.Need-same-length Inv-loop μ-loop
 same-length c = search needs
 
 returns : tie.Need-returns Inv-loop μ-loop
-returns c = c .before .loop .inv .2 ∙ law.reversed-all (c .before .before .args .src .now) (c .before .before .args .dst .now) (c .before .before .pre) (c .before .loop .i) (omega arith)
+returns c =
+    let src = c .before .before .args .src .now in
+    let dst = c .before .before .args .dst .now in
+    let same = c .before .before .pre in
+    let l = c .before .loop in
+    l .inv .2 ∙ law.reversed-all src dst same (l .i) (omega arith)
 
 pub reverse-into-spec : {M : Type 1} → statement M
 reverse-into-spec =
