@@ -19,3 +19,4 @@ pub mod TokenTest
 pub mod YaraExamples
 pub mod FieldLaws
 pub mod MadeLaws
+pub mod MirrorSteps

@@ -1,20 +1,18 @@
 -- A word taken apart into a node and made from it: on proper words the two are inverse. Assumes nothing.
 use mathlib.Core.Path.{_≡_, refl, sym, ap, _∙_, subst}
-use mathlib.Core.Bool.{Bool, true, false, cond, _&&_}
-use Prim.Native.Nat.{ℕ, _+_, _*_, _/_, _%_, _<_}
+use mathlib.Core.Bool.{Bool, true, false, _&&_}
+use Prim.Native.Nat.{ℕ, _*_, _/_, _%_, _<_}
 use native.Mathlib.Omega.{arith}
-use native.Mathlib.Nat.{mod-lt}
-use lib.Dec.{eqb, leb, ltb}
+use lib.Dec.{eqb, ltb}
 use borrow.Author.Tests.{eqb-true, ltb-true}
-use Rattle.meaning.specs.Programs.{Test, byte, mask, negatedMask, any, dot, Item, one, jump, range, alt}
+use Rattle.meaning.specs.Programs.{Test, byte, mask, negatedMask, any, dot, one, jump, range, alt}
 use Rattle.meaning.specs.Words.{fieldSize, word, kindOf, firstOf, secondOf, Shape, item, opens, mark, wrong, shapeBy, shape, properBy, proper}
 use Rattle.meaning.proofs.SoundLaws.{and-left, and-right, false-true}
 use Rattle.meaning.proofs.FieldLaws.{kind-made, first-made, second-made, word-made}
-use Rattle.nodes.specs.declared.ByteTest.{ByteTest}
 use Rattle.nodes.specs.declared.ByteTest.the-variants.{Byte, Mask, NegatedMask, Dot}
 use Rattle.nodes.specs.declared.Node.{Node}
 use Rattle.nodes.specs.declared.Node.the-variants.{One, Jump, JumpRange, Alternation, AltBranch, Bad}
-use Rattle.nodes.specs.Nodes.{testOf, shapeOf, testWord, wordOf, TestFits, NodeFits}
+use Rattle.nodes.specs.Nodes.{shapeOf, wordOf, NodeFits}
 
 -- what holds at each kind, and where the kind is none of them, holds
 by-kind : (P : ℕ → Type 0) (k : ℕ) → P 0 → P 1 → P 2 → P 3 → P 4 → P 5 → P 6 → P 7 → (eqb k 0 ≡ false → eqb k 1 ≡ false → eqb k 2 ≡ false → eqb k 3 ≡ false → eqb k 4 ≡ false → eqb k 5 ≡ false → eqb k 6 ≡ false → eqb k 7 ≡ false → P k) → P k

@@ -1,6 +1,7 @@
 -- The soundness test, a word at a time: the answer for some words is the answer for what is left. Assumes nothing.
 use mathlib.Core.Path.{_≡_, refl, sym, ap, _∙_}
 use mathlib.Core.Bool.{Bool, true, false, cond, _&&_}
+use mathlib.Core.Logic.{_⊎_, inl, inr}
 use mathlib.Core.List.{List, [], _∷_}
 use Prim.Native.Nat.{ℕ, _≤_, _<_}
 use native.Mathlib.Omega.{arith}
@@ -145,3 +146,24 @@ module _ (L : List ℕ) (w : ℕ) (e : firstWord L ≡ Word w) where
 
   pub plain-next : plainWord w ≡ true → plainWords (from 1 L) ≡ plainWords L
   plain-next h = sym (plain-first ∙ ap (λ (b : Bool). b && plainWords (from 1 L)) h)
+
+-- what the words inside tell of a word
+pub branch-mark : (w k : ℕ) → branchInside w ≡ Words k → shape w ≡ mark k
+branch-mark w k h = go (proper w) (shape w) refl h
+  where
+    go : (p : Bool) (s : Shape) → shape w ≡ s → cond p (inBranch s) Unfit ≡ Words k → shape w ≡ mark k
+    go false s e f = let z : _≡_ {A = ℕ} 0 1 = cc in absurd (omega arith)
+    go true (item i) e f = let z : _≡_ {A = ℕ} 0 1 = cc in absurd (omega arith)
+    go true (opens j) e f = let z : _≡_ {A = ℕ} 0 1 = cc in absurd (omega arith)
+    go true (mark j) e f = let z : j ≡ k = cc in e ∙ ap mark z
+    go true wrong e f = let z : _≡_ {A = ℕ} 0 1 = cc in absurd (omega arith)
+
+pub item-kind : (w k : ℕ) → itemInside w ≡ Words k → (shape w ≡ opens k) ⊎ ((i : Item) × (shape w ≡ item i) × (k ≡ 0))
+item-kind w k h = go (proper w) (shape w) refl h
+  where
+    go : (p : Bool) (s : Shape) → shape w ≡ s → cond p (inItem s) Unfit ≡ Words k → (shape w ≡ opens k) ⊎ ((i : Item) × (shape w ≡ item i) × (k ≡ 0))
+    go false s e f = let z : _≡_ {A = ℕ} 0 1 = cc in absurd (omega arith)
+    go true (item i) e f = let z : k ≡ 0 = cc in inr (i, e, z)
+    go true (opens j) e f = let z : j ≡ k = cc in inl (e ∙ ap opens z)
+    go true (mark j) e f = let z : _≡_ {A = ℕ} 0 1 = cc in absurd (omega arith)
+    go true wrong e f = let z : _≡_ {A = ℕ} 0 1 = cc in absurd (omega arith)

@@ -1,5 +1,5 @@
 -- What the soundness test asks of one word. Assumes nothing: these are definitions.
-use mathlib.Core.Bool.{Bool, true, false, cond, _&&_}
+use mathlib.Core.Bool.{Bool, false, cond, _&&_}
 use Prim.Native.Nat.{ℕ}
 use Rattle.meaning.specs.Words.{Shape, item, opens, mark, wrong, shape, proper, plain}
 use Rattle.sound.specs.declared.Inside.{Inside}

@@ -29,28 +29,50 @@ enum-told : tie.Need-enum-told Inv-loop μ-loop
 enum-told c = search needs
 
 returns : tie.Need-returns Inv-loop μ-loop
-returns c = law.plain-done (c .before .before .before .loop .ws .now) (sym (c .before .before .first-word .ensures) ∙ c .enum-told .given .1) ∙ c .before .before .before .loop .inv
+returns c =
+    let l = c .before .before .before .loop in
+    law.plain-done (l .ws .now) (sym (c .before .before .first-word .ensures) ∙ c .enum-told .given .1) ∙ l .inv
 
 plain-word-requires : tie.Need-plain-word-requires Inv-loop μ-loop
 plain-word-requires c κs = search needs
 
 returns-2 : tie.Need-returns-2 Inv-loop μ-loop
-returns-2 c = law.plain-other (c .before .before .before .before .before .before .loop .ws .now) (c .before .before .before .w .given .0 .0) (sym (c .before .before .before .before .before .first-word .ensures) ∙ c .before .before .before .w .given .1) (sym (c .before .plain-word .ensures) ∙ not-true _ (c .if1 .taken)) ∙ c .before .before .before .before .before .before .loop .inv
+returns-2 c =
+    let l = c .before .before .before .before .before .before .loop in
+    let w = c .before .before .before .w .given in
+    let first = sym (c .before .before .before .before .before .first-word .ensures) ∙ w .1 in
+    law.plain-other (l .ws .now) (w .0 .0) first (sym (c .before .plain-word .ensures) ∙ not-true _ (c .if1 .taken)) ∙ l .inv
 
 sub-ws : tie.Need-sub-ws Inv-loop μ-loop
-sub-ws c = heads.word-pos (c .before .before .before .before .before .before .loop .ws .now) (c .before .before .before .w .given .0 .0) (sym (c .before .before .before .before .before .first-word .ensures) ∙ c .before .before .before .w .given .1)
+sub-ws c =
+    let l = c .before .before .before .before .before .before .loop in
+    let w = c .before .before .before .w .given in
+    let first = sym (c .before .before .before .before .before .first-word .ensures) ∙ w .1 in
+    heads.word-pos (l .ws .now) (w .0 .0) first
 
 part-ws-start : tie.Need-part-ws-start Inv-loop μ-loop
-part-ws-start c = heads.word-pos (c .before .before .before .before .before .before .loop .ws .now) (c .before .before .before .w .given .0 .0) (sym (c .before .before .before .before .before .first-word .ensures) ∙ c .before .before .before .w .given .1)
+part-ws-start c =
+    let l = c .before .before .before .before .before .before .loop in
+    let w = c .before .before .before .w .given in
+    let first = sym (c .before .before .before .before .before .first-word .ensures) ∙ w .1 in
+    heads.word-pos (l .ws .now) (w .0 .0) first
 
 part-ws-end : tie.Need-part-ws-end Inv-loop μ-loop
 part-ws-end c = search needs
 
 loop-less : tie.Need-loop-less Inv-loop μ-loop
-loop-less c = omega (arith, heads.word-pos (c .before .before .before .before .before .before .before .loop .ws .now) (c .before .before .before .before .w .given .0 .0) (sym (c .before .before .before .before .before .before .first-word .ensures) ∙ c .before .before .before .before .w .given .1), heads.length-from 1 (c .before .before .before .before .before .before .before .loop .ws .now))
+loop-less c =
+    let l = c .before .before .before .before .before .before .before .loop in
+    let w = c .before .before .before .before .w .given in
+    let first = sym (c .before .before .before .before .before .before .first-word .ensures) ∙ w .1 in
+    omega (arith, heads.word-pos (l .ws .now) (w .0 .0) first, heads.length-from 1 (l .ws .now))
 
 loop-again : tie.Need-loop-again Inv-loop μ-loop
-loop-again c = law.plain-next (c .before .before .before .before .before .before .before .loop .ws .now) (c .before .before .before .before .w .given .0 .0) (sym (c .before .before .before .before .before .before .first-word .ensures) ∙ c .before .before .before .before .w .given .1) (sym (c .before .before .plain-word .ensures) ∙ not-false _ (c .before .if1 .left)) ∙ c .before .before .before .before .before .before .before .loop .inv
+loop-again c =
+    let l = c .before .before .before .before .before .before .before .loop in
+    let w = c .before .before .before .before .w .given in
+    let first = sym (c .before .before .before .before .before .before .first-word .ensures) ∙ w .1 in
+    law.plain-next (l .ws .now) (w .0 .0) first (sym (c .before .before .plain-word .ensures) ∙ not-false _ (c .before .if1 .left)) ∙ l .inv
 
 pub plain-words-spec : {M : Type 1} → statement M
 plain-words-spec =
