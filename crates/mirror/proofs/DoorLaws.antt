@@ -4,21 +4,15 @@ use mathlib.Core.Bool.{true, false}
 use mathlib.Core.List.{List, _++_}
 use Prim.Native.Nat.{ℕ, _+_, _-_, _≤_, _<_}
 use native.Mathlib.Omega.{arith}
-use lib.Dec.{leb}
 use lib.ListN.{length, take, drop}
 use lib.Seq.{drop-drop, length-take-le}
 use borrow.Author.Tests.{lt-ltb, le-ltb}
 use borrow.Rule.Slice.PartMut.{putMid}
-use Rattle.meaning.specs.Words.{Sound, sound, mirrorWords}
-use Rattle.meaning.proofs.SoundLaws.{and-right}
-use Rattle.meaning.proofs.MirrorWords.{mirror-size}
+use Rattle.meaning.specs.Words.{sound, mirrorWords}
+use Rattle.meaning.proofs.WordSpans.{mirrored-length}
 use Rattle.base.specs.Pools.{zeroed}
 use Rattle.base.proofs.PoolLaws.{zeroed-cleared, zeroed-filled}
 use Rattle.mirror.specs.MirrorDoor.{Said, mirrored, refused, mirrorSays, mirrorLeaves}
-
-pub sound-words : (ws : List ℕ) → sound ws ≡ true → Sound ws
-unfolding sound
-sound-words ws h = and-right (leb (length ws) 512) _ h
 
 module _ (words pool : List ℕ) where
   abbrev pub Right : Said → List ℕ → Type 0
@@ -52,7 +46,7 @@ module _ (words pool : List ℕ) where
       success h ys y =
           let a = le-ltb (length pool) 512 room in
           let b = le-ltb 512 (length words) few in
-          let n : length (mirrorWords words) ≡ length words = mirror-size words (sound-words words h) in
+          let n : length (mirrorWords words) ≡ length words = mirrored-length words h in
           let z : length words - 0 ≡ length (mirrorWords words) = omega arith in (
             rw (a, b, h) (ap mirrored (sym n)),
             rw (a, b, h) (

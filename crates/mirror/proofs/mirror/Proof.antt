@@ -1,6 +1,7 @@
 -- Each way out is a case of the definitions. Assumes nothing.
 use mathlib.Core.Path.{sym, _∙_}
 use borrow.Author.Tests.{not-true, not-false}
+use Rattle.meaning.proofs.WordSpans.{sound-words}
 use Rattle.mirror.proofs.DoorLaws as law
 use borrow.Author.Needs.{needs}
 use Rattle.mirror.proofs.mirror.Statement.{statement}
@@ -52,7 +53,7 @@ mirror-words-requires c κs =
     let words = c .before .before .before .before .before .before .before .args .words .now in
     let pool = c .before .before .before .before .before .before .before .args .pool .now in
     let yes = sym (c .before .before .is-sound .ensures) ∙ not-false _ (c .before .if3 .left) in
-    (law.sound-words words yes, law.lent-length words pool (c .before .before .before .before .if1 .left) (c .before .before .before .if2 .left), c .before .before .before .if2 .left)
+    (sound-words words yes, law.lent-length words pool (c .before .before .before .before .if1 .left) (c .before .before .before .if2 .left), c .before .before .before .if2 .left)
 
 zero-words-requires-3 : tie.Need-zero-words-requires-3
 zero-words-requires-3 c κs = search needs
