@@ -1,0 +1,146 @@
+// Translated from boreal's boreal/src/matcher/validator/simple.rs (MIT OR Apache-2.0), commit 7010b5e967; see NOTICE.
+// The words of one program, made from token entries, forwards or from every list read backwards.
+ghost use mathlib.Core.Path.{_≡_};
+ghost use mathlib.Core.Bool.{true};
+ghost use mathlib.Core.List.{_∷_, _++_};
+ghost use Prim.Native.Nat.{ℕ, _+_, _*_, _-_, _≤_, _<_};
+ghost use lib.ListN.{length, drop, set};
+ghost use Rattle.meaning.specs.Words.{word};
+ghost use Rattle.compiling.specs.ProgramWords.{wordsOf, wordsIn, nodes};
+ghost use Rattle.emit.specs.declared.Last.the-variants.{Grows};
+ghost use Rattle.emit.specs.declared.Piece.the-variants.{Gap};
+ghost use Rattle.emit.specs.Items.{entryItem, maskItem, notMaskItem, jumpItem, pieceOf, Behind, putCount, putLast, putOut, placeOf};
+use nodes::ByteTest;
+use nodes::Node;
+use nodes::node_word;
+
+// What a token of one entry adds: a node's word, or a jump, which may grow the last node.
+pub enum Piece {
+    Word(u32),
+    Gap(u8),
+}
+
+// The last node of a list: a jump, and its length, or anything else.
+pub enum Last {
+    Grows(u8),
+    Fixed,
+}
+
+// The words written so far, and the last node.
+pub struct Tail {
+    pub count: usize,
+    pub last: Last,
+}
+
+// `?X`, `X?` and `??`. The values that a text can spell are below 16: the remainder spares a requirement.
+fn mask_piece(a: u32, b: u32) -> Piece
+    ensures { λ r. ⌜ r ≡ pieceOf (maskItem a b) ⌝ }
+{
+    let v = (a % 16) as u8;
+    if b == 0 {
+        return Piece::Word(node_word(Node::One(ByteTest::Mask(v, 0x0F))));
+    }
+    if b == 1 {
+        return Piece::Word(node_word(Node::One(ByteTest::Mask(16 * v, 0xF0))));
+    }
+    Piece::Gap(1)
+}
+
+fn not_mask_piece(a: u32, b: u32) -> Piece
+    ensures { λ r. ⌜ r ≡ pieceOf (notMaskItem a b) ⌝ }
+{
+    let v = (a % 16) as u8;
+    if b == 0 {
+        return Piece::Word(node_word(Node::One(ByteTest::NegatedMask(v, 0x0F))));
+    }
+    if b == 1 {
+        return Piece::Word(node_word(Node::One(ByteTest::NegatedMask(16 * v, 0xF0))));
+    }
+    Piece::Word(node_word(Node::One(ByteTest::NegatedMask(0, 0))))
+}
+
+fn jump_piece(a: u8, b: u8) -> Piece
+    ensures { λ r. ⌜ r ≡ pieceOf (jumpItem a b) ⌝ }
+{
+    if a < b {
+        return Piece::Word(node_word(Node::JumpRange(a, b)));
+    }
+    Piece::Gap(a)
+}
+
+// What a token of one entry adds, by its kind and its first two values. Bytes that a text can spell and jumps that are simple
+// are below 256.
+pub fn entry_piece(kind: u32, a: u32, b: u32) -> Piece
+    ensures { λ r. ⌜ r ≡ pieceOf (entryItem kind a b) ⌝ }
+{
+    let v = (a % 256) as u8;
+    match kind {
+        0 => Piece::Word(node_word(Node::One(ByteTest::Byte(v)))),
+        1 => Piece::Word(node_word(Node::One(ByteTest::NegatedMask(v, 0xFF)))),
+        2 => mask_piece(a, b),
+        3 => not_mask_piece(a, b),
+        _ => jump_piece(v, (b % 256) as u8),
+    }
+}
+
+// A jump at the end.
+fn append_jump(out: &mut [u32], n: usize, len: u8) -> Tail
+    requires { ⌜ n < length (now out) ⌝ }
+    ensures { λ r. ⌜ (r .count ≡ n + 1) × (r .last ≡ Grows len) × (now (out .exit) ≡ set (now (out .entry)) n (word 3 len 0)) ⌝ }
+{
+    out[n] = node_word(Node::Jump(len));
+    Tail {
+        count: n + 1,
+        last: Last::Grows(len),
+    }
+}
+
+// Adding a jump enlarges the last node if that is a jump and the sum is at most 255, else appends.
+fn add_jump(out: &mut [u32], n: usize, last: Last, len: u8) -> Tail
+    requires { ⌜ (n < length (now out)) × Behind n last ⌝ }
+    ensures { λ r. ⌜ (r .count ≡ putCount n last (Gap len)) × (r .last ≡ putLast last (Gap len))
+        × (now (out .exit) ≡ putOut (now (out .entry)) n last (Gap len)) ⌝ }
+{
+    let Last::Grows(old) = last else {
+        return append_jump(out, n, len);
+    };
+    let sum = old as u32 + len as u32;
+    if 255 < sum {
+        return append_jump(out, n, len);
+    }
+    let at = n - 1;
+    out[at] = node_word(Node::Jump(sum as u8));
+    Tail {
+        count: n,
+        last: Last::Grows(sum as u8),
+    }
+}
+
+// One piece more after n words.
+fn add_piece(out: &mut [u32], n: usize, last: Last, piece: Piece) -> Tail
+    requires { ⌜ (n < length (now out)) × Behind n last ⌝ }
+    ensures { λ r. ⌜ (r .count ≡ putCount n last piece) × (r .last ≡ putLast last piece)
+        × (now (out .exit) ≡ putOut (now (out .entry)) n last piece) ⌝ }
+{
+    match piece {
+        Piece::Word(w) => {
+            out[n] = w;
+            Tail {
+                count: n + 1,
+                last: Last::Fixed,
+            }
+        }
+        Piece::Gap(len) => add_jump(out, n, last, len),
+    }
+}
+
+// Which of n tokens comes k-th.
+fn place(backwards: bool, n: usize, k: usize) -> usize
+    requires { ⌜ k < n ⌝ }
+    ensures { λ r. ⌜ (r ≡ placeOf backwards n k) × (r < n) ⌝ }
+{
+    if backwards {
+        return n - 1 - k;
+    }
+    k
+}

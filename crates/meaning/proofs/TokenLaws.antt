@@ -1,0 +1,38 @@
+-- The laws of tokens' spans: lists end to end. Assumes nothing.
+use mathlib.Core.Path.{_≡_, refl, sym, ap, _∙_, subst}
+use mathlib.Core.List.{List, [], _∷_, _++_, append-nil, append-assoc}
+use Prim.Native.Nat.{ℕ}
+use Rattle.meaning.specs.Tokens.{Token, Tokens, nothing, _then_, Matches, Spans, _⊕_}
+
+-- a token alone has the spans that it matches
+pub one-span : (t : Token) (s : List ℕ) → Matches t s → Spans (t then nothing) s
+unfolding Spans
+one-span t s h = (s, [], sym (append-nil s), h, refl)
+
+pub span-one : (t : Token) (s : List ℕ) → Spans (t then nothing) s → Matches t s
+unfolding Spans
+span-one t s (a, b, e, h, n) = subst (Matches t) (sym (e ∙ ap (λ (l : List ℕ). a ++ l) n ∙ append-nil a)) h
+
+-- laying one list after another joins their spans end to end, and nothing else
+pub join-spans : (ts us : Tokens) (s t : List ℕ) → Spans ts s → Spans us t → Spans (ts ⊕ us) (s ++ t)
+unfolding Spans _⊕_
+join-spans nothing us s t e h = subst (Spans us) (ap (λ (l : List ℕ). l ++ t) (sym e)) h
+join-spans (k then ts) us s t (a, b, e, f, g) h = (a, b ++ t, ap (λ (l : List ℕ). l ++ t) e ∙ append-assoc a b t, f, join-spans ts us b t g h)
+
+pub spans-join : (ts us : Tokens) (s : List ℕ) → Spans (ts ⊕ us) s → (a : List ℕ) × (b : List ℕ) × (s ≡ a ++ b) × Spans ts a × Spans us b
+unfolding Spans _⊕_
+spans-join nothing us s h = ([], s, refl, refl, h)
+spans-join (k then ts) us s (a, b, e, f, g) =
+    let r = spans-join ts us b g in
+    (a ++ r .0, r .1, e ∙ ap (λ (l : List ℕ). a ++ l) (r .2) ∙ sym (append-assoc a (r .0) (r .1)), (a, r .0, refl, f, r .3), r .4)
+
+-- lists, end to end
+pub nothing-after : (ts : Tokens) → ts ⊕ nothing ≡ ts
+unfolding _⊕_
+nothing-after nothing = refl
+nothing-after (k then ts) = ap (λ (us : Tokens). k then us) (nothing-after ts)
+
+pub after-assoc : (ts us vs : Tokens) → (ts ⊕ us) ⊕ vs ≡ ts ⊕ (us ⊕ vs)
+unfolding _⊕_
+after-assoc nothing us vs = refl
+after-assoc (k then ts) us vs = ap (λ (ws : Tokens). k then ws) (after-assoc ts us vs)

@@ -1,0 +1,4 @@
+-- What is known of reading.
+pub mod PieceLaws
+pub mod PieceSteps
+pub mod Samples
