@@ -48,8 +48,8 @@ pub fn forward(words: &[u32], hay: &[u8], start: usize, end: usize) -> Answer
     let Found::Left(left) = forward::check(words, &hay[start..end]) else {
         return Answer::NoMatch;
     };
-    let at = end - left;
-    Answer::At(at)
+    let after = end - left;
+    Answer::At(after)
 }
 
 // The reverse check of the window from start to end: the start of the first choice that fits at its end.

@@ -6,19 +6,13 @@ use mathlib.Core.List.{List}
 use Prim.Native.Nat.{ℕ, suc, _+_, _≤_}
 use native.Mathlib.Numerals.{add-one}
 use native.Mathlib.Omega.{arith}
-use lib.Dec.{leb}
 use lib.ListN.{length, take, drop}
 use Rattle.meaning.specs.Rows.{forward, backward}
-use Rattle.meaning.specs.Words.{prog, sound, soundWords, Sound}
-use Rattle.meaning.proofs.SoundLaws.{and-right}
+use Rattle.meaning.specs.Words.{prog, sound}
 use Rattle.steps.specs.declared.Found.the-variants.{Left, Nothing}
 use Rattle.steps.specs.Steps.{answer}
 use Rattle.steps.proofs.Answers.{answer-some, answer-none}
 use Rattle.hits.specs.Hits.{found, startIn, endIn, lastStart, lastEnd}
-
-pub sound-words : (ws : List ℕ) → true ≡ sound ws → Sound ws
-unfolding sound
-sound-words ws h = and-right (leb (length ws) 512) (soundWords (length ws) ws) (sym h)
 
 pub sound-start : (ws hay : List ℕ) (n : ℕ) → true ≡ sound ws → startIn ws hay n ≡ lastStart ws hay n
 sound-start ws hay n h = rw (sym h)

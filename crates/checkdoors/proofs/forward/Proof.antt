@@ -84,8 +84,8 @@ returns-2 c =
     let ok = sym (ap whyNot (c .before .before .before .before .enum-told .given .1)) ∙ c .before .before .before .before .before .before .admit .ensures in
     law.forward-none W H S E ok (sym (c .enum-told2 .given .1) ∙ c .before .before .check .ensures)
 
-sub-at : tie.Need-sub-at
-sub-at c =
+sub-after : tie.Need-sub-after
+sub-after c =
     let W = c .before .before .before .before .before .before .before .before .before .before .args .words .now in
     let H = c .before .before .before .before .before .before .before .before .before .before .args .hay .now in
     let S = c .before .before .before .before .before .before .before .before .before .before .args .start in
@@ -119,5 +119,5 @@ forward-spec =
     enum-known-left
     enum-told-2
     returns-2
-    sub-at
+    sub-after
     returns-3)

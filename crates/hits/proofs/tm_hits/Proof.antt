@@ -6,6 +6,7 @@ use lib.ListN.{length}
 use lib.Seq.{length-take-le}
 use Rattle.meaning.specs.Rows.{forward}
 use Rattle.meaning.specs.Words.{prog}
+use Rattle.meaning.proofs.WordSpans.{sound-words}
 use Rattle.nodes.proofs.WordHeads.{to-end}
 use Rattle.steps.specs.Steps.{answer}
 use Rattle.hits.specs.Hits.{startIn}
@@ -50,7 +51,7 @@ part-check-end c = search needs
 check-requires : tie.Need-check-requires Inv-loop μ-loop
 check-requires c κs =
     let W = c .before .before .before .before .before .before .before .args .words .now in
-    law.sound-words W (sym (not-false _ (c .before .before .before .if1 .left)) ∙ c .before .before .before .before .is-sound .ensures)
+    sound-words W (sym (c .before .before .before .before .is-sound .ensures) ∙ not-false _ (c .before .before .before .if1 .left))
 
 add-i : tie.Need-add-i Inv-loop μ-loop
 add-i c = search needs

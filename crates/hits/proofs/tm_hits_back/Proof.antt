@@ -6,6 +6,7 @@ use lib.ListN.{length}
 use lib.Seq.{length-take-le}
 use Rattle.meaning.specs.Rows.{backward}
 use Rattle.meaning.specs.Words.{prog}
+use Rattle.meaning.proofs.WordSpans.{sound-words}
 use Rattle.nodes.proofs.WordHeads.{to-end}
 use Rattle.steps.specs.Steps.{answer}
 use Rattle.hits.specs.Hits.{endIn}
@@ -46,7 +47,7 @@ slice-aggregate-check c =
 check-requires : tie.Need-check-requires Inv-loop μ-loop
 check-requires c κs =
     let W = c .before .before .before .before .before .before .before .args .words .now in
-    law.sound-words W (sym (not-false _ (c .before .before .before .if1 .left)) ∙ c .before .before .before .before .is-sound .ensures)
+    sound-words W (sym (c .before .before .before .before .is-sound .ensures) ∙ not-false _ (c .before .before .before .if1 .left))
 
 add-i : tie.Need-add-i Inv-loop μ-loop
 add-i c = search needs
