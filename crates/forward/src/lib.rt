@@ -149,7 +149,7 @@ fn branches(alts: &[u32], rest: &[u32], mem: &[u8], from: u8, to: u8) -> Found
                 if tail.len() < n {
                     break;
                 }
-                let got = check(rest, &tail[n..]);
+                let got = check(&rest[0..], &tail[n..]);
                 if let Found::Left(end) = got {
                     break 'branches Found::Left(end);
                 }

@@ -151,7 +151,7 @@ fn branches(alts: &[u32], rest: &[u32], mem: &[u8], from: u8, to: u8) -> Found
                 n -= 1;
                 if n <= head.len() {
                     let keep = head.len() - n;
-                    let got = check(rest, &head[..keep]);
+                    let got = check(&rest[0..], &head[..keep]);
                     if let Found::Left(start) = got {
                         break 'branches Found::Left(start);
                     }
