@@ -131,6 +131,7 @@ module _ (t : List ℕ) (at c : ℕ) where
 
 mutual
   unfolding tokenF moreF listF listsF TokenIn MoreIn ListIn ListsIn
+
   pub token-in : (f : ℕ) (t : List ℕ) (l c at : ℕ) → TokenIn t at c (tokenF f t l c at)
   token-in zero t l c at = tt
   token-in (suc f) t l c at = or-in t at c (plainAt t (ltb 1 l) at) _ (plain-in t at (ltb 1 l)) (plain-flat t (ltb 1 l) at) (bracketed-in t at c _ (lists-in f t (l + 1) (c + 1) (skip t (at + 1)) (skip t (at + 1))))

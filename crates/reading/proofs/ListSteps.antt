@@ -49,15 +49,16 @@ lists-same t miss (stopped r p) m n h = refl
 
 mutual
   unfolding tokenF moreF listF listsF
+
   same-token : (f g : ℕ) (t : List ℕ) (l c at : ℕ) → 4 * (length t - at) < f → 4 * (length t - at) < g → tokenF f t l c at ≡ tokenF g t l c at
   same-token zero zero t l c at h k = refl
   same-token zero (suc g) t l c at h k = absurd (omega arith)
   same-token (suc f) zero t l c at h k = absurd (omega arith)
   same-token (suc f) (suc g) t l c at h k =
       ap (tokenOr at c (plainAt t (ltb 1 l) at)) (bracketed-same t at c _ _ (λ q.
-        let i = here-at t at 40 q (omega arith) in
-        let s = skip-from t (at + 1) in
-        same-lists f g t (l + 1) (c + 1) (skip t (at + 1)) (skip t (at + 1)) (omega arith) (omega arith)))
+      let i = here-at t at 40 q (omega arith) in
+      let s = skip-from t (at + 1) in
+      same-lists f g t (l + 1) (c + 1) (skip t (at + 1)) (skip t (at + 1)) (omega arith) (omega arith)))
 
   same-more : (f g : ℕ) (t : List ℕ) (l c at : ℕ) → 4 * (length t - at) + 1 < f → 4 * (length t - at) + 1 < g → moreF f t l c at ≡ moreF g t l c at
   same-more zero zero t l c at h k = refl
@@ -66,8 +67,8 @@ mutual
   same-more (suc f) (suc g) t l c at h k =
       ap (λ (x : Parsed Token). thenMore at c x (λ d y. moreF f t l d y)) (same-token f g t l c at (omega arith) (omega arith))
       ∙ then-same at c (tokenF g t l c at) (λ d y. moreF f t l d y) (λ d y. moreF g t l d y) (λ tok e d q.
-        let w = gone-token g t l c at q in
-        same-more f g t l d e (omega arith) (omega arith))
+      let w = gone-token g t l c at q in
+      same-more f g t l d e (omega arith) (omega arith))
 
   same-list : (f g : ℕ) (t : List ℕ) (l c at : ℕ) → 4 * (length t - at) + 2 < f → 4 * (length t - at) + 2 < g → listF f t l c at ≡ listF g t l c at
   same-list zero zero t l c at h k = refl
@@ -82,9 +83,9 @@ mutual
   same-lists (suc f) (suc g) t l c at miss h k =
       ap (λ (x : Parsed Tokens). thenLists t miss x (λ d y m. listsF f t l d y m)) (same-list f g t l c at (omega arith) (omega arith))
       ∙ lists-same t miss (listF g t l c at) (λ d y m. listsF f t l d y m) (λ d y m. listsF g t l d y m) (λ ts e d q.
-        let w = gone-list g t l c at q in
-        let s = skip-from t (e + 1) in
-        same-lists f g t l d (skip t (e + 1)) e (omega arith) (omega arith))
+      let w = gone-list g t l c at q in
+      let s = skip-from t (e + 1) in
+      same-lists f g t l d (skip t (e + 1)) e (omega arith) (omega arith))
 
 -- what was read at an offset, counted from c on
 module _ (t : List ℕ) (l c at : ℕ) where
@@ -101,9 +102,9 @@ module _ (t : List ℕ) (l c at : ℕ) where
       let n : enough t at ≡ suc (4 * (length t - at) + 3) = omega arith in
       ap (λ (f : ℕ). tokenF f t l c at) n
       ∙ ap (tokenOr at c (plainAt t (ltb 1 l) at)) (bracketed-same t at c _ _ (λ q.
-        let i = here-at t at 40 q (omega arith) in
-        let s = skip-from t (at + 1) in
-        same-lists (4 * (length t - at) + 3) (enough t (skip t (at + 1))) t (l + 1) (c + 1) (skip t (at + 1)) (skip t (at + 1)) (omega arith) (omega arith)))
+      let i = here-at t at 40 q (omega arith) in
+      let s = skip-from t (at + 1) in
+      same-lists (4 * (length t - at) + 3) (enough t (skip t (at + 1))) t (l + 1) (c + 1) (skip t (at + 1)) (skip t (at + 1)) (omega arith) (omega arith)))
 
   more-step : more t l c at ≡ thenMore at c (token t l c at) (λ d y. more t l d y)
   unfolding moreF
@@ -112,8 +113,8 @@ module _ (t : List ℕ) (l c at : ℕ) where
       ap (λ (f : ℕ). moreF f t l c at) n
       ∙ ap (λ (x : Parsed Token). thenMore at c x (λ d y. moreF (4 * (length t - at) + 3) t l d y)) (same-token (4 * (length t - at) + 3) (enough t at) t l c at (omega arith) (omega arith))
       ∙ then-same at c (token t l c at) (λ d y. moreF (4 * (length t - at) + 3) t l d y) (λ d y. more t l d y) (λ tok e d q.
-        let w = token-gone q in
-        same-more (4 * (length t - at) + 3) (enough t e) t l d e (omega arith) (omega arith))
+      let w = token-gone q in
+      same-more (4 * (length t - at) + 3) (enough t e) t l d e (omega arith) (omega arith))
 
   pub more-read : {tok : Token} {e d : ℕ} → token t l c at ≡ read tok e d → more t l c at ≡ before tok (more t l d e)
   unfolding thenMore
@@ -148,9 +149,9 @@ module _ (t : List ℕ) (l c at : ℕ) where
         ap (λ (f : ℕ). listsF f t l c at miss) n
         ∙ ap (λ (x : Parsed Tokens). thenLists t miss x (λ d y m. listsF (4 * (length t - at) + 3) t l d y m)) (same-list (4 * (length t - at) + 3) (enough t at) t l c at (omega arith) (omega arith))
         ∙ lists-same t miss (list t l c at) (λ d y m. listsF (4 * (length t - at) + 3) t l d y m) (λ d y m. lists t l d y m) (λ ts e d q.
-          let w = list-gone q in
-          let s = skip-from t (e + 1) in
-          same-lists (4 * (length t - at) + 3) (enough t (skip t (e + 1))) t l d (skip t (e + 1)) e (omega arith) (omega arith))
+        let w = list-gone q in
+        let s = skip-from t (e + 1) in
+        same-lists (4 * (length t - at) + 3) (enough t (skip t (e + 1))) t l d (skip t (e + 1)) e (omega arith) (omega arith))
 
     lists-of : {x : Parsed Tokens} → list t l c at ≡ x → lists t l c at miss ≡ thenLists t miss x (λ d y m. lists t l d y m)
     lists-of q = lists-step ∙ ap (λ (x : Parsed Tokens). thenLists t miss x (λ d y m. lists t l d y m)) q

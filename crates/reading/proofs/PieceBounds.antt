@@ -97,9 +97,9 @@ unfolding numberAt Inside
 number-in t at =
     by t at (within 48 57 (getD t at 0)) _ _
     (λ h. by t at (leb (numeral 0 (drop at t)) 4294967295) _ _
-      (λ z. let d = number-next t 0 at h in
-        up-to t at (at + decimals (drop at t)) (numeral 0 (drop at t)) (omega arith)
-        (omega (arith, decimals-le (drop at t), length-drop at t, here-in t at (omega (arith, within-true 48 57 (getD t at 0) h))))) tt)
+    (λ z. let d = number-next t 0 at h in
+    up-to t at (at + decimals (drop at t)) (numeral 0 (drop at t)) (omega arith)
+    (omega (arith, decimals-le (drop at t), length-drop at t, here-in t at (omega (arith, within-true 48 57 (getD t at 0) h))))) tt)
     tt
 
 module _ (t : List ℕ) (at : ℕ) where
