@@ -1,0 +1,4 @@
+pub mod Text
+pub mod Laid
+pub mod Numbers
+pub mod Lines
