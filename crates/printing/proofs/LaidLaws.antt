@@ -47,6 +47,9 @@ put-then {p} {q} {s} {xs} {bs} {at} {m} {r} a b = record {
   holds = b .holds ∙ ap (λ (n : ℕ). laid q n bs) (a .next) ∙ ap (λ (x : List ℕ). laid x (at + length xs) bs) (a .holds) ∙ laid-join xs bs p at;
 }
 
+pub put-three : {p q s t xs ys zs : List ℕ} {at m n r : ℕ} → Put p at xs m q → Put q m ys n s → Put s n zs r t → Put p at (xs ++ (ys ++ zs)) r t
+put-three a b c = put-then a (put-then b c)
+
 -- a writer of other bytes that are the same
 pub put-same : {p q xs : List ℕ} {at r : ℕ} (bs : List ℕ) → Put p at xs r q → xs ≡ bs → Put p at bs r q
 put-same {p} {q} {xs} {at} {r} bs a e = record { next = a .next ∙ ap (λ (x : List ℕ). at + length x) e; holds = a .holds ∙ ap (λ (x : List ℕ). laid p at x) e }

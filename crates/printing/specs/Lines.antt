@@ -15,24 +15,24 @@ blank = 32 ∷ []
 abbrev pub lineEnd : List ℕ
 lineEnd = 10 ∷ []
 
--- a line that ends with a number; with a number, a text and a number; with a byte; with two bytes
+-- a line that ends with a number; with two numbers and what stands between them; with a byte; with a value and a mask
 unfoldable pub numberLine : List ℕ → ℕ → List ℕ
 numberLine name n = name ++ (decimalOf n ++ lineEnd)
 
 unfoldable pub numbersLine : List ℕ → ℕ → List ℕ → ℕ → List ℕ
-numbersLine name n between m = name ++ (decimalOf n ++ (between ++ (decimalOf m ++ lineEnd)))
+numbersLine name n between m = name ++ (decimalOf n ++ numberLine between m)
 
 unfoldable pub byteLine : List ℕ → ℕ → List ℕ
 byteLine name v = name ++ (hexOf v ++ lineEnd)
 
-unfoldable pub bytesLine : List ℕ → ℕ → ℕ → List ℕ
-bytesLine name v m = name ++ (hexOf v ++ (blank ++ (hexOf m ++ lineEnd)))
+unfoldable pub maskLine : List ℕ → ℕ → ℕ → List ℕ
+maskLine name v m = name ++ (hexOf v ++ byteLine blank m)
 
 -- the line of a node; no word says `any` or whole alternatives, and a word that says nothing has no line
 abbrev pub testLine : Test → List ℕ
 testLine (byte v) = byteLine (ascii "byte ") v
-testLine (mask v m) = bytesLine (ascii "mask ") v m
-testLine (negatedMask v m) = bytesLine (ascii "not ") v m
+testLine (mask v m) = maskLine (ascii "mask ") v m
+testLine (negatedMask v m) = maskLine (ascii "not ") v m
 testLine any = []
 testLine dot = ascii "dot\n"
 

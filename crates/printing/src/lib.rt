@@ -6,6 +6,7 @@ ghost use Prim.Native.Nat.{ℕ, _+_, _*_, _<_, _≤_, _^_};
 ghost use lib.ListN.{length};
 ghost use Rattle.printing.specs.Laid.{Put, each};
 ghost use Rattle.printing.specs.Numbers.{digit, hexOf, decimalOf};
+ghost use Rattle.printing.specs.Lines.{numberLine, numbersLine, byteLine, maskLine};
 
 pub fn put_byte(out: &mut [u8], at: usize, b: u8) -> usize
     requires { ⌜ at + 1 < 2 ^ 64 ⌝ }
@@ -72,4 +73,51 @@ pub fn put_decimal(out: &mut [u8], at: usize, n: usize) -> usize
     }
     let k = put_decimal(out, at, n / 10);
     put_byte(out, k, digit_of((n % 10) as u8))
+}
+
+// A line that ends with a number.
+pub fn put_number_line(out: &mut [u8], at: usize, name: &[u8], n: usize) -> usize
+    requires { ⌜ at + length (now name) + 21 < 2 ^ 64 ⌝ }
+    ensures { λ r. ⌜ Put (now (out .entry)) at (numberLine (now (name .entry)) n) r (now (out .exit)) ⌝ }
+{
+    let named = put_bytes(out, at, name);
+    let told = put_decimal(out, named, n);
+    put_byte(out, told, b'\n')
+}
+
+// A line that ends with two numbers and what stands between them.
+pub fn put_numbers_line(
+    out: &mut [u8],
+    at: usize,
+    name: &[u8],
+    n: usize,
+    between: &[u8],
+    m: usize,
+) -> usize
+    requires { ⌜ at + length (now name) + length (now between) + 41 < 2 ^ 64 ⌝ }
+    ensures { λ r. ⌜ Put (now (out .entry)) at (numbersLine (now (name .entry)) n (now (between .entry)) m) r (now (out .exit)) ⌝ }
+{
+    let named = put_bytes(out, at, name);
+    let told = put_decimal(out, named, n);
+    put_number_line(out, told, between, m)
+}
+
+// A line that ends with a byte.
+pub fn put_byte_line(out: &mut [u8], at: usize, name: &[u8], v: u8) -> usize
+    requires { ⌜ at + length (now name) + 3 < 2 ^ 64 ⌝ }
+    ensures { λ r. ⌜ Put (now (out .entry)) at (byteLine (now (name .entry)) v) r (now (out .exit)) ⌝ }
+{
+    let named = put_bytes(out, at, name);
+    let told = put_hex(out, named, v);
+    put_byte(out, told, b'\n')
+}
+
+// A line that ends with a value and a mask.
+pub fn put_mask_line(out: &mut [u8], at: usize, name: &[u8], v: u8, m: u8) -> usize
+    requires { ⌜ at + length (now name) + 6 < 2 ^ 64 ⌝ }
+    ensures { λ r. ⌜ Put (now (out .entry)) at (maskLine (now (name .entry)) v m) r (now (out .exit)) ⌝ }
+{
+    let named = put_bytes(out, at, name);
+    let told = put_hex(out, named, v);
+    put_byte_line(out, told, b" ", m)
 }
