@@ -2,11 +2,14 @@
 // caller has to ask for room on the way: who called first compares the last place with the buffer's length.
 ghost use mathlib.Core.Path.{_≡_};
 ghost use mathlib.Core.List.{List, [], _∷_};
-ghost use Prim.Native.Nat.{ℕ, _+_, _*_, _<_, _≤_, _^_};
+ghost use Prim.Native.Nat.{ℕ, _+_, _*_, _<_, _^_, min};
 ghost use lib.ListN.{length};
 ghost use Rattle.printing.specs.Laid.{Put, each};
 ghost use Rattle.printing.specs.Numbers.{digit, hexOf, decimalOf};
-ghost use Rattle.printing.specs.Lines.{numberLine, numbersLine, byteLine, maskLine};
+ghost use Rattle.nodes.specs.Nodes.{testOf};
+ghost use Rattle.printing.specs.Lines.{numberLine, numbersLine, byteLine, maskLine, testLine, nodeLine, programLines, literalLine, literalLines, literalsLines, refusedLine, literalsRefusedLine};
+use nodes::ByteTest;
+use nodes::Node;
 
 pub fn put_byte(out: &mut [u8], at: usize, b: u8) -> usize
     requires { ⌜ at + 1 < 2 ^ 64 ⌝ }
@@ -120,4 +123,110 @@ pub fn put_mask_line(out: &mut [u8], at: usize, name: &[u8], v: u8, m: u8) -> us
     let named = put_bytes(out, at, name);
     let told = put_hex(out, named, v);
     put_byte_line(out, told, b" ", m)
+}
+
+fn put_test(out: &mut [u8], at: usize, t: ByteTest) -> usize
+    requires { ⌜ at + 16 < 2 ^ 64 ⌝ }
+    ensures { λ r. ⌜ Put (now (out .entry)) at (testLine (testOf t)) r (now (out .exit)) ⌝ }
+{
+    match t {
+        ByteTest::Byte(v) => put_byte_line(out, at, b"byte ", v),
+        ByteTest::Mask(v, m) => put_mask_line(out, at, b"mask ", v, m),
+        ByteTest::NegatedMask(v, m) => put_mask_line(out, at, b"not ", v, m),
+        ByteTest::Dot => put_bytes(out, at, b"dot\n"),
+    }
+}
+
+// The line of a node word. A word of a kind that 01 does not have writes nothing: no program that was compiled holds one.
+pub fn put_node(out: &mut [u8], at: usize, w: u32) -> usize
+    requires { ⌜ at + 64 < 2 ^ 64 ⌝ }
+    ensures { λ r. ⌜ Put (now (out .entry)) at (nodeLine w) r (now (out .exit)) ⌝ }
+{
+    let node = nodes::node_of(w);
+    match node {
+        Node::One(t) => put_test(out, at, t),
+        Node::Jump(n) => put_number_line(out, at, b"jump ", n as usize),
+        Node::JumpRange(a, b) => put_numbers_line(out, at, b"range ", a as usize, b" ", b as usize),
+        Node::Alternation(n) => put_number_line(out, at, b"alt ", n as usize),
+        Node::AltBranch(n) => put_number_line(out, at, b"branch ", n as usize),
+        Node::Bad => at,
+    }
+}
+
+fn put_nodes(out: &mut [u8], at: usize, words: &[u32]) -> usize
+    requires { ⌜ at + 64 + 14 * length (now words) < 2 ^ 64 ⌝ }
+    ensures { λ r. ⌜ Put (now (out .entry)) at (each nodeLine (now (words .entry))) r (now (out .exit)) ⌝ }
+{
+    let mut k = at;
+    let mut i = 0;
+    while i < words.len() {
+        k = put_node(out, k, words[i]);
+        i += 1;
+    }
+    k
+}
+
+// A program: its name with the count of its nodes, and their lines.
+pub fn put_program(out: &mut [u8], at: usize, name: &[u8], words: &[u32]) -> usize
+    requires { ⌜ at + length (now name) + 85 + 14 * length (now words) < 2 ^ 64 ⌝ }
+    ensures { λ r. ⌜ Put (now (out .entry)) at (programLines (now (name .entry)) (now (words .entry))) r (now (out .exit)) ⌝ }
+{
+    let k = put_number_line(out, at, name, words.len());
+    put_nodes(out, k, words)
+}
+
+fn put_literal(out: &mut [u8], at: usize, s: &[u8]) -> usize
+    requires { ⌜ at + 2 * length (now s) + 1 < 2 ^ 64 ⌝ }
+    ensures { λ r. ⌜ Put (now (out .entry)) at (literalLine (now (s .entry))) r (now (out .exit)) ⌝ }
+{
+    let k = put_hexes(out, at, s);
+    put_byte(out, k, b'\n')
+}
+
+fn least(a: usize, b: usize) -> usize
+    ensures { λ r. ⌜ r ≡ min a b ⌝ }
+{
+    if a < b { a } else { b }
+}
+
+// The literals that stand one after another in the bytes. A length that reaches past the bytes takes what there is: the picker gives none.
+fn put_each_literal(out: &mut [u8], at: usize, lens: &[u16], bytes: &[u8]) -> usize
+    requires { ⌜ at + length (now lens) + 2 * length (now bytes) < 2 ^ 64 ⌝ }
+    ensures { λ r. ⌜ Put (now (out .entry)) at (literalLines (now (lens .entry)) (now (bytes .entry))) r (now (out .exit)) ⌝ }
+{
+    let mut k = at;
+    let mut from = 0;
+    let mut i = 0;
+    while i < lens.len() {
+        let n = least(lens[i] as usize, bytes.len() - from);
+        k = put_literal(out, k, &bytes[from..from + n]);
+        from += n;
+        i += 1;
+    }
+    k
+}
+
+// The literals: their count, their rank, and their lines.
+pub fn put_literals(out: &mut [u8], at: usize, rank: usize, lens: &[u16], bytes: &[u8]) -> usize
+    requires { ⌜ at + 56 + length (now lens) + 2 * length (now bytes) < 2 ^ 64 ⌝ }
+    ensures { λ r. ⌜ Put (now (out .entry)) at (literalsLines rank (now (lens .entry)) (now (bytes .entry))) r (now (out .exit)) ⌝ }
+{
+    let k = put_numbers_line(out, at, b"literals ", lens.len(), b" rank ", rank);
+    put_each_literal(out, k, lens, bytes)
+}
+
+// A refused text or compiling.
+pub fn put_refused(out: &mut [u8], at: usize, number: usize, place: usize) -> usize
+    requires { ⌜ at + 53 < 2 ^ 64 ⌝ }
+    ensures { λ r. ⌜ Put (now (out .entry)) at (refusedLine number place) r (now (out .exit)) ⌝ }
+{
+    put_numbers_line(out, at, b"refused ", number, b" at ", place)
+}
+
+// Refused literals.
+pub fn put_literals_refused(out: &mut [u8], at: usize, number: usize) -> usize
+    requires { ⌜ at + 38 < 2 ^ 64 ⌝ }
+    ensures { λ r. ⌜ Put (now (out .entry)) at (literalsRefusedLine number) r (now (out .exit)) ⌝ }
+{
+    put_number_line(out, at, b"literals refused ", number)
 }
