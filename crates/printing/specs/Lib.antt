@@ -2,3 +2,4 @@ pub mod Text
 pub mod Laid
 pub mod Numbers
 pub mod Lines
+pub mod Samples
