@@ -1,0 +1,3 @@
+pub mod LaidLaws
+pub mod NumberLaws
+pub mod LineLaws

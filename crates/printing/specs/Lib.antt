@@ -1,0 +1,5 @@
+pub mod Text
+pub mod Laid
+pub mod Numbers
+pub mod Lines
+pub mod Samples
