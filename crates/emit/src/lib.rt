@@ -10,6 +10,7 @@ ghost use Rattle.compiling.specs.ProgramWords.{wordsOf, wordsIn, nodes};
 ghost use Rattle.emit.specs.declared.Last.the-variants.{Grows};
 ghost use Rattle.emit.specs.declared.Piece.the-variants.{Gap};
 ghost use Rattle.emit.specs.Items.{entryItem, maskItem, notMaskItem, jumpItem, pieceOf, Behind, putCount, putLast, putOut, placeOf};
+ghost use Rattle.emit.specs.Lists.{listProgram};
 use nodes::ByteTest;
 use nodes::Node;
 use nodes::node_word;
@@ -143,4 +144,25 @@ fn place(backwards: bool, n: usize, k: usize) -> usize
         return n - 1 - k;
     }
     k
+}
+
+// A list of tokens of one entry each, as a branch is: its words at the front of `out`, and their number.
+pub fn add_list(entries: &[u32], backwards: bool, out: &mut [u32]) -> usize
+    requires { ⌜ length (now entries) ≤ 4 * length (now out) ⌝ }
+    ensures { λ r. ⌜ (r ≡ nodes (listProgram backwards (now (entries .entry))))
+        × (now (out .exit) ≡ wordsOf (listProgram backwards (now (entries .entry))) ++ drop r (now (out .entry))) ⌝ }
+{
+    let count = entries.len() / 4;
+    let mut n = 0;
+    let mut last = Last::Fixed;
+    let mut k = 0;
+    while k < count {
+        let at = 4 * place(backwards, count, k);
+        let piece = entry_piece(entries[at], entries[at + 1], entries[at + 2]);
+        let tail = add_piece(out, n, last, piece);
+        n = tail.count;
+        last = tail.last;
+        k += 1;
+    }
+    n
 }
