@@ -2,3 +2,5 @@
 pub mod PutLaws
 pub mod HoldLaws
 pub mod ListLaws
+pub mod LentLaws
+pub mod BranchLaws

@@ -1,7 +1,8 @@
 // Translated from boreal's boreal/src/matcher/validator/simple.rs (MIT OR Apache-2.0), commit 7010b5e967; see NOTICE.
 // The words of one program, made from token entries, forwards or from every list read backwards.
 ghost use mathlib.Core.Path.{_≡_};
-ghost use mathlib.Core.Bool.{true};
+ghost use mathlib.Core.Bool.{true, not, _||_};
+ghost use lib.Dec.{leb};
 ghost use mathlib.Core.List.{_∷_, _++_};
 ghost use Prim.Native.Nat.{ℕ, _+_, _*_, _-_, _≤_, _<_};
 ghost use lib.ListN.{length, drop, set};
@@ -10,7 +11,9 @@ ghost use Rattle.compiling.specs.ProgramWords.{wordsOf, wordsIn, nodes};
 ghost use Rattle.emit.specs.declared.Last.the-variants.{Grows};
 ghost use Rattle.emit.specs.declared.Piece.the-variants.{Gap};
 ghost use Rattle.emit.specs.Items.{entryItem, maskItem, notMaskItem, jumpItem, pieceOf, Behind, putCount, putLast, putOut, placeOf};
-ghost use Rattle.emit.specs.Lists.{listProgram};
+ghost use Rattle.compiling.specs.Compiling.{branchLimit};
+ghost use Rattle.compiling.specs.Compile.{shortIn};
+ghost use Rattle.emit.specs.Lists.{listProgram, branchesAt, Listed};
 use nodes::ByteTest;
 use nodes::Node;
 use nodes::node_word;
@@ -165,4 +168,55 @@ pub fn add_list(entries: &[u32], backwards: bool, out: &mut [u32]) -> usize
         k += 1;
     }
     n
+}
+
+// The words of branches, and whether one of them is above 255 nodes.
+pub struct Branched {
+    pub count: usize,
+    pub long: bool,
+}
+
+// An AltBranch's word. It counts past 255 too: such a branch is refused later, by 14.
+fn branch_word(n: usize) -> u32
+    requires { ⌜ n ≤ 4096 ⌝ }
+    ensures { λ r. ⌜ r ≡ word 7 n 0 ⌝ }
+{
+    7 + 256 * (n as u32)
+}
+
+fn longer(long: bool, n: usize) -> bool
+    ensures { λ r. ⌜ r ≡ (long || not (leb n branchLimit)) ⌝ }
+{
+    if 255 < n {
+        return true;
+    }
+    long
+}
+
+// Lists behind their marks: each is a branch, with its own mark before its nodes.
+pub fn add_lists(entries: &[u32], lists: usize, backwards: bool, out: &mut [u32]) -> Branched
+    requires { ⌜ Listed lists (now entries) × (length (now entries) ≤ 4096) × (length (now entries) ≤ 4 * length (now out)) ⌝ }
+    ensures { λ r. ⌜ (r .count ≡ length (wordsIn (branchesAt backwards lists (now (entries .entry)))))
+        × (r .long ≡ not (shortIn (branchesAt backwards lists (now (entries .entry)))))
+        × (now (out .exit) ≡ wordsIn (branchesAt backwards lists (now (entries .entry))) ++ drop (r .count) (now (out .entry))) ⌝ }
+{
+    let mut x = 0;
+    let mut n = 0;
+    let mut l = 0;
+    let mut long = false;
+    while l < lists {
+        let count = entries[x + 1] as usize;
+        let from = x + 4;
+        let to = from + 4 * count;
+        let m = add_list(&entries[from..to], backwards, &mut out[n + 1..]);
+        out[n] = branch_word(m);
+        long = longer(long, m);
+        n = n + 1 + m;
+        x = to;
+        l += 1;
+    }
+    Branched {
+        count: n,
+        long: long,
+    }
 }
