@@ -4,3 +4,4 @@ pub mod HoldLaws
 pub mod ListLaws
 pub mod LentLaws
 pub mod BranchLaws
+pub mod AltLaws
