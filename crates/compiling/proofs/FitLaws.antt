@@ -18,7 +18,7 @@ use Rattle.compiling.proofs.TokenSpans.{BoundedOne, Bounded, BoundedIn}
 
 -- what holds of two items, and of two jumps merged, holds of them added
 module _ (P : Prog → Type 0) where
-  pair-keeps : (i j : Item) → P (i ▹ j ▹ end) → ((n : ℕ) → n ≤ jumpLimit → P (jump n ▹ end)) → P (pairBy (jumpOf i) (jumpOf j) i j)
+  pub pair-keeps : (i j : Item) → P (i ▹ j ▹ end) → ((n : ℕ) → n ≤ jumpLimit → P (jump n ▹ end)) → P (pairBy (jumpOf i) (jumpOf j) i j)
   unfolding pairBy jumpOf
   pair-keeps (one t) j h g = h
   pair-keeps (jump m) (one t) h g = h

@@ -8,3 +8,4 @@ pub mod FitLaws
 pub mod GivenLaws
 pub mod CompileLaws
 pub mod Samples
+pub mod CountLaws
