@@ -5,4 +5,6 @@ pub mod PieceBounds
 pub mod ListBounds
 pub mod ListSteps
 pub mod TextLaws
+pub mod Kept
+pub mod Decoded
 pub mod Samples
