@@ -7,7 +7,8 @@ ghost use lib.ListN.{length};
 ghost use Rattle.printing.specs.Laid.{Put, each};
 ghost use Rattle.printing.specs.Numbers.{digit, hexOf, decimalOf};
 ghost use Rattle.nodes.specs.Nodes.{testOf};
-ghost use Rattle.printing.specs.Lines.{numberLine, numbersLine, byteLine, maskLine, testLine, nodeLine, programLines, literalLine, literalLines, literalsLines, refusedLine, literalsRefusedLine};
+ghost use Rattle.printing.specs.Lines.{numberLine, numbersLine, byteLine, maskLine, testLine, nodeLine, programLines, literalLine, literalLines, literalsLines, cut, refusedLine, literalsRefusedLine, programsLines};
+ghost use Rattle.printing.specs.Listed.{listedOf};
 use nodes::ByteTest;
 use nodes::Node;
 
@@ -192,7 +193,7 @@ fn least(a: usize, b: usize) -> usize
 // The literals that stand one after another in the bytes. A length that reaches past the bytes takes what there is: the picker gives none.
 fn put_each_literal(out: &mut [u8], at: usize, lens: &[u16], bytes: &[u8]) -> usize
     requires { ⌜ at + length (now lens) + 2 * length (now bytes) < 2 ^ 64 ⌝ }
-    ensures { λ r. ⌜ Put (now (out .entry)) at (literalLines (now (lens .entry)) (now (bytes .entry))) r (now (out .exit)) ⌝ }
+    ensures { λ r. ⌜ Put (now (out .entry)) at (literalLines (cut (now (lens .entry)) (now (bytes .entry)))) r (now (out .exit)) ⌝ }
 {
     let mut k = at;
     let mut from = 0;
@@ -209,7 +210,7 @@ fn put_each_literal(out: &mut [u8], at: usize, lens: &[u16], bytes: &[u8]) -> us
 // The literals: their count, their rank, and their lines.
 pub fn put_literals(out: &mut [u8], at: usize, rank: usize, lens: &[u16], bytes: &[u8]) -> usize
     requires { ⌜ at + 56 + length (now lens) + 2 * length (now bytes) < 2 ^ 64 ⌝ }
-    ensures { λ r. ⌜ Put (now (out .entry)) at (literalsLines rank (now (lens .entry)) (now (bytes .entry))) r (now (out .exit)) ⌝ }
+    ensures { λ r. ⌜ Put (now (out .entry)) at (literalsLines rank (cut (now (lens .entry)) (now (bytes .entry)))) r (now (out .exit)) ⌝ }
 {
     let k = put_numbers_line(out, at, b"literals ", lens.len(), b" rank ", rank);
     put_each_literal(out, k, lens, bytes)
@@ -229,4 +230,29 @@ pub fn put_literals_refused(out: &mut [u8], at: usize, number: usize) -> usize
     ensures { λ r. ⌜ Put (now (out .entry)) at (literalsRefusedLine number) r (now (out .exit)) ⌝ }
 {
     put_number_line(out, at, b"literals refused ", number)
+}
+
+// Both programs, from the buffer's start.
+pub fn put_programs(out: &mut [u8], forward: &[u32], reverse: &[u32]) -> usize
+    requires { ⌜ 250 + 14 * length (now forward) + 14 * length (now reverse) < 2 ^ 64 ⌝ }
+    ensures { λ r. ⌜ Put (now (out .entry)) 0 (programsLines (now (forward .entry)) (now (reverse .entry))) r (now (out .exit)) ⌝ }
+{
+    let k = put_program(out, 0, b"forward ", forward);
+    put_program(out, k, b"reverse ", reverse)
+}
+
+// What a listing comes to: its length, and whether the buffer has room for it.
+pub enum Listed {
+    Wrote(usize),
+    NoRoom(usize),
+}
+
+pub fn room_for(length: usize, room: usize) -> Listed
+    ensures { λ r. ⌜ r ≡ listedOf length room ⌝ }
+{
+    if length <= room {
+        Listed::Wrote(length)
+    } else {
+        Listed::NoRoom(length)
+    }
 }
