@@ -1,7 +1,6 @@
 -- The lines of a listing, as 01 has them. Assumes nothing: these are definitions.
 use mathlib.Core.List.{List, [], _∷_, _++_}
 use Prim.Native.Nat.{ℕ}
-use Prim.Native.String.{String}
 use lib.ListN.{length, take, drop}
 use Rattle.meaning.specs.Programs.{Item, one, jump, range, alt, Test, byte, mask, negatedMask, any, dot}
 use Rattle.meaning.specs.Words.{Shape, item, opens, mark, wrong, shape}

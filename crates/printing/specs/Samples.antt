@@ -1,7 +1,6 @@
 -- 01's example at the level of lines, and a line of each other kind. Assumes nothing: these are claims that compute.
 use mathlib.Core.Path.{_≡_, refl}
-use mathlib.Core.List.{List, [], _∷_, _++_}
-use Prim.Native.Nat.{ℕ}
+use mathlib.Core.List.{[], _∷_, _++_}
 use Rattle.meaning.specs.Words.{shape, shapeBy, word}
 use Rattle.printing.specs.Text.{ascii}
 use Rattle.printing.specs.Laid.{each, laid}

@@ -1,8 +1,8 @@
 // The lines of a listing, written into lent bytes. A writer lays down what fits and always answers the place after all of its bytes, so that no
 // caller has to ask for room on the way: who called first compares the last place with the buffer's length.
 ghost use mathlib.Core.Path.{_≡_};
-ghost use mathlib.Core.List.{List, [], _∷_};
-ghost use Prim.Native.Nat.{ℕ, _+_, _*_, _<_, _^_, min};
+ghost use mathlib.Core.List.{[], _∷_};
+ghost use Prim.Native.Nat.{_+_, _*_, _<_, _^_, min};
 ghost use lib.ListN.{length};
 ghost use Rattle.printing.specs.Laid.{Put, each};
 ghost use Rattle.printing.specs.Numbers.{digit, hexOf, decimalOf};

@@ -22,7 +22,11 @@ put-numbers-line-requires : tie.Need-put-numbers-line-requires
 put-numbers-line-requires c κs = search needs
 
 put-each-literal-requires : tie.Need-put-each-literal-requires
-put-each-literal-requires c κs = let a = c .before .before .before .before .before .before .before .before .before .before .args in let b = length-numbers (ascii "literals ") (ascii " rank ") 19 19 (length (a .lens .now)) (a .rank) (omega arith) (omega arith) in let m = c .before .before .before .put-numbers-line .ensures .next in omega arith
+put-each-literal-requires c κs =
+    let a = c .before .before .before .before .before .before .before .before .before .before .args in
+    let b = length-numbers (ascii "literals ") (ascii " rank ") 19 19 (length (a .lens .now)) (a .rank) (omega arith) (omega arith) in
+    let m = c .before .before .before .put-numbers-line .ensures .next in
+    omega arith
 
 same-length : tie.Need-same-length
 same-length c = search needs

@@ -18,7 +18,11 @@ slice-aggregate-put-program-2 : tie.Need-slice-aggregate-put-program-2
 slice-aggregate-put-program-2 c = search needs
 
 put-program-requires-2 : tie.Need-put-program-requires-2
-put-program-requires-2 c κs = let a = c .before .before .before .before .before .before .before .before .before .before .args in let b = length-program (ascii "forward ") (a .forward .now) 19 (omega arith) in let m = c .before .before .before .before .put-program .ensures .next in omega arith
+put-program-requires-2 c κs =
+    let a = c .before .before .before .before .before .before .before .before .before .before .args in
+    let b = length-program (ascii "forward ") (a .forward .now) 19 (omega arith) in
+    let m = c .before .before .before .before .put-program .ensures .next in
+    omega arith
 
 same-length : tie.Need-same-length
 same-length c = search needs
