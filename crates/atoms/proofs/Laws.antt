@@ -12,7 +12,7 @@ use lib.ListN.{length, take, drop, getD, length-drop}
 use lib.Seq.{take-suc, take-all}
 use types.Run.{OneOf}
 use borrow.Author.Tests.{eq-eqb, ne-eqb, leb-true, leb-false}
-use Rattle.atoms.specs.Score.{among, common, byteScore, windowScore, windowAt, highest, literalScore, IsWindow}
+use Rattle.atoms.specs.Score.{among, common, byteScore, windowScore, windowAt, highest, literalScore, IsWindow, IsScore}
 
 -- ---- a byte
 
@@ -133,6 +133,16 @@ pub score-is-best : (l w : List ℕ) → IsWindow w l → windowScore w ≤ lite
 unfolding literalScore
 score-is-best l w (inl h) = rw (h .2) (highest-over l (length l - 4) (h .0) (let g : h .0 + 4 ≤ length l = h .1 in omega arith))
 score-is-best l w (inr h) = rw (h .1) (let g : length l < 4 = h .0 in omega (arith, short-score l (omega arith)))
+
+-- the computed score is the declared one, and there is one
+pub literal-score : (l : List ℕ) → IsScore l (literalScore l)
+literal-score l = record { some-window = score-is-some l; no-better = score-is-best l }
+
+pub score-one : (l : List ℕ) (m n : ℕ) → IsScore l m → IsScore l n → m ≡ n
+score-one l m n a b =
+    let p = a .some-window in
+    let q = b .some-window in
+    omega (arith, p .2, q .2, a .no-better (q .0) (q .1), b .no-better (p .0) (p .1))
 
 -- so no literal scores above 80
 pub score-le : (l : List ℕ) → literalScore l ≤ 80

@@ -1,4 +1,4 @@
--- The score of a literal: how rarely its best four successive bytes should turn up by chance.
+-- The score of a literal: how rarely its best four successive bytes should turn up by chance. Assumes nothing: these are definitions.
 use mathlib.Core.Path.{_≡_}
 use mathlib.Core.Bool.{Bool, true, false, cond}
 use mathlib.Core.Logic.{_⊎_}
@@ -24,7 +24,7 @@ common = 0x00 ∷ 0x20 ∷ 0x90 ∷ 0xCC ∷ 0xFF ∷ []
 unfoldable pub byteScore : ℕ → ℕ
 byteScore b = cond (among b common) 10 20
 
--- a window, a run of at most four bytes, scores the sum of its bytes
+-- a window, at most four successive bytes, scores the sum of its bytes
 unfoldable pub windowScore : List ℕ → ℕ
 windowScore [] = 0
 windowScore (b ∷ bs) = byteScore b + windowScore bs
@@ -38,10 +38,15 @@ unfoldable pub highest : ℕ → List ℕ → ℕ
 highest zero l = windowScore (windowAt 0 l)
 highest (suc n) l = max (highest n l) (windowScore (windowAt (suc n) l))
 
--- a literal scores its best window; the last one starts four bytes before the end, and a shorter literal is the only one it has
+-- a literal scores its best window; the last one starts four bytes before the end, and a literal shorter than four is its own only window
 unfoldable pub literalScore : List ℕ → ℕ
 literalScore l = highest (length l - atomLen) l
 
 -- w is four successive bytes of l, or all of l if that is shorter
 abbrev pub IsWindow : List ℕ → List ℕ → Type 0
 IsWindow w l = ((a : ℕ) × (a + atomLen ≤ length l) × (w ≡ windowAt a l)) ⊎ ((length l < atomLen) × (w ≡ l))
+
+-- what a score has to be: that of some window, and no window has more. proofs/Laws.antt: literalScore is this, and this leaves one number
+pub record IsScore (l : List ℕ) (n : ℕ) : Type 0 where
+  pub some-window : (w : List ℕ) × IsWindow w l × (windowScore w ≡ n)
+  pub no-better : (w : List ℕ) → IsWindow w l → windowScore w ≤ n

@@ -1,4 +1,4 @@
--- The set of bytes that a bitmap of 256 bits holds.
+-- The set of bytes that a bitmap of 256 bits holds. Assumes nothing: these are definitions.
 use mathlib.Core.Path.{_≡_}
 use mathlib.Core.Bool.{Bool, true, false, cond}
 use mathlib.Core.List.{List, [], _∷_}

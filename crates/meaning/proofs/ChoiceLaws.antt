@@ -19,7 +19,7 @@ mutual
   span-takes : (i : Item) (s : List ℕ) → SpanOf i s → (k : Pick) × Takes i k s
   span-takes (one t) s (b, e, h) = (only, (b, refl, e, h))
   span-takes (jump n) s h = (only, (refl, h))
-  span-takes (range a b) s (h, g) = (bytes (length s), (refl, h, g))
+  span-takes (range a b) s (h, g) = (bytes (length s), (refl, omega arith, omega arith))
   span-takes (alt bs) s h = span-takes-in bs s h
 
   pub span-fits : (p : Prog) (s : List ℕ) → Span p s → (c : Choice) × Fits p c s
@@ -40,7 +40,7 @@ mutual
   takes-span : (i : Item) (k : Pick) (s : List ℕ) → Takes i k s → SpanOf i s
   takes-span (one t) k s (b, q, e, h) = (b, e, h)
   takes-span (jump n) k s (q, h) = h
-  takes-span (range a b) k s (q, h, g) = (h, g)
+  takes-span (range a b) k s (q, h, g) = (omega arith, omega arith)
   takes-span (alt bs) k s h = takes-span-in bs k s h
 
   pub fits-span : (p : Prog) (c : Choice) (s : List ℕ) → Fits p c s → Span p s

@@ -1,12 +1,12 @@
 -- What the search finds: the first choice that fits, and nothing where none fits. Assumes nothing.
 use mathlib.Core.Path.{_≡_, refl, sym, ap, ap₂, _∙_, subst}
 use mathlib.Core.Option.{Option, none, some}
-use mathlib.Core.Logic.{_⊎_, inl, inr, ⊎-elim}
+use mathlib.Core.Logic.{_⊎_, inl, inr, ⊎-elim, _↔_}
 use mathlib.Core.List.{List, [], _∷_, _++_, map, reverse, reverse-append, reverse-reverse, List·Memᴰ, List·Memᴰ·head, List·Memᴰ·tail, List·Memᴰ·append-cases, List·Memᴰ·cases-cons, List·Memᴰ·not-nil, Memᴰ·append-right}
 use Prim.Native.Nat.{ℕ}
 use native.Mathlib.Omega.{arith}
 use Rattle.meaning.specs.Programs.{Prog, Span, mirror}
-use Rattle.meaning.specs.Choices.{Choice, Chooses, Fits, FitsAt, Order, short, long, Sooner, First}
+use Rattle.meaning.specs.Choices.{Choice, Chooses, Fits, FitsAt, Order, short, long, Sooner, First, Nowhere, FirstForward, FirstReverse}
 use Rattle.meaning.specs.Rows.{Row, orElse, rest, found, rows, run, forward, backward, choices, rowBy}
 use Rattle.meaning.proofs.RowLaws.{rest-split}
 use Rattle.meaning.proofs.ChoiceLaws.{span-fits, fits-span, fits-chooses}
@@ -135,12 +135,32 @@ module _ (o : Order) (p : Prog) where
         go none e = absurd (run-none e (a .choice) v (a .fits))
         go (some u) e = e ∙ ap some (first-one u v (run-first u e) a)
 
+    pub nowhere-run : Nowhere p w → run o p w ≡ none
+    nowhere-run h = go (run o p w) refl
+      where
+        go : (x : Option (List ℕ)) → run o p w ≡ x → run o p w ≡ none
+        go none e = e
+        go (some u) e = let a = run-first u e in absurd (h (a .choice) u (a .fits))
+
     -- the same over spans
     pub run-span : (v : List ℕ) → run o p w ≡ some v → (s : List ℕ) × (w ≡ s ++ v) × Span p s
     run-span v e = let a = run-first v e in (a .fits .0, a .fits .1, fits-span p (a .choice) (a .fits .0) (a .fits .2))
 
     pub run-no-span : (s v : List ℕ) → run o p w ≡ none → w ≡ s ++ v → Span p s → ⊥
     run-no-span s v e h g = let c = span-fits p s g in run-none e (c .0) v (s, h, c .1)
+
+-- the checks find what they are to find
+pub forward-first : (p : Prog) (w v : List ℕ) → (forward p w ≡ some v) ↔ FirstForward p w v
+forward-first p w v = (run-first short p w v, first-run short p w v)
+
+pub forward-none : (p : Prog) (w : List ℕ) → (forward p w ≡ none) ↔ Nowhere p w
+forward-none p w = (run-none short p w, nowhere-run short p w)
+
+pub backward-first : (p : Prog) (w u : List ℕ) → (backward p w ≡ some (reverse u)) ↔ FirstReverse p w u
+backward-first p w u = (run-first long p (reverse w) (reverse u), first-run long p (reverse w) (reverse u))
+
+pub backward-none : (p : Prog) (w : List ℕ) → (backward p w ≡ none) ↔ Nowhere p (reverse w)
+backward-none p w = (run-none long p (reverse w), nowhere-run long p (reverse w))
 
 -- the reverse check of the mirror answers for the original: a start exactly if some span of it fills the window's tail
 module _ (p : Prog) (w : List ℕ) where

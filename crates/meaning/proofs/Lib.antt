@@ -18,3 +18,5 @@ pub mod TokenLaws
 pub mod TokenTest
 pub mod YaraExamples
 pub mod FieldLaws
+pub mod MadeLaws
+pub mod MirrorSteps

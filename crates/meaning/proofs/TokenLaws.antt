@@ -1,8 +1,9 @@
--- The laws of tokens' spans: lists end to end. Assumes nothing.
+-- The laws of token lists: spans and entries, end to end. Assumes nothing.
 use mathlib.Core.Path.{_≡_, refl, sym, ap, _∙_, subst}
 use mathlib.Core.List.{List, [], _∷_, _++_, append-nil, append-assoc}
 use Prim.Native.Nat.{ℕ}
 use Rattle.meaning.specs.Tokens.{Token, Tokens, nothing, _then_, Matches, Spans, _⊕_}
+use Rattle.meaning.specs.Entries.{entriesOf, entries}
 
 -- a token alone has the spans that it matches
 pub one-span : (t : Token) (s : List ℕ) → Matches t s → Spans (t then nothing) s
@@ -36,3 +37,9 @@ pub after-assoc : (ts us vs : Tokens) → (ts ⊕ us) ⊕ vs ≡ ts ⊕ (us ⊕ 
 unfolding _⊕_
 after-assoc nothing us vs = refl
 after-assoc (k then ts) us vs = ap (λ (ws : Tokens). k then ws) (after-assoc ts us vs)
+
+-- and their entries
+pub entries-join : (ts us : Tokens) → entries (ts ⊕ us) ≡ entries ts ++ entries us
+unfolding entries _⊕_
+entries-join nothing us = refl
+entries-join (t then ts) us = ap (λ (l : List ℕ). entriesOf t ++ l) (entries-join ts us) ∙ sym (append-assoc (entriesOf t) (entries ts) (entries us))

@@ -5,3 +5,4 @@ pub mod Choices
 pub mod Words
 pub mod Entries
 pub mod Rows
+pub mod Values

@@ -1,0 +1,76 @@
+-- What compiling gives, by computing: the refusals are tested in 01's order, 12, 14, 13. Assumes nothing: these are definitions.
+use mathlib.Core.Bool.{Bool, true, false, cond, _&&_}
+use mathlib.Core.Option.{Option, none, some}
+use mathlib.Core.List.{List}
+use Prim.Native.Nat.{ℕ}
+use lib.Dec.{leb}
+use Rattle.base.specs.declared.Refusal.{Refusal}
+use Rattle.base.specs.declared.Refusal.the-variants.{NotSimple, TooManyNodes, BranchTooLong}
+use Rattle.meaning.specs.Tokens.{Token, Tokens, Lists, Byte, NotByte, MaskedByte, NotMaskedByte, Jump, Alternatives, nothing, _then_, neither, _or_}
+use Rattle.meaning.specs.Programs.{Item, Prog, Branches, one, jump, range, alt, end, _▹_, stop, or as branch}
+use Rattle.compiling.specs.ProgramWords.{nodes}
+use Rattle.compiling.specs.Compiling.{jumpLimit, branchLimit, nodeLimit, forwardProgram, reverseProgram, forwardWords, reverseWords}
+
+-- a token that may stand in a branch
+unfoldable pub plainToken : Token → Bool
+plainToken (Byte v) = true
+plainToken (NotByte v) = true
+plainToken (MaskedByte v m) = true
+plainToken (NotMaskedByte v m) = true
+plainToken (Jump from none) = false
+plainToken (Jump from (some to)) = leb to jumpLimit && leb to from
+plainToken (Alternatives ls) = false
+
+unfoldable pub plainTokens : Tokens → Bool
+plainTokens nothing = true
+plainTokens (t then ts) = plainToken t && plainTokens ts
+
+unfoldable pub plainLists : Lists → Bool
+plainLists neither = true
+plainLists (ts or ls) = plainTokens ts && plainLists ls
+
+-- a token that may stand in the outer list
+unfoldable pub simpleToken : Token → Bool
+simpleToken (Byte v) = true
+simpleToken (NotByte v) = true
+simpleToken (MaskedByte v m) = true
+simpleToken (NotMaskedByte v m) = true
+simpleToken (Jump from none) = false
+simpleToken (Jump from (some to)) = leb to jumpLimit
+simpleToken (Alternatives ls) = plainLists ls
+
+unfoldable pub simple : Tokens → Bool
+simple nothing = true
+simple (t then ts) = simpleToken t && simple ts
+
+-- no branch above the limit
+unfoldable pub shortIn : Branches → Bool
+shortIn stop = true
+shortIn (branch p bs) = leb (nodes p) branchLimit && shortIn bs
+
+unfoldable pub shortOf : Item → Bool
+shortOf (one t) = true
+shortOf (jump n) = true
+shortOf (range a b) = true
+shortOf (alt bs) = shortIn bs
+
+unfoldable pub short : Prog → Bool
+short end = true
+short (i ▹ p) = shortOf i && short p
+
+-- no more nodes than the limit
+unfoldable pub few : Prog → Bool
+few p = leb (nodes p) nodeLimit
+
+-- the words of the two programs, or a refusal
+pub data Compiled : Type 0 where
+  compiled : List ℕ → List ℕ → Compiled
+  refused : Refusal → Compiled
+
+unfoldable pub compile : Tokens → Compiled
+compile ts =
+    cond (simple ts)
+    (cond (short (forwardProgram ts) && short (reverseProgram ts))
+    (cond (few (forwardProgram ts) && few (reverseProgram ts)) (compiled (forwardWords ts) (reverseWords ts)) (refused TooManyNodes))
+    (refused BranchTooLong))
+    (refused NotSimple)

@@ -1,0 +1,42 @@
+-- A list's program, one token more. Assumes nothing.
+use mathlib.Core.Path.{_≡_, refl, sym, ap, _∙_, subst}
+use mathlib.Core.Bool.{Bool}
+use mathlib.Core.List.{List}
+use Prim.Native.Nat.{ℕ, suc, _+_, _*_, _/_, _≤_, _<_}
+use native.Mathlib.Omega.{arith}
+use native.Mathlib.Numerals.{add-one}
+use lib.ListN.{length, getD}
+use Rattle.meaning.specs.Programs.{Item, Prog}
+use Rattle.compiling.specs.ProgramWords.{nodes}
+use Rattle.compiling.specs.Compiling.{add}
+use Rattle.emit.specs.declared.Piece.{Piece}
+use Rattle.emit.specs.declared.Last.{Last}
+use Rattle.emit.specs.declared.Last.the-variants.{Fixed}
+use Rattle.emit.specs.Items.{entryItem, pieceOf, placeOf, putCount, putLast, putOut}
+use Rattle.emit.specs.Lists.{addedTo, entryAt, listItem, listProgram}
+use Rattle.emit.proofs.PutLaws.{Puts}
+use Rattle.emit.proofs.HoldLaws.{Holds, Single, put-holds, put-count-le, entry-single, nothing-held}
+
+pub added-none : (f : ℕ → Item) (o : List ℕ) → Holds (addedTo f 0) o o 0 Fixed
+unfolding addedTo
+added-none f o = nothing-held o
+
+-- one item of one word more
+pub added-more : (f : ℕ → Item) (k : ℕ) (o out : List ℕ) (n : ℕ) (last : Last) (piece : Piece) (count : ℕ) (next : Last) (now : List ℕ) → Single (f k) → piece ≡ pieceOf (f k) → n < length out → Holds (addedTo f k) o out n last → Puts out n last piece count next now → Holds (addedTo f (k + 1)) o now count next
+unfolding addedTo
+added-more f k o out n last piece count next now s e r h (x, y, z) =
+    let q : Holds (add (addedTo f k) (f k)) o (putOut out n last (pieceOf (f k))) (putCount n last (pieceOf (f k))) (putLast last (pieceOf (f k))) = put-holds (addedTo f k) o out n last h (f k) s r in
+    rw (add-one k, x, y, z, e) q
+
+pub list-single : (b : Bool) (ws : List ℕ) (k : ℕ) → Single (listItem b ws k)
+unfolding listItem entryAt
+list-single b ws k = entry-single _ _ _
+
+pub list-piece : (b : Bool) (ws : List ℕ) (k : ℕ) (piece : Piece) (at i : ℕ) → at ≡ 4 * i → i ≡ placeOf b (length ws / 4) k → piece ≡ pieceOf (entryItem (getD ws at 0) (getD ws (at + 1) 0) (getD ws (at + 2) 0)) → piece ≡ pieceOf (listItem b ws k)
+unfolding listItem entryAt
+list-piece b ws k piece at i e f g = g ∙ ap (λ (x : ℕ). pieceOf (entryAt ws x)) (e ∙ ap (λ (x : ℕ). 4 * x) f)
+
+-- at the end
+pub list-done : (b : Bool) (ws : List ℕ) (k : ℕ) (o out : List ℕ) (n : ℕ) (last : Last) → k ≡ length ws / 4 → Holds (addedTo (listItem b ws) k) o out n last → Holds (listProgram b ws) o out n last
+unfolding listProgram
+list-done b ws k o out n last e h = subst (λ (x : ℕ). Holds (addedTo (listItem b ws) x) o out n last) e h

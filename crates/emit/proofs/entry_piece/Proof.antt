@@ -1,0 +1,85 @@
+use mathlib.Core.Path.{_≡_, refl, sym, ap, _∙_}
+use borrow.Author.Tests.{eq-eqb, ne-eqb, lt-ltb, le-ltb}
+use Rattle.compiling.specs.ProgramWords.{wordFor}
+use Rattle.emit.specs.declared.Piece.the-variants.{Word, Gap}
+use Rattle.emit.specs.Items.{maskItem, notMaskItem, jumpItem, entryItem, pieceOf}
+use native.Mathlib.Omega.{arith}
+use borrow.Author.Needs.{needs}
+use Rattle.emit.proofs.entry_piece.Statement.{statement}
+use Rattle.emit.proofs.entry_piece.Tie as tie
+use Rattle.emit.proofs.entry_piece.Reads as reads
+use Rattle.emit.proofs.entry_piece.Lts as lts
+use Rattle.emit.proofs.jump_piece.Reads as jump-piece-reads
+use Rattle.emit.proofs.mask_piece.Reads as mask-piece-reads
+use Rattle.emit.proofs.not_mask_piece.Reads as not-mask-piece-reads
+use Rattle.nodes.proofs.node_word.Reads as node-word-reads
+
+-- src/lib.rt:73:13
+cast-v : tie.Need-cast-v
+cast-v c = search needs
+
+-- src/lib.rt:75:26
+node-word-requires : tie.Need-node-word-requires
+node-word-requires c κs = search needs
+
+-- src/lib.rt:76:26
+node-word-requires-2 : tie.Need-node-word-requires-2
+node-word-requires-2 c κs = search needs
+
+-- src/lib.rt:77:14
+mask-piece-requires : tie.Need-mask-piece-requires
+mask-piece-requires c κs = search needs
+
+-- src/lib.rt:78:14
+not-mask-piece-requires : tie.Need-not-mask-piece-requires
+not-mask-piece-requires c κs = search needs
+
+-- src/lib.rt:79:28
+cast-jump-piece : tie.Need-cast-jump-piece
+cast-jump-piece c = search needs
+
+-- src/lib.rt:79:14
+jump-piece-requires : tie.Need-jump-piece-requires
+jump-piece-requires c κs = search needs
+
+-- src/lib.rt:70:1
+returns : tie.Need-returns
+unfolding pieceOf wordFor entryItem
+returns c = rw (c .before .match .keys1) (ap Word (c .node-word .ensures))
+
+-- src/lib.rt:70:1
+returns-2 : tie.Need-returns-2
+unfolding pieceOf wordFor entryItem
+returns-2 c = rw (c .before .match .keys2) (ap Word (c .node-word2 .ensures))
+
+-- src/lib.rt:70:1
+returns-3 : tie.Need-returns-3
+unfolding entryItem
+returns-3 c = rw (c .before .match .keys3) (c .mask-piece .ensures)
+
+-- src/lib.rt:70:1
+returns-4 : tie.Need-returns-4
+unfolding entryItem
+returns-4 c = rw (c .before .match .keys4) (c .not-mask-piece .ensures)
+
+-- src/lib.rt:70:1
+returns-5 : tie.Need-returns-5
+unfolding entryItem
+returns-5 c = rw (ne-eqb _ 0 (c .before .match .rest .0 .0 .0 .1), ne-eqb _ 1 (c .before .match .rest .0 .0 .1), ne-eqb _ 2 (c .before .match .rest .0 .1), ne-eqb _ 3 (c .before .match .rest .1)) (c .jump-piece .ensures)
+
+pub entry-piece-spec : {M : Type 1} → statement M
+entry-piece-spec =
+    tie.close
+    (tie.spec
+    cast-v
+    node-word-requires
+    node-word-requires-2
+    mask-piece-requires
+    not-mask-piece-requires
+    cast-jump-piece
+    jump-piece-requires
+    returns
+    returns-2
+    returns-3
+    returns-4
+    returns-5)

@@ -1,0 +1,29 @@
+use mathlib.Core.Path.{_≡_, refl, sym, ap, _∙_}
+use borrow.Author.Tests.{eq-eqb, ne-eqb, lt-ltb, le-ltb}
+use Rattle.compiling.specs.ProgramWords.{wordFor}
+use Rattle.emit.specs.declared.Piece.the-variants.{Word, Gap}
+use Rattle.emit.specs.Items.{maskItem, notMaskItem, jumpItem, entryItem, pieceOf}
+use native.Mathlib.Omega.{arith}
+use borrow.Author.Needs.{needs}
+use Rattle.emit.proofs.jump_piece.Statement.{statement}
+use Rattle.emit.proofs.jump_piece.Tie as tie
+use Rattle.emit.proofs.jump_piece.Reads as reads
+use Rattle.emit.proofs.jump_piece.Lts as lts
+use Rattle.nodes.proofs.node_word.Reads as node-word-reads
+
+-- src/lib.rt:63:28
+node-word-requires : tie.Need-node-word-requires
+node-word-requires c κs = search needs
+
+-- src/lib.rt:63:9
+returns : tie.Need-returns
+unfolding pieceOf wordFor jumpItem
+returns c = rw (lt-ltb _ _ (c .before .if1 .taken)) (ap Word (c .node-word .ensures))
+
+-- src/lib.rt:59:1
+returns-2 : tie.Need-returns-2
+unfolding pieceOf wordFor jumpItem
+returns-2 c = rw (le-ltb _ _ (c .if1 .left))
+
+pub jump-piece-spec : {M : Type 1} → statement M
+jump-piece-spec = tie.close (tie.spec node-word-requires returns returns-2)

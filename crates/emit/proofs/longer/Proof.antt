@@ -1,0 +1,28 @@
+use borrow.Author.Tests.{lt-leb, le-leb}
+use mathlib.Core.Bool.{Bool, true, false, not, _||_}
+use mathlib.Core.Path.{_≡_, refl, sym, ap, _∙_}
+use native.Mathlib.Omega.{arith}
+use borrow.Author.Needs.{needs}
+use Rattle.emit.proofs.longer.Statement.{statement}
+use Rattle.emit.proofs.longer.Tie as tie
+use Rattle.emit.proofs.longer.Reads as reads
+use Rattle.emit.proofs.longer.Lts as lts
+
+-- src/lib.rt:191:9
+returns : tie.Need-returns
+returns c = rw (lt-leb _ _ (c .if1 .taken)) (go (c .before .args .long))
+  where
+    go : (t : Bool) → true ≡ (t || true)
+    go true = refl
+    go false = refl
+
+-- src/lib.rt:187:1
+returns-2 : tie.Need-returns-2
+returns-2 c = rw (le-leb _ _ (c .if1 .left)) (go (c .before .args .long))
+  where
+    go : (t : Bool) → t ≡ (t || false)
+    go true = refl
+    go false = refl
+
+pub longer-spec : {M : Type 1} → statement M
+longer-spec = tie.close (tie.spec returns returns-2)

@@ -1,0 +1,294 @@
+// Translated from boreal's boreal/src/matcher/validator/simple.rs (MIT OR Apache-2.0), commit 7010b5e967; see NOTICE.
+// The words of one program, made from token entries, forwards or from every list read backwards.
+ghost use mathlib.Core.Path.{_≡_};
+ghost use mathlib.Core.Bool.{true, not, _||_};
+ghost use lib.Dec.{leb};
+ghost use mathlib.Core.List.{_∷_, _++_};
+ghost use Prim.Native.Nat.{ℕ, _+_, _*_, _-_, _≤_, _<_};
+ghost use lib.ListN.{length, getD, drop, set};
+ghost use Rattle.meaning.specs.Programs.{alt};
+ghost use Rattle.meaning.specs.Words.{word};
+ghost use Rattle.compiling.specs.ProgramWords.{wordsFor, wordsOf, wordsIn, nodes};
+ghost use Rattle.emit.specs.declared.Last.the-variants.{Grows};
+ghost use Rattle.emit.specs.declared.Piece.the-variants.{Gap};
+ghost use Rattle.emit.specs.Items.{entryItem, maskItem, notMaskItem, jumpItem, pieceOf, Behind, putCount, putLast, putOut, placeOf};
+ghost use Rattle.compiling.specs.Compiling.{branchLimit};
+ghost use Rattle.compiling.specs.Compile.{shortIn, shortOf};
+ghost use Rattle.emit.specs.Lists.{listProgram, branchesAt, Listed, altAt, tokenAt, itemCount, itemLast, itemOut, sizeAt, Stands};
+use nodes::ByteTest;
+use nodes::Node;
+use nodes::node_word;
+
+// What a token of one entry adds: a node's word, or a jump, which may grow the last node.
+pub enum Piece {
+    Word(u32),
+    Gap(u8),
+}
+
+// The last node of a list: a jump, and its length, or anything else.
+pub enum Last {
+    Grows(u8),
+    Fixed,
+}
+
+// The words written so far, and the last node.
+pub struct Tail {
+    pub count: usize,
+    pub last: Last,
+}
+
+// `?X`, `X?` and `??`. The values that a text can spell are below 16: the remainder spares a requirement.
+fn mask_piece(a: u32, b: u32) -> Piece
+    ensures { λ r. ⌜ r ≡ pieceOf (maskItem a b) ⌝ }
+{
+    let v = (a % 16) as u8;
+    if b == 0 {
+        return Piece::Word(node_word(Node::One(ByteTest::Mask(v, 0x0F))));
+    }
+    if b == 1 {
+        return Piece::Word(node_word(Node::One(ByteTest::Mask(16 * v, 0xF0))));
+    }
+    Piece::Gap(1)
+}
+
+fn not_mask_piece(a: u32, b: u32) -> Piece
+    ensures { λ r. ⌜ r ≡ pieceOf (notMaskItem a b) ⌝ }
+{
+    let v = (a % 16) as u8;
+    if b == 0 {
+        return Piece::Word(node_word(Node::One(ByteTest::NegatedMask(v, 0x0F))));
+    }
+    if b == 1 {
+        return Piece::Word(node_word(Node::One(ByteTest::NegatedMask(16 * v, 0xF0))));
+    }
+    Piece::Word(node_word(Node::One(ByteTest::NegatedMask(0, 0))))
+}
+
+fn jump_piece(a: u8, b: u8) -> Piece
+    ensures { λ r. ⌜ r ≡ pieceOf (jumpItem a b) ⌝ }
+{
+    if a < b {
+        return Piece::Word(node_word(Node::JumpRange(a, b)));
+    }
+    Piece::Gap(a)
+}
+
+// What a token of one entry adds, by its kind and its first two values. Bytes that a text can spell and jumps that are simple
+// are below 256.
+pub fn entry_piece(kind: u32, a: u32, b: u32) -> Piece
+    ensures { λ r. ⌜ r ≡ pieceOf (entryItem kind a b) ⌝ }
+{
+    let v = (a % 256) as u8;
+    match kind {
+        0 => Piece::Word(node_word(Node::One(ByteTest::Byte(v)))),
+        1 => Piece::Word(node_word(Node::One(ByteTest::NegatedMask(v, 0xFF)))),
+        2 => mask_piece(a, b),
+        3 => not_mask_piece(a, b),
+        _ => jump_piece(v, (b % 256) as u8),
+    }
+}
+
+// A jump at the end.
+fn append_jump(out: &mut [u32], n: usize, len: u8) -> Tail
+    requires { ⌜ n < length (now out) ⌝ }
+    ensures { λ r. ⌜ (r .count ≡ n + 1) × (r .last ≡ Grows len) × (now (out .exit) ≡ set (now (out .entry)) n (word 3 len 0)) ⌝ }
+{
+    out[n] = node_word(Node::Jump(len));
+    Tail {
+        count: n + 1,
+        last: Last::Grows(len),
+    }
+}
+
+// Adding a jump enlarges the last node if that is a jump and the sum is at most 255, else appends.
+fn add_jump(out: &mut [u32], n: usize, last: Last, len: u8) -> Tail
+    requires { ⌜ (n < length (now out)) × Behind n last ⌝ }
+    ensures { λ r. ⌜ (r .count ≡ putCount n last (Gap len)) × (r .last ≡ putLast last (Gap len))
+        × (now (out .exit) ≡ putOut (now (out .entry)) n last (Gap len)) ⌝ }
+{
+    let Last::Grows(old) = last else {
+        return append_jump(out, n, len);
+    };
+    let sum = old as u32 + len as u32;
+    if 255 < sum {
+        return append_jump(out, n, len);
+    }
+    let at = n - 1;
+    out[at] = node_word(Node::Jump(sum as u8));
+    Tail {
+        count: n,
+        last: Last::Grows(sum as u8),
+    }
+}
+
+// One piece more after n words.
+fn add_piece(out: &mut [u32], n: usize, last: Last, piece: Piece) -> Tail
+    requires { ⌜ (n < length (now out)) × Behind n last ⌝ }
+    ensures { λ r. ⌜ (r .count ≡ putCount n last piece) × (r .last ≡ putLast last piece)
+        × (now (out .exit) ≡ putOut (now (out .entry)) n last piece) ⌝ }
+{
+    match piece {
+        Piece::Word(w) => {
+            out[n] = w;
+            Tail {
+                count: n + 1,
+                last: Last::Fixed,
+            }
+        }
+        Piece::Gap(len) => add_jump(out, n, last, len),
+    }
+}
+
+// Which of n tokens comes k-th.
+fn place(backwards: bool, n: usize, k: usize) -> usize
+    requires { ⌜ k < n ⌝ }
+    ensures { λ r. ⌜ (r ≡ placeOf backwards n k) × (r < n) ⌝ }
+{
+    if backwards {
+        return n - 1 - k;
+    }
+    k
+}
+
+// A list of tokens of one entry each, as a branch is: its words at the front of `out`, and their number.
+pub fn add_list(entries: &[u32], backwards: bool, out: &mut [u32]) -> usize
+    requires { ⌜ length (now entries) ≤ 4 * length (now out) ⌝ }
+    ensures { λ r. ⌜ (r ≡ nodes (listProgram backwards (now (entries .entry))))
+        × (now (out .exit) ≡ wordsOf (listProgram backwards (now (entries .entry))) ++ drop r (now (out .entry))) ⌝ }
+{
+    let count = entries.len() / 4;
+    let mut n = 0;
+    let mut last = Last::Fixed;
+    let mut k = 0;
+    while k < count {
+        let at = 4 * place(backwards, count, k);
+        let piece = entry_piece(entries[at], entries[at + 1], entries[at + 2]);
+        let tail = add_piece(out, n, last, piece);
+        n = tail.count;
+        last = tail.last;
+        k += 1;
+    }
+    n
+}
+
+// The words of branches, and whether one of them is above 255 nodes.
+pub struct Branched {
+    pub count: usize,
+    pub long: bool,
+}
+
+// An AltBranch's word. It counts past 255 too: such a branch is refused later, by 14.
+fn branch_word(n: usize) -> u32
+    requires { ⌜ n ≤ 4096 ⌝ }
+    ensures { λ r. ⌜ r ≡ word 7 n 0 ⌝ }
+{
+    7 + 256 * (n as u32)
+}
+
+fn longer(long: bool, n: usize) -> bool
+    ensures { λ r. ⌜ r ≡ (long || not (leb n branchLimit)) ⌝ }
+{
+    if 255 < n {
+        return true;
+    }
+    long
+}
+
+// Lists behind their marks: each is a branch, with its own mark before its nodes.
+pub fn add_lists(entries: &[u32], lists: usize, backwards: bool, out: &mut [u32]) -> Branched
+    requires { ⌜ Listed lists (now entries) × (length (now entries) ≤ 4096) × (length (now entries) ≤ 4 * length (now out)) ⌝ }
+    ensures { λ r. ⌜ (r .count ≡ length (wordsIn (branchesAt backwards lists (now (entries .entry)))))
+        × (r .long ≡ not (shortIn (branchesAt backwards lists (now (entries .entry)))))
+        × (now (out .exit) ≡ wordsIn (branchesAt backwards lists (now (entries .entry))) ++ drop (r .count) (now (out .entry))) ⌝ }
+{
+    let mut x = 0;
+    let mut n = 0;
+    let mut l = 0;
+    let mut long = false;
+    while l < lists {
+        let count = entries[x + 1] as usize;
+        let from = x + 4;
+        let to = from + 4 * count;
+        let m = add_list(&entries[from..to], backwards, &mut out[n + 1..]);
+        out[n] = branch_word(m);
+        long = longer(long, m);
+        n = n + 1 + m;
+        x = to;
+        l += 1;
+    }
+    Branched {
+        count: n,
+        long: long,
+    }
+}
+
+// The alternatives at a place: their Alternation, and their branches behind it.
+fn add_alternation(tokens: &[u32], at: usize, backwards: bool, out: &mut [u32]) -> Branched
+    requires { ⌜ Stands (now tokens) at × (getD (now tokens) at 0 ≡ 5) × (length (now tokens) ≤ 4096)
+        × (sizeAt (now tokens) at ≤ 4 * length (now out)) ⌝ }
+    ensures { λ r. ⌜ (r .count ≡ length (wordsFor (alt (altAt backwards (now (tokens .entry)) at))))
+        × (r .long ≡ not (shortIn (altAt backwards (now (tokens .entry)) at)))
+        × (now (out .exit) ≡ wordsFor (alt (altAt backwards (now (tokens .entry)) at)) ++ drop (r .count) (now (out .entry))) ⌝ }
+{
+    let lists = tokens[at + 1] as usize;
+    let from = at + 4;
+    let to = from + 4 * (tokens[at + 2] as usize);
+    let b = add_lists(&tokens[from..to], lists, backwards, &mut out[1..]);
+    let count = b.count;
+    out[0] = node_word(Node::Alternation(count as u16));
+    Branched {
+        count: count + 1,
+        long: b.long,
+    }
+}
+
+// The words written so far, the last node, and whether some branch is above 255 nodes.
+pub struct Step {
+    pub count: usize,
+    pub last: Last,
+    pub long: bool,
+}
+
+// The token at a place, after n words.
+fn add_token(
+    tokens: &[u32],
+    at: usize,
+    backwards: bool,
+    out: &mut [u32],
+    n: usize,
+    last: Last,
+    long: bool,
+) -> Step
+    requires { ⌜ Stands (now tokens) at × (length (now tokens) ≤ 4096) × (4 * n + sizeAt (now tokens) at ≤ 4 * length (now out)) × Behind n last ⌝ }
+    ensures { λ r. ⌜ (r .count ≡ itemCount n last (tokenAt backwards (now (tokens .entry)) at))
+        × (r .last ≡ itemLast last (tokenAt backwards (now (tokens .entry)) at))
+        × (r .long ≡ (long || not (shortOf (tokenAt backwards (now (tokens .entry)) at))))
+        × (now (out .exit) ≡ itemOut (now (out .entry)) n last (tokenAt backwards (now (tokens .entry)) at)) ⌝ }
+{
+    let kind = tokens[at];
+    if kind == 5 {
+        let b = add_alternation(tokens, at, backwards, &mut out[n..]);
+        return Step {
+            count: n + b.count,
+            last: Last::Fixed,
+            long: either(long, b.long),
+        };
+    }
+    let piece = entry_piece(kind, tokens[at + 1], tokens[at + 2]);
+    let tail = add_piece(out, n, last, piece);
+    let next = tail.last;
+    Step {
+        count: tail.count,
+        last: next,
+        long: long,
+    }
+}
+
+fn either(a: bool, b: bool) -> bool
+    ensures { λ r. ⌜ r ≡ (a || b) ⌝ }
+{
+    if a {
+        return true;
+    }
+    b
+}

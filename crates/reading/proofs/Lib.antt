@@ -1,0 +1,7 @@
+-- What is known of reading.
+pub mod PieceLaws
+pub mod PieceSteps
+pub mod PieceBounds
+pub mod ListBounds
+pub mod ListSteps
+pub mod Samples
