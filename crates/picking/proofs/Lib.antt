@@ -1,2 +1,3 @@
 -- The laws of the choice.
 pub mod Samples
+pub mod MatchLaws

@@ -1,7 +1,7 @@
 -- The literals of tokens, in 01's order, their combinations and their shortest length. Assumes nothing: these are definitions.
 use mathlib.Core.Bool.{Bool, true, false, not, _&&_}
 use mathlib.Core.List.{List, [], _∷_, _++_}
-use Prim.Native.Nat.{ℕ, zero, suc, _+_, _*_, _/_, _%_, min}
+use Prim.Native.Nat.{ℕ, zero, suc, _+_, _*_, _/_, _%_, _<_, min}
 use lib.Dec.{eqb}
 use lib.ListN.{length}
 use Rattle.meaning.specs.Tokens.{Mask, left, right, all, Token, Tokens, Lists, Byte, NotByte, MaskedByte, NotMaskedByte, Jump, Alternatives, nothing, _then_, neither, _or_}
@@ -143,3 +143,26 @@ unfoldable mutual
   pub shorter : Lists → ℕ → ℕ
   shorter neither n = n
   shorter (ts or ls) n = shorter ls (min n (lengthIn ts))
+
+unfoldable mutual
+  -- neither `??` nor a jump at any depth
+  pub listableOf : Token → Bool
+  listableOf (Byte v) = true
+  listableOf (NotByte v) = true
+  listableOf (MaskedByte v m) = isPlain (MaskedByte v m)
+  listableOf (NotMaskedByte v m) = isPlain (NotMaskedByte v m)
+  listableOf (Jump from to) = false
+  listableOf (Alternatives ls) = listableIn ls
+
+  pub listable : Tokens → Bool
+  listable nothing = true
+  listable (t then ts) = listableOf t && listable ts
+
+  pub listableIn : Lists → Bool
+  listableIn neither = true
+  listableIn (ts or ls) = listable ts && listableIn ls
+
+-- bytes, as a haystack has them
+unfoldable pub Bytes : List ℕ → Type 0
+Bytes [] = Unit {0}
+Bytes (b ∷ s) = (b < 256) × Bytes s
