@@ -2,3 +2,4 @@
 pub mod Literals
 pub mod Runs
 pub mod Choice
+pub mod Numbers
