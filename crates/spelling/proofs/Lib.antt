@@ -1,0 +1,3 @@
+-- The laws of entries, counts and writing.
+pub mod StepLaws
+pub mod ClassLaws

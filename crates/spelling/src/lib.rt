@@ -1,0 +1,84 @@
+// What the literals of token entries are: how many, how long, and number k of them.
+ghost use mathlib.Core.Path.{_≡_};
+ghost use mathlib.Core.Bool.{Bool};
+ghost use Prim.Native.Nat.{_+_, _*_, _-_, _≤_, _<_, _%_, min};
+ghost use lib.ListN.{length, getD, take, drop};
+ghost use Rattle.meaning.specs.Tokens.{MaskedByte, NotMaskedByte};
+ghost use Rattle.bitmap.specs.Bitmap.{Holds, membersFrom};
+ghost use Rattle.picking.specs.Literals.{taken, isPlain, plainList, plainLists};
+ghost use Rattle.picking.specs.Runs.{plain};
+ghost use Rattle.picking.specs.Numbers.{count, countIn};
+ghost use Rattle.spelling.specs.Words.{maskIn, entryToken, firstEntry, flatIn, ends, inside, listsIn, tokenIn, width, tokensIn};
+ghost use Rattle.spelling.specs.Classes.{passes};
+use bitmap::Bitmap;
+use bitmap::Member;
+
+// The bytes with the half that a mask leaves to be compared.
+fn half_of(x: u8, mask: u32) -> Bitmap
+    ensures { λ r. ⌜ Holds r (passes (MaskedByte (x % 16) (maskIn mask))) ⌝ }
+{
+    match mask {
+        0 => Bitmap::low_half(x),
+        1 => Bitmap::high_half(x),
+        _ => Bitmap::new(),
+    }
+}
+
+// All other bytes; none for `~??`, which is never read.
+fn other_half_of(x: u8, mask: u32) -> Bitmap
+    ensures { λ r. ⌜ Holds r (passes (NotMaskedByte (x % 16) (maskIn mask))) ⌝ }
+{
+    match mask {
+        0 => Bitmap::low_half(x).invert(),
+        1 => Bitmap::high_half(x).invert(),
+        _ => Bitmap::new(),
+    }
+}
+
+// The bytes that an entry of a class takes; none for any other.
+pub fn class_of(kind: u32, value: u32, mask: u32) -> Bitmap
+    ensures { λ r. ⌜ Holds r (passes (entryToken kind value mask)) ⌝ }
+{
+    let x = (value % 256) as u8;
+    match kind {
+        1 => Bitmap::all_but(x),
+        2 => half_of(x, mask),
+        3 => other_half_of(x, mask),
+        _ => Bitmap::new(),
+    }
+}
+
+// Where the words within an entry of alternatives or a list mark end.
+pub fn end_of(ws: &[u32]) -> usize
+    requires { ⌜ 4 ≤ length (now ws) ⌝ }
+    ensures { λ r. ⌜ r ≡ ends (now (ws .entry)) ⌝ }
+{
+    let e = 4 + 4 * (ws[2] as usize);
+    if ws.len() < e { ws.len() } else { e }
+}
+
+// The words of the token at the front.
+pub fn width_of(ws: &[u32]) -> usize
+    requires { ⌜ 4 ≤ length (now ws) ⌝ }
+    ensures { λ r. ⌜ r ≡ width (now (ws .entry)) ⌝ }
+{
+    if ws[0] == 5 { end_of(ws) } else { 4 }
+}
+
+// Member number j of a set of bytes.
+pub fn member_at(set: Bitmap, j: usize) -> u8
+    ensures { λ r. ⌜ r ≡ getD (membersFrom set 0) j 0 ⌝ }
+{
+    let mut from: usize = 0;
+    let mut left = j;
+    loop {
+        let Member::At(b) = set.next(from) else {
+            return 0;
+        };
+        if left == 0 {
+            return b;
+        }
+        left -= 1;
+        from = b as usize + 1;
+    }
+}
