@@ -13,6 +13,7 @@ use Rattle.bitmap.specs.declared.Bitmap.{Bitmap}
 use Rattle.bitmap.specs.declared.Member.{Member}
 use Rattle.bitmap.specs.declared.Member.the-variants.{At, Nothing}
 use Rattle.bitmap.specs.Bitmap.{has, Holds, size, IsNext, rising, membersFrom, members}
+use Rattle.bitmap.proofs.Tally.{tally-not}
 use Rattle.bitmap.proofs.Members.{members-size, next-at, next-nothing}
 use Rattle.picking.specs.Literals.{kept, passing, bytesThat, taken}
 use Rattle.spelling.specs.Words.{maskIn, entryToken}
@@ -148,3 +149,11 @@ module _ (m : Bitmap) (v left : ℕ) (r : Member) (next : IsNext m v r) where
 
   pub member-byte : (b : ℕ) → r ≡ At b → b < 256
   member-byte b e = (subst (IsNext m v) e next) .1
+
+pub byte-at : (kind v mask j : ℕ) → kind ≡ 0 → j < length (taken (entryToken kind v mask)) → v % 256 ≡ getD (taken (entryToken kind v mask)) j 0
+byte-at kind v mask zero e h = sym (ap (λ (l : List ℕ). getD l 0 0) (byte-taken kind v mask e))
+byte-at kind v mask (suc j) e h = absurd (let l = ap length (byte-taken kind v mask e) in omega arith)
+
+pub size-le : (m : Bitmap) → size m ≤ 256
+unfolding size
+size-le m = omega (arith, tally-not (has m) 256)

@@ -1,3 +1,5 @@
 -- The laws of entries, counts and writing.
 pub mod StepLaws
 pub mod ClassLaws
+pub mod PlainLaws
+pub mod PartLaws

@@ -99,3 +99,8 @@ tokens-end ws h = walk-end nothing (λ w ts. tokenIn w then ts) width (length ws
 pub tokens-step : (ws : List ℕ) → 4 ≤ length ws → tokensIn ws ≡ tokenIn ws then tokensIn (drop (width ws) ws)
 unfolding tokensIn
 tokens-step ws h = walk-step nothing (λ w ts. tokenIn w then ts) width width-long ws h
+
+-- alternatives end where the words within do
+pub width-inside : (ws : List ℕ) → getD ws 0 0 ≡ 5 → width ws ≡ ends ws
+unfolding width
+width-inside ws e = rw (borrow.Author.Tests.eq-eqb (getD ws 0 0) 5 e)

@@ -82,3 +82,79 @@ pub fn member_at(set: Bitmap, j: usize) -> u8
         from = b as usize + 1;
     }
 }
+
+// How many bytes an entry takes.
+pub fn taken_count(kind: u32, value: u32, mask: u32) -> usize
+    ensures { λ r. ⌜ (r ≡ length (taken (entryToken kind value mask))) × (r ≤ 256) ⌝ }
+{
+    if kind == 0 {
+        return 1;
+    }
+    let n = class_of(kind, value, mask).count();
+    n as usize
+}
+
+// Byte number j of those that an entry takes.
+pub fn taken_at(kind: u32, value: u32, mask: u32, j: usize) -> u8
+    requires { ⌜ j < length (taken (entryToken kind value mask)) ⌝ }
+    ensures { λ r. ⌜ r ≡ getD (taken (entryToken kind value mask)) j 0 ⌝ }
+{
+    if kind == 0 {
+        return (value % 256) as u8;
+    }
+    member_at(class_of(kind, value, mask), j)
+}
+
+fn plain_entry(kind: u32, mask: u32) -> bool
+    ensures { λ r. ⌜ r ≡ isPlain (entryToken kind 0 mask) ⌝ }
+{
+    match kind {
+        0 | 1 => true,
+        2 | 3 => mask < 2,
+        _ => false,
+    }
+}
+
+fn plain_list(ws: &[u32]) -> bool
+    ensures { λ r. ⌜ r ≡ plainList (flatIn (now (ws .entry))) ⌝ }
+{
+    let mut rest = ws;
+    while 4 <= rest.len() {
+        if !plain_entry(rest[0], rest[2]) {
+            return false;
+        }
+        rest = &rest[4..];
+    }
+    true
+}
+
+fn plain_lists(ws: &[u32]) -> bool
+    ensures { λ r. ⌜ r ≡ plainLists (listsIn (now (ws .entry))) ⌝ }
+{
+    let mut rest = ws;
+    while 4 <= rest.len() {
+        let e = end_of(rest);
+        if !plain_list(&rest[4..e]) {
+            return false;
+        }
+        rest = &rest[e..];
+    }
+    true
+}
+
+// All alternatives hold only bytes and classes.
+pub fn is_plain(ws: &[u32]) -> bool
+    ensures { λ r. ⌜ r ≡ plain (tokensIn (now (ws .entry))) ⌝ }
+{
+    let mut rest = ws;
+    while 4 <= rest.len() {
+        let e = width_of(rest);
+        if rest[0] == 5 {
+            if !plain_lists(&rest[4..e]) {
+                return false;
+            }
+        }
+        rest = &rest[e..];
+    }
+    true
+}
