@@ -3,3 +3,4 @@ pub mod StepLaws
 pub mod ClassLaws
 pub mod PlainLaws
 pub mod PartLaws
+pub mod TallyLaws

@@ -24,3 +24,6 @@ not-false false e = absurd (let z : _≡_ {A = ℕ} 0 1 = cc in omega arith)
 
 pub part-le : (a : ℕ) (l : List ℕ) → length (take (length l - a) (drop a l)) ≤ length l
 part-le a l = let e : length (take (length l - a) (drop a l)) ≡ length l - a = ap length (part-all a l) ∙ length-drop a l in omega arith
+
+pub part-long : (a : ℕ) (l : List ℕ) → length (take (length l - a) (drop a l)) ≡ length l - a
+part-long a l = ap length (part-all a l) ∙ length-drop a l

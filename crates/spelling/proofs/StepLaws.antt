@@ -104,3 +104,15 @@ tokens-step ws h = walk-step nothing (λ w ts. tokenIn w then ts) width width-lo
 pub width-inside : (ws : List ℕ) → getD ws 0 0 ≡ 5 → width ws ≡ ends ws
 unfolding width
 width-inside ws e = rw (borrow.Author.Tests.eq-eqb (getD ws 0 0) 5 e)
+
+-- what holds of fewer than four words, and of four and more where it holds of what follows four, holds of all
+pub by-entries : (P : List ℕ → Type 0) → ((ws : List ℕ) → length ws < 4 → P ws) → ((ws : List ℕ) → 4 ≤ length ws → P (drop 4 ws) → P ws) → (ws : List ℕ) → P ws
+by-entries P stop more ws = go (length ws) ws (le-refl (length ws))
+  where
+    go : (n : ℕ) (w : List ℕ) → length w ≤ n → P w
+    go zero w h = stop w (omega arith)
+    go (suc n) w h = at (ltb (length w) 4) refl (λ l. go n (drop 4 w) (omega (arith, length-drop 4 w)))
+      where
+        at : (t : Bool) → ltb (length w) 4 ≡ t → (4 ≤ length w → P (drop 4 w)) → P w
+        at true e f = stop w (borrow.Author.Tests.ltb-true (length w) 4 e)
+        at false e f = more w (borrow.Author.Tests.ltb-false (length w) 4 e) (f (borrow.Author.Tests.ltb-false (length w) 4 e))
