@@ -7,13 +7,8 @@ use lib.ListN.{length, take, drop, length-append}
 use lib.Seq.{take-append-seam, drop-append-seam}
 use Rattle.printing.specs.Text.{ascii}
 use Rattle.printing.specs.Laid.{each}
-use Rattle.printing.specs.Lines.{numberLine, nodeLine, numbersLine, programLines, literalLine, literalLines, literalsLines, cut, Picked, picked, unpicked, pickedLines, literalsRefusedLine, refusedLine, programsLines, compiled, refused, listing}
+use Rattle.printing.specs.Lines.{numberLine, nodeLine, numbersLine, programLines, literalLine, literalLines, literalsLines, joined, cut, Picked, picked, unpicked, pickedLines, literalsRefusedLine, refusedLine, programsLines, compiled, refused, listing}
 use Rattle.printing.proofs.LineLaws.{length-number, length-numbers, length-node, length-literal}
-
--- the bytes of all the literals, one after another
-unfoldable pub joined : List (List ℕ) → List ℕ
-joined [] = []
-joined (l ∷ ls) = l ++ joined ls
 
 -- cut by their lengths they are the literals again, whatever the buffers hold beyond
 pub cut-joined : (ls : List (List ℕ)) (rest : List ℕ) → cut (map length ls) (joined ls ++ rest) ≡ ls
