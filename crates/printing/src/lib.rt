@@ -12,7 +12,7 @@ ghost use Rattle.printing.specs.Listed.{listedOf};
 use nodes::ByteTest;
 use nodes::Node;
 
-pub fn put_byte(out: &mut [u8], at: usize, b: u8) -> usize
+fn put_byte(out: &mut [u8], at: usize, b: u8) -> usize
     requires { ⌜ at + 1 < 2 ^ 64 ⌝ }
     ensures { λ r. ⌜ Put (now (out .entry)) at (b ∷ []) r (now (out .exit)) ⌝ }
 {
@@ -24,7 +24,7 @@ pub fn put_byte(out: &mut [u8], at: usize, b: u8) -> usize
 }
 
 // The bytes as they are.
-pub fn put_bytes(out: &mut [u8], at: usize, s: &[u8]) -> usize
+fn put_bytes(out: &mut [u8], at: usize, s: &[u8]) -> usize
     requires { ⌜ at + length (now s) < 2 ^ 64 ⌝ }
     ensures { λ r. ⌜ Put (now (out .entry)) at (now (s .entry)) r (now (out .exit)) ⌝ }
 {
@@ -45,7 +45,7 @@ fn digit_of(d: u8) -> u8
 }
 
 // Two upper-case digits.
-pub fn put_hex(out: &mut [u8], at: usize, b: u8) -> usize
+fn put_hex(out: &mut [u8], at: usize, b: u8) -> usize
     requires { ⌜ at + 2 < 2 ^ 64 ⌝ }
     ensures { λ r. ⌜ Put (now (out .entry)) at (hexOf b) r (now (out .exit)) ⌝ }
 {
@@ -54,7 +54,7 @@ pub fn put_hex(out: &mut [u8], at: usize, b: u8) -> usize
 }
 
 // A byte string in digits, without blanks.
-pub fn put_hexes(out: &mut [u8], at: usize, s: &[u8]) -> usize
+fn put_hexes(out: &mut [u8], at: usize, s: &[u8]) -> usize
     requires { ⌜ at + 2 * length (now s) < 2 ^ 64 ⌝ }
     ensures { λ r. ⌜ Put (now (out .entry)) at (each hexOf (now (s .entry))) r (now (out .exit)) ⌝ }
 {
@@ -68,7 +68,7 @@ pub fn put_hexes(out: &mut [u8], at: usize, s: &[u8]) -> usize
 }
 
 // Decimal digits; the calls go as deep as there are digits, 20 at most.
-pub fn put_decimal(out: &mut [u8], at: usize, n: usize) -> usize
+fn put_decimal(out: &mut [u8], at: usize, n: usize) -> usize
     requires { ⌜ at + 20 < 2 ^ 64 ⌝ }
     ensures { λ r. ⌜ Put (now (out .entry)) at (decimalOf n) r (now (out .exit)) ⌝ }
 {
@@ -80,7 +80,7 @@ pub fn put_decimal(out: &mut [u8], at: usize, n: usize) -> usize
 }
 
 // A line that ends with a number.
-pub fn put_number_line(out: &mut [u8], at: usize, name: &[u8], n: usize) -> usize
+fn put_number_line(out: &mut [u8], at: usize, name: &[u8], n: usize) -> usize
     requires { ⌜ at + length (now name) + 21 < 2 ^ 64 ⌝ }
     ensures { λ r. ⌜ Put (now (out .entry)) at (numberLine (now (name .entry)) n) r (now (out .exit)) ⌝ }
 {
@@ -90,7 +90,7 @@ pub fn put_number_line(out: &mut [u8], at: usize, name: &[u8], n: usize) -> usiz
 }
 
 // A line that ends with two numbers and what stands between them.
-pub fn put_numbers_line(
+fn put_numbers_line(
     out: &mut [u8],
     at: usize,
     name: &[u8],
@@ -107,7 +107,7 @@ pub fn put_numbers_line(
 }
 
 // A line that ends with a byte.
-pub fn put_byte_line(out: &mut [u8], at: usize, name: &[u8], v: u8) -> usize
+fn put_byte_line(out: &mut [u8], at: usize, name: &[u8], v: u8) -> usize
     requires { ⌜ at + length (now name) + 3 < 2 ^ 64 ⌝ }
     ensures { λ r. ⌜ Put (now (out .entry)) at (byteLine (now (name .entry)) v) r (now (out .exit)) ⌝ }
 {
@@ -117,7 +117,7 @@ pub fn put_byte_line(out: &mut [u8], at: usize, name: &[u8], v: u8) -> usize
 }
 
 // A line that ends with a value and a mask.
-pub fn put_mask_line(out: &mut [u8], at: usize, name: &[u8], v: u8, m: u8) -> usize
+fn put_mask_line(out: &mut [u8], at: usize, name: &[u8], v: u8, m: u8) -> usize
     requires { ⌜ at + length (now name) + 6 < 2 ^ 64 ⌝ }
     ensures { λ r. ⌜ Put (now (out .entry)) at (maskLine (now (name .entry)) v m) r (now (out .exit)) ⌝ }
 {
@@ -139,7 +139,7 @@ fn put_test(out: &mut [u8], at: usize, t: ByteTest) -> usize
 }
 
 // The line of a node word. A word of a kind that 01 does not have writes nothing: no program that was compiled holds one.
-pub fn put_node(out: &mut [u8], at: usize, w: u32) -> usize
+fn put_node(out: &mut [u8], at: usize, w: u32) -> usize
     requires { ⌜ at + 64 < 2 ^ 64 ⌝ }
     ensures { λ r. ⌜ Put (now (out .entry)) at (nodeLine w) r (now (out .exit)) ⌝ }
 {
@@ -168,7 +168,7 @@ fn put_nodes(out: &mut [u8], at: usize, words: &[u32]) -> usize
 }
 
 // A program: its name with the count of its nodes, and their lines.
-pub fn put_program(out: &mut [u8], at: usize, name: &[u8], words: &[u32]) -> usize
+fn put_program(out: &mut [u8], at: usize, name: &[u8], words: &[u32]) -> usize
     requires { ⌜ at + length (now name) + 85 + 14 * length (now words) < 2 ^ 64 ⌝ }
     ensures { λ r. ⌜ Put (now (out .entry)) at (programLines (now (name .entry)) (now (words .entry))) r (now (out .exit)) ⌝ }
 {
