@@ -3,23 +3,25 @@ use mathlib.Core.Path.{_≡_, refl, sym, ap, ap₂, _∙_, subst}
 use mathlib.Core.Bool.{Bool, true}
 use mathlib.Core.Logic.{_↔_}
 use mathlib.Core.Option.{Option, none, some}
-use mathlib.Core.List.{List, _++_, reverse, reverse-reverse}
-use Prim.Native.Nat.{ℕ, _+_, _-_, _≤_, _<_}
+use mathlib.Core.List.{List, [], _∷_, _++_, reverse, reverse-reverse}
+use Prim.Native.Nat.{ℕ, zero, suc, _+_, _-_, _≤_, _<_}
 use native.Mathlib.Omega.{arith}
 use borrow.Author.Tests.{le-leb}
 use lib.ListN.{length, take, drop, getD, length-take, length-drop, length-append, length-reverse}
-use lib.Seq.{ext-getD, getD-take, getD-drop}
+use lib.Seq.{ext-getD, getD-take, getD-drop, drop-drop}
 use Rattle.base.proofs.RefusalLaws.{number-one}
 use Rattle.meaning.specs.Programs.{Prog, Span}
-use Rattle.meaning.specs.Choices.{Nowhere, FirstForward, FirstReverse}
+use Rattle.meaning.specs.Choices.{short, long, Nowhere, FirstForward, FirstReverse}
 use Rattle.meaning.specs.Rows.{forward, backward}
 use Rattle.meaning.specs.Words.{prog, sound, mirrorWords}
 use Rattle.meaning.proofs.FirstLaws as first
 use Rattle.meaning.proofs.WordSpans.{sound-length, join-sound, join-found, found-join, mirrored-sound, mirrored-length, mirrored-found, found-mirrored}
+use Rattle.steps.specs.Steps.{answer}
+use Rattle.steps.proofs.Answers.{left-fits, left-part}
 use Rattle.checkdoors.specs.declared.Answer.{Answer}
 use Rattle.checkdoors.specs.declared.Answer.the-variants.{At, NoMatch, Refused}
 use Rattle.checkdoors.specs.Doors.{Outcome, found, noMatch, refused, said, window, refusal, unless, endAt, startAt, forwardSays, reverseSays, leftOr, unlessEmpty, leftSays}
-use Rattle.checkdoors.proofs.DoorLaws.{passed, forward-checked, reverse-checked}
+use Rattle.checkdoors.proofs.DoorLaws.{Fine, fine, window-length, passed, forward-checked, reverse-checked, left-checked}
 
 -- an answer is known by what it says
 pub said-one : (r q : Answer) → said r ≡ said q → r ≡ q
@@ -109,6 +111,24 @@ start-none : (s : ℕ) (x : Option (List ℕ)) → startAt s x ≡ noMatch → x
 start-none s none h = refl
 start-none s (some v) h = let z : _≡_ {A = ℕ} 0 1 = cc in absurd (omega arith)
 
+-- a part of a part
+nothing-of : (k : ℕ) → _≡_ {A = List ℕ} [] (take k [])
+nothing-of zero = refl
+nothing-of (suc k) = refl
+
+drop-take : (j m : ℕ) (l : List ℕ) → drop j (take m l) ≡ take (m - j) (drop j l)
+drop-take zero m l = let e : m ≡ m - 0 = omega arith in ap (λ (k : ℕ). take k l) e
+drop-take (suc j) zero l = let e : 0 ≡ 0 - suc j = omega arith in ap (λ (k : ℕ). take k (drop (suc j) l)) e
+drop-take (suc j) (suc m) [] = nothing-of (suc m - suc j)
+drop-take (suc j) (suc m) (x ∷ l) = let e : m - j ≡ suc m - suc j = omega arith in drop-take j m l ∙ ap (λ (k : ℕ). take k (drop j l)) e
+
+-- the end of a window is a window
+window-end : (hay : List ℕ) (s e k n : ℕ) → s ≤ e → k ≤ e - s → n ≡ e - k → drop (e - s - k) (window hay s e) ≡ window hay n e
+window-end hay s e k n d h g =
+    let a : e - s - (e - s - k) ≡ e - n = omega arith in
+    let b : s + (e - s - k) ≡ n = omega arith in
+    drop-take (e - s - k) (e - s) (drop s hay) ∙ ap₂ (λ (i : ℕ) (l : List ℕ). take i l) a (drop-drop (e - s - k) s hay ∙ ap (λ (i : ℕ). drop i hay) b)
+
 -- sound words and a window inside the haystack: found exactly if some choice fits, and then by the first in 01's order
 module _ (ws hay : List ℕ) (s e : ℕ) (h : sound ws ≡ true) (d : s ≤ e) (l : e ≤ length hay) where
   ok : none ≡ refusal ws (length hay) s e
@@ -125,6 +145,37 @@ module _ (ws hay : List ℕ) (s e : ℕ) (h : sound ws ≡ true) (d : s ≤ e) (
     λ g. first.forward-none (prog ws) (window hay s e) .0 (end-none e (forward (prog ws) (window hay s e)) (forward-checked ws hay s e ok ∙ g)),
     λ g. sym (forward-checked ws hay s e ok) ∙ ap (endAt e) (first.forward-none (prog ws) (window hay s e) .1 g),
   )
+
+  -- the found end lies in the window, and the second door hands back the bytes from there to the window's end
+  pub forward-within : (n : ℕ) → forwardSays ws hay s e ≡ found n → (s ≤ n) × (n ≤ e)
+  forward-within n g =
+      let q = end-some e n (forward (prog ws) (window hay s e)) (forward-checked ws hay s e ok ∙ g) in
+      let b = left-fits short (prog ws) (window hay s e) (length (q .0)) (sym (ap answer (q .1))) in
+      let w = window-length ws hay s e (fine ws (length hay) s e ok) in
+      (omega (arith, q .2), omega (arith, q .2))
+
+  pub left-tail : (n : ℕ) → forwardSays ws hay s e ≡ found n → leftSays ws hay s e ≡ window hay n e
+  left-tail n g =
+      let q = end-some e n (forward (prog ws) (window hay s e)) (forward-checked ws hay s e ok ∙ g) in
+      let a = sym (ap answer (q .1)) in
+      let b = left-fits short (prog ws) (window hay s e) (length (q .0)) a in
+      let w = window-length ws hay s e (fine ws (length hay) s e ok) in
+      let k : length (q .0) ≤ e - s = omega arith in
+      sym (left-checked ws hay s e ok)
+      ∙ ap leftOr (left-part short (prog ws) (window hay s e) (length (q .0)) a)
+      ∙ ap (λ (m : ℕ). drop (m - length (q .0)) (window hay s e)) w
+      ∙ window-end hay s e (length (q .0)) n d k (q .2)
+
+  pub left-nothing : forwardSays ws hay s e ≡ noMatch → leftSays ws hay s e ≡ []
+  left-nothing g = sym (left-checked ws hay s e ok) ∙ ap leftOr (end-none e (forward (prog ws) (window hay s e)) (forward-checked ws hay s e ok ∙ g))
+
+  pub reverse-within : (n : ℕ) → reverseSays ws hay s e ≡ found n → (s ≤ n) × (n ≤ e)
+  reverse-within n g =
+      let q = start-some s n (backward (prog ws) (window hay s e)) (reverse-checked ws hay s e ok ∙ g) in
+      let b = left-fits long (prog ws) (reverse (window hay s e)) (length (q .0)) (sym (ap answer (q .1))) in
+      let w = window-length ws hay s e (fine ws (length hay) s e ok) in
+      let r = length-reverse (window hay s e) in
+      (omega (arith, q .2), omega (arith, q .2))
 
   pub reverse-finds : (n : ℕ) → reverseSays ws hay s e ≡ found n → (u : List ℕ) × FirstReverse (prog ws) (window hay s e) u × (n ≡ s + length u)
   reverse-finds n g =

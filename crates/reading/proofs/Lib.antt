@@ -4,4 +4,5 @@ pub mod PieceSteps
 pub mod PieceBounds
 pub mod ListBounds
 pub mod ListSteps
+pub mod TextLaws
 pub mod Samples

@@ -1,10 +1,12 @@
 // The doors as C functions: include/tokenmarsh.h documents them. An answer is a struct by value, whose `refusal` is 0 where there is none.
+use checkdoors::Answer;
 use mirror::MirrorAnswer;
 ghost use mathlib.Core.Path.{_≡_};
 ghost use mathlib.Core.Bool.{cond};
 ghost use Rattle.meaning.specs.Words.{sound};
 ghost use Rattle.mirror.specs.MirrorDoor.{mirrorSays, mirrorLeaves};
-ghost use Rattle.tokenmarsh.specs.Results.{mirrorSaid};
+ghost use Rattle.checkdoors.specs.Doors.{forwardSays, reverseSays};
+ghost use Rattle.tokenmarsh.specs.Results.{mirrorSaid, checkSaid, checkTells, tailSaid, tailAt};
 
 #[repr(C)]
 pub struct MirrorResult {
@@ -32,6 +34,91 @@ pub extern "C" fn tm_mirror(program: &[u32], pool: &mut [u32]) -> MirrorResult
         MirrorAnswer::Refused(why) => MirrorResult {
             refusal: why.number(),
             words: 0,
+        },
+    }
+}
+
+#[repr(C)]
+pub struct CheckResult {
+    pub refusal: u32,
+    pub found: u32,
+    pub offset: u64,
+}
+
+// A check's answer as a struct: what has no meaning is 0.
+fn told(r: Answer) -> CheckResult
+    ensures { λ s. ⌜ checkTells r s ⌝ }
+{
+    match r {
+        Answer::At(n) => CheckResult {
+            refusal: 0,
+            found: 1,
+            offset: n as u64,
+        },
+        Answer::NoMatch => CheckResult {
+            refusal: 0,
+            found: 0,
+            offset: 0,
+        },
+        Answer::Refused(why) => CheckResult {
+            refusal: why.number(),
+            found: 0,
+            offset: 0,
+        },
+    }
+}
+
+#[no_mangle]
+pub extern "C" fn tm_forward(
+    program: &[u32],
+    haystack: &[u8],
+    start: usize,
+    end: usize,
+) -> CheckResult
+    ensures { λ r. ⌜ checkSaid r ≡ forwardSays (now (program .entry)) (now (haystack .entry)) start end ⌝ }
+{
+    told(checkdoors::forward(program, haystack, start, end))
+}
+
+#[no_mangle]
+pub extern "C" fn tm_reverse(
+    program: &[u32],
+    haystack: &[u8],
+    start: usize,
+    end: usize,
+) -> CheckResult
+    ensures { λ r. ⌜ checkSaid r ≡ reverseSays (now (program .entry)) (now (haystack .entry)) start end ⌝ }
+{
+    told(checkdoors::reverse(program, haystack, start, end))
+}
+
+#[repr(C)]
+pub struct TailResult {
+    pub offset: u64,
+    pub length: u64,
+}
+
+// The part of the haystack that the second forward door hands back: C has no slice to return.
+#[no_mangle]
+pub extern "C" fn tm_tail(program: &[u32], haystack: &[u8], start: usize, end: usize) -> TailResult
+    ensures { λ r. ⌜ tailSaid r ≡ tailAt end (forwardSays (now (program .entry)) (now (haystack .entry)) start end) ⌝ }
+{
+    let r = checkdoors::forward(program, haystack, start, end);
+    match r {
+        Answer::At(n) => {
+            let left = end - n;
+            TailResult {
+                offset: n as u64,
+                length: left as u64,
+            }
+        }
+        Answer::NoMatch => TailResult {
+            offset: 0,
+            length: 0,
+        },
+        Answer::Refused(_) => TailResult {
+            offset: 0,
+            length: 0,
         },
     }
 }
