@@ -1,11 +1,14 @@
 -- Laws of bytes laid into a buffer: one writer after another, and what the buffer holds in the end. Assumes nothing.
 use mathlib.Core.Path.{_≡_, refl, sym, ap, _∙_}
+use mathlib.Core.Bool.{Bool, true, false}
 use mathlib.Core.List.{List, [], _∷_, _++_, append-assoc, append-nil}
-use Prim.Native.Nat.{ℕ, zero, suc, _+_, _-_, _≤_, _<_}
+use Prim.Native.Nat.{ℕ, suc, _+_, _-_, _≤_, _<_}
 use native.Mathlib.Omega.{arith}
 use native.Mathlib.Numerals.{add-one}
 use lib.ListN.{length, take, drop, set, getD, length-append, length-set}
-use lib.Seq.{set-out, sets, sets-eq, take-suc}
+use lib.Dec.{ltb}
+use borrow.Author.Tests.{ltb-true, ltb-false}
+use lib.Seq.{take-all, take-nil, take-suc-set, set-out, sets, sets-eq, take-suc}
 use Rattle.printing.specs.Laid.{laid, Put, each}
 
 pub length-laid : (bs p : List ℕ) (at : ℕ) → length (laid p at bs) ≡ length p
@@ -35,6 +38,28 @@ as-sets (b ∷ bs) p at = ap (λ (n : ℕ). laid (set p at b) n bs) (add-one at)
 
 pub laid-fits : (bs p : List ℕ) (at : ℕ) → at + length bs ≤ length p → laid p at bs ≡ take at p ++ (bs ++ drop (at + length bs) p)
 laid-fits bs p at h = as-sets bs p at ∙ sets-eq bs p at h ∙ append-assoc (take at p) bs (drop (at + length bs) p)
+
+-- where they do not all fit: what stood before them, and as many of them as the buffer has room for
+pub laid-cut : (bs p : List ℕ) (at : ℕ) → at ≤ length p → length p ≤ at + length bs → laid p at bs ≡ take at p ++ take (length p - at) bs
+unfolding laid
+laid-cut [] p at h k =
+    let e : at ≡ length p = omega arith in
+    sym (ap (λ (x : List ℕ). take at p ++ x) (take-nil (length p - at)) ∙ append-nil (take at p) ∙ take-all at p (omega arith))
+laid-cut (b ∷ bs) p at h k = go (ltb at (length p)) refl (λ l. laid-cut bs (set p at b) (at + 1) (rw (length-set p at b) (omega arith)) (rw (length-set p at b) (omega arith)))
+  where
+    go : (t : Bool) → ltb at (length p) ≡ t → (at < length p → laid (set p at b) (at + 1) bs ≡ take (at + 1) (set p at b) ++ take (length (set p at b) - (at + 1)) bs) → laid p at (b ∷ bs) ≡ take at p ++ take (length p - at) (b ∷ bs)
+    go false e r =
+        let l : length p ≤ at = ltb-false at (length p) e in
+        let z : length p - at ≡ 0 = omega arith in
+        laid-past (b ∷ bs) p at l ∙ sym (ap (λ (n : ℕ). take at p ++ take n (b ∷ bs)) z ∙ append-nil (take at p) ∙ take-all at p l)
+    go true e r =
+        let l : at < length p = ltb-true at (length p) e in
+        let m : length p - at ≡ suc (length p - (at + 1)) = omega arith in
+        r l
+        ∙ ap (λ (n : ℕ). take (at + 1) (set p at b) ++ take (n - (at + 1)) bs) (length-set p at b)
+        ∙ ap (λ (x : List ℕ). x ++ take (length p - (at + 1)) bs) (ap (λ (n : ℕ). take n (set p at b)) (add-one at) ∙ take-suc-set p at b l)
+        ∙ append-assoc (take at p) (b ∷ []) (take (length p - (at + 1)) bs)
+        ∙ ap (λ (n : ℕ). take at p ++ take n (b ∷ bs)) (sym m)
 
 -- writers, one after another
 pub put-none : (p : List ℕ) (at : ℕ) → Put p at [] at p

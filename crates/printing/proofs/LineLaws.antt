@@ -2,21 +2,20 @@
 use mathlib.Core.Path.{_≡_, refl, sym, ap, _∙_}
 use mathlib.Core.Bool.{Bool, true, false, cond}
 use mathlib.Core.List.{List, [], _∷_, _++_}
-use Prim.Native.Nat.{ℕ, zero, suc, _+_, _-_, _*_, _/_, _%_, _^_, _≤_, _<_, min}
+use Prim.Native.Nat.{ℕ, suc, _+_, _-_, _*_, _^_, _≤_, _<_, min}
 use native.Mathlib.Omega.{arith}
 use native.Mathlib.Numerals.{add-one}
 use lib.Dec.{eqb, leb}
 use borrow.Author.Tests.{leb-true, leb-false}
-use lib.ListN.{length, take, drop, getD, length-append, length-take, length-drop, drop-of-length-le}
+use lib.ListN.{length, take, drop, getD, length-append, length-drop, drop-of-length-le}
 use lib.Seq.{drop-cons, take-all, drop-drop}
-use Rattle.meaning.specs.Programs.{one, jump, range, byte, mask, negatedMask, dot}
-use Rattle.meaning.specs.Words.{fieldSize, kindOf, firstOf, secondOf, Shape, item, opens, mark, wrong, shapeBy, shape}
+use Rattle.meaning.specs.Words.{fieldSize, kindOf, firstOf, secondOf, Shape, shapeBy, shape}
 use Rattle.nodes.specs.declared.Node.{Node}
 use Rattle.nodes.specs.Nodes.{shapeOf}
 use Rattle.printing.specs.Text.{ascii}
 use Rattle.printing.specs.Laid.{each}
 use Rattle.printing.specs.Numbers.{hexOf, decimalOf}
-use Rattle.printing.specs.Lines.{blank, lineEnd, numberLine, numbersLine, byteLine, maskLine, shapeLine, nodeLine, literalLine, literalLines}
+use Rattle.printing.specs.Lines.{blank, lineEnd, numberLine, numbersLine, byteLine, maskLine, shapeLine, nodeLine, literalLine, literalLines, cut}
 use Rattle.printing.proofs.NumberLaws.{decimal-length, length-hexes}
 
 -- the line of the node that was read from a word
@@ -84,16 +83,24 @@ drop-least n l = go (leb n (length l)) refl
         let h : length l < n = leb-false n (length l) e in
         drop-of-length-le l {i = min n (length l)} (omega arith) ∙ sym (drop-of-length-le l {i = n} (omega arith))
 
-pub literals-none : (lens bs : List ℕ) (i : ℕ) → length lens ≤ i → literalLines (drop i lens) bs ≡ []
-unfolding literalLines
+pub length-cut : (lens bs : List ℕ) → length (cut lens bs) ≡ length lens
+unfolding cut
+length-cut [] bs = refl
+length-cut (n ∷ ns) bs = ap suc (length-cut ns (drop n bs))
+
+pub literals-none : (lens bs : List ℕ) (i : ℕ) → length lens ≤ i → literalLines (cut (drop i lens) bs) ≡ []
+unfolding literalLines cut
 literals-none lens bs i h = rw (drop-of-length-le lens h)
 
 -- the next literal, where so many are behind and they end at `from`
-pub literals-step : (lens bs : List ℕ) (i from n : ℕ) → i < length lens → n ≡ min (getD lens i 0) (length bs - from) → literalLine (take (from + n - from) (drop from bs)) ++ literalLines (drop (i + 1) lens) (drop (from + n) bs) ≡ literalLines (drop i lens) (drop from bs)
-unfolding literalLines
+pub literals-step : (lens bs : List ℕ) (i from n : ℕ) → i < length lens → n ≡ min (getD lens i 0) (length bs - from) → literalLine (take (from + n - from) (drop from bs)) ++ literalLines (cut (drop (i + 1) lens) (drop (from + n) bs)) ≡ literalLines (cut (drop i lens) (drop from bs))
+unfolding literalLines cut
 literals-step lens bs i from n h e =
     let m : from + n - from ≡ min (getD lens i 0) (length (drop from bs)) = rw (length-drop from bs) (omega arith) in
     let k : n ≡ min (getD lens i 0) (length (drop from bs)) = rw (length-drop from bs) e in
-    ap (λ (x : List ℕ). literalLine x ++ literalLines (drop (i + 1) lens) (drop (from + n) bs)) (ap (λ (j : ℕ). take j (drop from bs)) m ∙ take-least (getD lens i 0) (drop from bs))
-    ∙ ap (λ (x : List ℕ). literalLine (take (getD lens i 0) (drop from bs)) ++ literalLines (drop (i + 1) lens) x) (sym (drop-drop n from bs) ∙ ap (λ (j : ℕ). drop j (drop from bs)) k ∙ drop-least (getD lens i 0) (drop from bs))
-    ∙ sym (ap (λ (x : List ℕ). literalLines x (drop from bs)) (drop-cons lens i 0 h ∙ ap (λ (j : ℕ). getD lens i 0 ∷ drop j lens) (sym (add-one i))))
+    let x : take (from + n - from) (drop from bs) ≡ take (getD lens i 0) (drop from bs) = ap (λ (j : ℕ). take j (drop from bs)) m ∙ take-least (getD lens i 0) (drop from bs) in
+    let y : drop (from + n) bs ≡ drop (getD lens i 0) (drop from bs) = sym (drop-drop n from bs) ∙ ap (λ (j : ℕ). drop j (drop from bs)) k ∙ drop-least (getD lens i 0) (drop from bs) in
+    let z : drop i lens ≡ getD lens i 0 ∷ drop (i + 1) lens = drop-cons lens i 0 h ∙ ap (λ (j : ℕ). getD lens i 0 ∷ drop j lens) (sym (add-one i)) in
+    ap (λ (s : List ℕ). literalLine s ++ literalLines (cut (drop (i + 1) lens) (drop (from + n) bs))) x
+    ∙ ap (λ (s : List ℕ). literalLine (take (getD lens i 0) (drop from bs)) ++ literalLines (cut (drop (i + 1) lens) s)) y
+    ∙ sym (ap (λ (s : List ℕ). literalLines (cut s (drop from bs))) z)

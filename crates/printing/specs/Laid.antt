@@ -4,7 +4,7 @@ use mathlib.Core.List.{List, [], _∷_, _++_}
 use Prim.Native.Nat.{ℕ, _+_}
 use lib.ListN.{length, set}
 
--- the buffer p with the bytes bs in it from the place `at` on; what would stand past p's end is left out (proofs/LaidLaws.antt, `laid-cut`)
+-- the buffer p with the bytes bs in it from the place `at` on; what would stand past p's end is left out (proofs/LaidLaws.antt, `laid-fits` and `laid-cut`)
 unfoldable pub laid : List ℕ → ℕ → List ℕ → List ℕ
 laid p at [] = p
 laid p at (b ∷ bs) = laid (set p at b) (at + 1) bs

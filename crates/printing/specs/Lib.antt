@@ -2,4 +2,5 @@ pub mod Text
 pub mod Laid
 pub mod Numbers
 pub mod Lines
+pub mod Listed
 pub mod Samples

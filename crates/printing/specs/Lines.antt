@@ -1,7 +1,6 @@
 -- The lines of a listing, as 01 has them. Assumes nothing: these are definitions.
 use mathlib.Core.List.{List, [], _∷_, _++_}
 use Prim.Native.Nat.{ℕ}
-use Prim.Native.String.{String}
 use lib.ListN.{length, take, drop}
 use Rattle.meaning.specs.Programs.{Item, one, jump, range, alt, Test, byte, mask, negatedMask, any, dot}
 use Rattle.meaning.specs.Words.{Shape, item, opens, mark, wrong, shape}
@@ -59,14 +58,22 @@ programLines name ws = numberLine name (length ws) ++ each nodeLine ws
 unfoldable pub literalLine : List ℕ → List ℕ
 literalLine bs = each hexOf bs ++ lineEnd
 
--- the literals that stand one after another in the bytes, by their lengths
-unfoldable pub literalLines : List ℕ → List ℕ → List ℕ
-literalLines [] bs = []
-literalLines (n ∷ ns) bs = literalLine (take n bs) ++ literalLines ns (drop n bs)
+unfoldable pub literalLines : List (List ℕ) → List ℕ
+literalLines [] = []
+literalLines (l ∷ ls) = literalLine l ++ literalLines ls
 
 -- the literals: their count, their rank, and a line for each
-unfoldable pub literalsLines : ℕ → List ℕ → List ℕ → List ℕ
-literalsLines rank lens bs = numbersLine (ascii "literals ") (length lens) (ascii " rank ") rank ++ literalLines lens bs
+unfoldable pub literalsLines : ℕ → List (List ℕ) → List ℕ
+literalsLines rank ls = numbersLine (ascii "literals ") (length ls) (ascii " rank ") rank ++ literalLines ls
+
+-- the bytes of all the literals, one after another; and the literals cut out of such bytes again, by their lengths (proofs/ListingLaws.antt, `cut-joined`)
+unfoldable pub joined : List (List ℕ) → List ℕ
+joined [] = []
+joined (l ∷ ls) = l ++ joined ls
+
+unfoldable pub cut : List ℕ → List ℕ → List (List ℕ)
+cut [] bs = []
+cut (n ∷ ns) bs = take n bs ∷ cut ns (drop n bs)
 
 -- the two refusals
 unfoldable pub refusedLine : ℕ → ℕ → List ℕ
@@ -74,3 +81,25 @@ refusedLine n place = numbersLine (ascii "refused ") n (ascii " at ") place
 
 unfoldable pub literalsRefusedLine : ℕ → List ℕ
 literalsRefusedLine n = numberLine (ascii "literals refused ") n
+
+-- what picking gives: a rank and literals, or a refusal's number
+pub data Picked : Type 0 where
+  picked : ℕ → List (List ℕ) → Picked
+  unpicked : ℕ → Picked
+
+unfoldable pub pickedLines : Picked → List ℕ
+pickedLines (picked rank ls) = literalsLines rank ls
+pickedLines (unpicked n) = literalsRefusedLine n
+
+-- what reading, compiling and picking give of a text: both programs' words with what was picked, or a refusal's number and place
+pub data Outcome : Type 0 where
+  compiled : List ℕ → List ℕ → Picked → Outcome
+  refused : ℕ → ℕ → Outcome
+
+unfoldable pub programsLines : List ℕ → List ℕ → List ℕ
+programsLines f r = programLines (ascii "forward ") f ++ programLines (ascii "reverse ") r
+
+-- the whole listing
+unfoldable pub listing : Outcome → List ℕ
+listing (compiled f r p) = programsLines f r ++ pickedLines p
+listing (refused n place) = refusedLine n place

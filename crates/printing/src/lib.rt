@@ -1,17 +1,18 @@
 // The lines of a listing, written into lent bytes. A writer lays down what fits and always answers the place after all of its bytes, so that no
 // caller has to ask for room on the way: who called first compares the last place with the buffer's length.
 ghost use mathlib.Core.Path.{_≡_};
-ghost use mathlib.Core.List.{List, [], _∷_};
-ghost use Prim.Native.Nat.{ℕ, _+_, _*_, _<_, _^_, min};
+ghost use mathlib.Core.List.{[], _∷_};
+ghost use Prim.Native.Nat.{_+_, _*_, _<_, _^_, min};
 ghost use lib.ListN.{length};
 ghost use Rattle.printing.specs.Laid.{Put, each};
 ghost use Rattle.printing.specs.Numbers.{digit, hexOf, decimalOf};
 ghost use Rattle.nodes.specs.Nodes.{testOf};
-ghost use Rattle.printing.specs.Lines.{numberLine, numbersLine, byteLine, maskLine, testLine, nodeLine, programLines, literalLine, literalLines, literalsLines, refusedLine, literalsRefusedLine};
+ghost use Rattle.printing.specs.Lines.{numberLine, numbersLine, byteLine, maskLine, testLine, nodeLine, programLines, literalLine, literalLines, literalsLines, cut, refusedLine, literalsRefusedLine, programsLines};
+ghost use Rattle.printing.specs.Listed.{listedOf};
 use nodes::ByteTest;
 use nodes::Node;
 
-pub fn put_byte(out: &mut [u8], at: usize, b: u8) -> usize
+fn put_byte(out: &mut [u8], at: usize, b: u8) -> usize
     requires { ⌜ at + 1 < 2 ^ 64 ⌝ }
     ensures { λ r. ⌜ Put (now (out .entry)) at (b ∷ []) r (now (out .exit)) ⌝ }
 {
@@ -23,7 +24,7 @@ pub fn put_byte(out: &mut [u8], at: usize, b: u8) -> usize
 }
 
 // The bytes as they are.
-pub fn put_bytes(out: &mut [u8], at: usize, s: &[u8]) -> usize
+fn put_bytes(out: &mut [u8], at: usize, s: &[u8]) -> usize
     requires { ⌜ at + length (now s) < 2 ^ 64 ⌝ }
     ensures { λ r. ⌜ Put (now (out .entry)) at (now (s .entry)) r (now (out .exit)) ⌝ }
 {
@@ -44,7 +45,7 @@ fn digit_of(d: u8) -> u8
 }
 
 // Two upper-case digits.
-pub fn put_hex(out: &mut [u8], at: usize, b: u8) -> usize
+fn put_hex(out: &mut [u8], at: usize, b: u8) -> usize
     requires { ⌜ at + 2 < 2 ^ 64 ⌝ }
     ensures { λ r. ⌜ Put (now (out .entry)) at (hexOf b) r (now (out .exit)) ⌝ }
 {
@@ -53,7 +54,7 @@ pub fn put_hex(out: &mut [u8], at: usize, b: u8) -> usize
 }
 
 // A byte string in digits, without blanks.
-pub fn put_hexes(out: &mut [u8], at: usize, s: &[u8]) -> usize
+fn put_hexes(out: &mut [u8], at: usize, s: &[u8]) -> usize
     requires { ⌜ at + 2 * length (now s) < 2 ^ 64 ⌝ }
     ensures { λ r. ⌜ Put (now (out .entry)) at (each hexOf (now (s .entry))) r (now (out .exit)) ⌝ }
 {
@@ -67,7 +68,7 @@ pub fn put_hexes(out: &mut [u8], at: usize, s: &[u8]) -> usize
 }
 
 // Decimal digits; the calls go as deep as there are digits, 20 at most.
-pub fn put_decimal(out: &mut [u8], at: usize, n: usize) -> usize
+fn put_decimal(out: &mut [u8], at: usize, n: usize) -> usize
     requires { ⌜ at + 20 < 2 ^ 64 ⌝ }
     ensures { λ r. ⌜ Put (now (out .entry)) at (decimalOf n) r (now (out .exit)) ⌝ }
 {
@@ -79,7 +80,7 @@ pub fn put_decimal(out: &mut [u8], at: usize, n: usize) -> usize
 }
 
 // A line that ends with a number.
-pub fn put_number_line(out: &mut [u8], at: usize, name: &[u8], n: usize) -> usize
+fn put_number_line(out: &mut [u8], at: usize, name: &[u8], n: usize) -> usize
     requires { ⌜ at + length (now name) + 21 < 2 ^ 64 ⌝ }
     ensures { λ r. ⌜ Put (now (out .entry)) at (numberLine (now (name .entry)) n) r (now (out .exit)) ⌝ }
 {
@@ -89,7 +90,7 @@ pub fn put_number_line(out: &mut [u8], at: usize, name: &[u8], n: usize) -> usiz
 }
 
 // A line that ends with two numbers and what stands between them.
-pub fn put_numbers_line(
+fn put_numbers_line(
     out: &mut [u8],
     at: usize,
     name: &[u8],
@@ -106,7 +107,7 @@ pub fn put_numbers_line(
 }
 
 // A line that ends with a byte.
-pub fn put_byte_line(out: &mut [u8], at: usize, name: &[u8], v: u8) -> usize
+fn put_byte_line(out: &mut [u8], at: usize, name: &[u8], v: u8) -> usize
     requires { ⌜ at + length (now name) + 3 < 2 ^ 64 ⌝ }
     ensures { λ r. ⌜ Put (now (out .entry)) at (byteLine (now (name .entry)) v) r (now (out .exit)) ⌝ }
 {
@@ -116,7 +117,7 @@ pub fn put_byte_line(out: &mut [u8], at: usize, name: &[u8], v: u8) -> usize
 }
 
 // A line that ends with a value and a mask.
-pub fn put_mask_line(out: &mut [u8], at: usize, name: &[u8], v: u8, m: u8) -> usize
+fn put_mask_line(out: &mut [u8], at: usize, name: &[u8], v: u8, m: u8) -> usize
     requires { ⌜ at + length (now name) + 6 < 2 ^ 64 ⌝ }
     ensures { λ r. ⌜ Put (now (out .entry)) at (maskLine (now (name .entry)) v m) r (now (out .exit)) ⌝ }
 {
@@ -138,7 +139,7 @@ fn put_test(out: &mut [u8], at: usize, t: ByteTest) -> usize
 }
 
 // The line of a node word. A word of a kind that 01 does not have writes nothing: no program that was compiled holds one.
-pub fn put_node(out: &mut [u8], at: usize, w: u32) -> usize
+fn put_node(out: &mut [u8], at: usize, w: u32) -> usize
     requires { ⌜ at + 64 < 2 ^ 64 ⌝ }
     ensures { λ r. ⌜ Put (now (out .entry)) at (nodeLine w) r (now (out .exit)) ⌝ }
 {
@@ -167,7 +168,7 @@ fn put_nodes(out: &mut [u8], at: usize, words: &[u32]) -> usize
 }
 
 // A program: its name with the count of its nodes, and their lines.
-pub fn put_program(out: &mut [u8], at: usize, name: &[u8], words: &[u32]) -> usize
+fn put_program(out: &mut [u8], at: usize, name: &[u8], words: &[u32]) -> usize
     requires { ⌜ at + length (now name) + 85 + 14 * length (now words) < 2 ^ 64 ⌝ }
     ensures { λ r. ⌜ Put (now (out .entry)) at (programLines (now (name .entry)) (now (words .entry))) r (now (out .exit)) ⌝ }
 {
@@ -192,7 +193,7 @@ fn least(a: usize, b: usize) -> usize
 // The literals that stand one after another in the bytes. A length that reaches past the bytes takes what there is: the picker gives none.
 fn put_each_literal(out: &mut [u8], at: usize, lens: &[u16], bytes: &[u8]) -> usize
     requires { ⌜ at + length (now lens) + 2 * length (now bytes) < 2 ^ 64 ⌝ }
-    ensures { λ r. ⌜ Put (now (out .entry)) at (literalLines (now (lens .entry)) (now (bytes .entry))) r (now (out .exit)) ⌝ }
+    ensures { λ r. ⌜ Put (now (out .entry)) at (literalLines (cut (now (lens .entry)) (now (bytes .entry)))) r (now (out .exit)) ⌝ }
 {
     let mut k = at;
     let mut from = 0;
@@ -209,7 +210,7 @@ fn put_each_literal(out: &mut [u8], at: usize, lens: &[u16], bytes: &[u8]) -> us
 // The literals: their count, their rank, and their lines.
 pub fn put_literals(out: &mut [u8], at: usize, rank: usize, lens: &[u16], bytes: &[u8]) -> usize
     requires { ⌜ at + 56 + length (now lens) + 2 * length (now bytes) < 2 ^ 64 ⌝ }
-    ensures { λ r. ⌜ Put (now (out .entry)) at (literalsLines rank (now (lens .entry)) (now (bytes .entry))) r (now (out .exit)) ⌝ }
+    ensures { λ r. ⌜ Put (now (out .entry)) at (literalsLines rank (cut (now (lens .entry)) (now (bytes .entry)))) r (now (out .exit)) ⌝ }
 {
     let k = put_numbers_line(out, at, b"literals ", lens.len(), b" rank ", rank);
     put_each_literal(out, k, lens, bytes)
@@ -229,4 +230,29 @@ pub fn put_literals_refused(out: &mut [u8], at: usize, number: usize) -> usize
     ensures { λ r. ⌜ Put (now (out .entry)) at (literalsRefusedLine number) r (now (out .exit)) ⌝ }
 {
     put_number_line(out, at, b"literals refused ", number)
+}
+
+// Both programs, from the buffer's start.
+pub fn put_programs(out: &mut [u8], forward: &[u32], reverse: &[u32]) -> usize
+    requires { ⌜ 250 + 14 * length (now forward) + 14 * length (now reverse) < 2 ^ 64 ⌝ }
+    ensures { λ r. ⌜ Put (now (out .entry)) 0 (programsLines (now (forward .entry)) (now (reverse .entry))) r (now (out .exit)) ⌝ }
+{
+    let k = put_program(out, 0, b"forward ", forward);
+    put_program(out, k, b"reverse ", reverse)
+}
+
+// What a listing comes to: its length, and whether the buffer has room for it.
+pub enum Listed {
+    Wrote(usize),
+    NoRoom(usize),
+}
+
+pub fn room_for(length: usize, room: usize) -> Listed
+    ensures { λ r. ⌜ r ≡ listedOf length room ⌝ }
+{
+    if length <= room {
+        Listed::Wrote(length)
+    } else {
+        Listed::NoRoom(length)
+    }
 }

@@ -1,7 +1,7 @@
 -- The digits before the last are those of a tenth. Assumes nothing.
-use mathlib.Core.Path.{_≡_, sym, ap, _∙_}
-use mathlib.Core.List.{List, [], _∷_, _++_}
-use Prim.Native.Nat.{_+_, _/_, _≤_}
+use mathlib.Core.Path.{sym, ap, _∙_}
+use mathlib.Core.List.{[], _∷_, _++_}
+use Prim.Native.Nat.{_/_, _≤_}
 use lib.ListN.{length}
 use Rattle.printing.specs.Numbers.{decimalOf}
 use Rattle.printing.proofs.LaidLaws.{put-then, put-same}

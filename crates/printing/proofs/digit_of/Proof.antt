@@ -1,7 +1,6 @@
 -- Each way is a case of the definition. Assumes nothing.
 use borrow.Author.Tests.{lt-ltb, le-ltb}
 use Rattle.printing.specs.Numbers.{digit}
-use native.Mathlib.Omega.{arith}
 use borrow.Author.Needs.{needs}
 use Rattle.printing.proofs.digit_of.Statement.{statement}
 use Rattle.printing.proofs.digit_of.Tie as tie

@@ -1,11 +1,7 @@
 -- One writer after another. Assumes nothing.
-use mathlib.Core.Path.{_≡_}
-use Prim.Native.Nat.{_≤_}
-use lib.ListN.{length}
-use Rattle.printing.specs.Numbers.{hexOf, decimalOf}
-use Rattle.printing.specs.Lines.{numberLine, numbersLine, byteLine, maskLine}
+use Rattle.printing.specs.Numbers.{hexOf}
+use Rattle.printing.specs.Lines.{byteLine}
 use Rattle.printing.proofs.LaidLaws.{put-three}
-use Rattle.printing.proofs.NumberLaws.{decimal-length}
 use native.Mathlib.Omega.{arith}
 use borrow.Author.Needs.{needs}
 use Rattle.printing.proofs.put_byte_line.Statement.{statement}
@@ -19,7 +15,10 @@ put-hex-requires c κs = search needs
 
 put-byte-requires : tie.Need-put-byte-requires
 unfolding hexOf
-put-byte-requires c κs = let m = c .before .before .before .before .before .before .before .put-bytes .ensures .next in let k = c .before .before .before .put-hex .ensures .next in omega arith
+put-byte-requires c κs =
+    let m = c .before .before .before .before .before .before .before .put-bytes .ensures .next in
+    let k = c .before .before .before .put-hex .ensures .next in
+    omega arith
 
 same-length : tie.Need-same-length
 same-length c = search needs

@@ -1,20 +1,19 @@
 -- What is written so far is what the elements before `i` give. Assumes nothing.
-use mathlib.Core.Path.{_≡_, refl, sym, ap, _∙_}
-use mathlib.Core.List.{List, []}
+use mathlib.Core.Path.{_≡_, refl, sym, _∙_}
+use mathlib.Core.List.{List}
 use Prim.Native.Nat.{ℕ, _+_, _*_, _-_, _≤_}
-use lib.ListN.{length, take, drop, getD, length-take, length-drop}
-use lib.Seq.{take-all}
-use Rattle.printing.specs.Laid.{Put, each}
-use Rattle.printing.specs.Lines.{nodeLine, literalLines}
-use Rattle.printing.proofs.LaidLaws.{put-none, put-then, put-same, put-each, put-length, each-none}
-use Rattle.printing.proofs.LineLaws.{length-node, length-literal, literals-none, literals-step}
+use lib.ListN.{length, take, drop, length-take, length-drop}
+use Rattle.printing.specs.Laid.{Put}
+use Rattle.printing.specs.Lines.{literalLines, cut}
+use Rattle.printing.proofs.LaidLaws.{put-none, put-then, put-same, put-length}
+use Rattle.printing.proofs.LineLaws.{length-literal, literals-none, literals-step}
 use native.Mathlib.Omega.{arith}
 use borrow.Author.Needs.{needs}
 use Rattle.printing.proofs.put_each_literal.Statement.{statement}
 use Rattle.printing.proofs.put_each_literal.Tie as tie
 
 abbrev Inv-loop : tie.InvT-loop
-Inv-loop out₀ at lens bytes k₀ from₀ i₀ out k from i = (i ≤ length lens) × (from ≤ length bytes) × (k ≡ at + 2 * from + i) × (length out ≡ length out₀) × ((r : ℕ) (t : List ℕ) → Put out k (literalLines (drop i lens) (drop from bytes)) r t → Put out₀ at (literalLines lens bytes) r t)
+Inv-loop out₀ at lens bytes k₀ from₀ i₀ out k from i = (i ≤ length lens) × (from ≤ length bytes) × (k ≡ at + 2 * from + i) × (length out ≡ length out₀) × ((r : ℕ) (t : List ℕ) → Put out k (literalLines (cut (drop i lens) (drop from bytes))) r t → Put out₀ at (literalLines (cut lens bytes)) r t)
 
 abbrev μ-loop : tie.MeasureT-loop
 μ-loop out₀ at lens bytes k₀ from₀ i₀ out k from i = length lens - i
@@ -62,13 +61,28 @@ loop-less : tie.Need-loop-less Inv-loop μ-loop
 loop-less c = search needs
 
 loop-again : tie.Need-loop-again Inv-loop μ-loop
-loop-again c = let l = c .before .before .before .before .before .before .before .before .loop in let lens = c .before .before .before .before .before .before .before .before .before .before .before .before .args .lens .now in let bytes = c .before .before .before .before .before .before .before .before .before .before .before .before .args .bytes .now in let w = c .before .before .put-literal .ensures in let m = w .next in let n = c .before .before .before .before .before .least .result in let e = c .before .before .before .before .before .least .ensures in let h = length-literal (take (l .from + n - l .from) (drop (l .from) bytes)) in let k = length-take (l .from + n - l .from) (drop (l .from) bytes) in let j = length-drop (l .from) bytes in (omega arith, omega arith, omega arith, put-length w ∙ l .inv .3, λ r t z. l .inv .4 r t (put-same (literalLines (drop (l .i) lens) (drop (l .from) bytes)) (put-then w z) (literals-step lens bytes (l .i) (l .from) n (c .before .before .before .before .before .before .before .loop-test .taken) e)))
+loop-again c =
+    let l = c .before .before .before .before .before .before .before .before .loop in
+    let a = c .before .before .before .before .before .before .before .before .before .before .before .before .args in
+    let w = c .before .before .put-literal .ensures in
+    let m = w .next in
+    let n = c .before .before .before .before .before .least .result in
+    let e = c .before .before .before .before .before .least .ensures in
+    let h = length-literal (take (l .from + n - l .from) (drop (l .from) (a .bytes .now))) in
+    let k = length-take (l .from + n - l .from) (drop (l .from) (a .bytes .now)) in
+    let j = length-drop (l .from) (a .bytes .now) in
+    let s = literals-step (a .lens .now) (a .bytes .now) (l .i) (l .from) n (c .before .before .before .before .before .before .before .loop-test .taken) e in
+    (omega arith, omega arith, omega arith, put-length w ∙ l .inv .3, λ r t z. l .inv .4 r t (put-same (literalLines (cut (drop (l .i) (a .lens .now)) (drop (l .from) (a .bytes .now)))) (put-then w z) s))
 
 same-length : tie.Need-same-length Inv-loop μ-loop
 same-length c = c .before .loop .inv .3
 
 returns : tie.Need-returns Inv-loop μ-loop
-returns c = let l = c .before .loop in let lens = c .before .before .before .before .before .args .lens .now in let bytes = c .before .before .before .before .before .args .bytes .now in l .inv .4 (l .k) (l .out) (put-same (literalLines (drop (l .i) lens) (drop (l .from) bytes)) (put-none (l .out) (l .k)) (sym (literals-none lens (drop (l .from) bytes) (l .i) (c .loop-test .left))))
+returns c =
+    let l = c .before .loop in
+    let a = c .before .before .before .before .before .args in
+    let e = literals-none (a .lens .now) (drop (l .from) (a .bytes .now)) (l .i) (c .loop-test .left) in
+    l .inv .4 (l .k) (l .out) (put-same (literalLines (cut (drop (l .i) (a .lens .now)) (drop (l .from) (a .bytes .now)))) (put-none (l .out) (l .k)) (sym e))
 
 pub put-each-literal-spec : {M : Type 1} → statement M
 put-each-literal-spec =

@@ -1,10 +1,9 @@
 -- One digit after the other. Assumes nothing.
 use mathlib.Core.Path.{ap, _∙_}
 use mathlib.Core.List.{[], _∷_}
-use Prim.Native.Nat.{ℕ, _/_, _%_}
+use Prim.Native.Nat.{ℕ, _/_}
 use Rattle.printing.specs.Numbers.{digit, hexOf}
 use Rattle.printing.proofs.LaidLaws.{put-then, put-same}
-use native.Mathlib.Omega.{arith}
 use borrow.Author.Needs.{needs}
 use Rattle.printing.proofs.put_hex.Statement.{statement}
 use Rattle.printing.proofs.put_hex.Tie as tie
@@ -26,7 +25,11 @@ same-length c = search needs
 
 returns : tie.Need-returns
 unfolding hexOf
-returns c = put-same (hexOf (c .before .before .before .before .before .before .before .before .before .before .before .args .b)) (put-then (c .before .before .before .before .before .before .before .put-byte .ensures) (c .before .before .put-byte2 .ensures)) (ap (λ (x : ℕ). x ∷ c .before .before .before .digit-of2 .result ∷ []) (c .before .before .before .before .before .before .before .before .digit-of .ensures) ∙ ap (λ (x : ℕ). digit (c .before .before .before .before .before .before .before .before .before .before .before .args .b / 16) ∷ x ∷ []) (c .before .before .before .digit-of2 .ensures))
+returns c =
+    let b = c .before .before .before .before .before .before .before .before .before .before .before .args .b in
+    let x = c .before .before .before .before .before .before .before .before .digit-of in
+    let y = c .before .before .before .digit-of2 in
+    put-same (hexOf b) (put-then (c .before .before .before .before .before .before .before .put-byte .ensures) (c .before .before .put-byte2 .ensures)) (ap (λ (d : ℕ). d ∷ y .result ∷ []) (x .ensures) ∙ ap (λ (d : ℕ). digit (b / 16) ∷ d ∷ []) (y .ensures))
 
 pub put-hex-spec : {M : Type 1} → statement M
 put-hex-spec =

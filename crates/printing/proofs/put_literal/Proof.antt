@@ -1,11 +1,7 @@
 -- One writer after another. Assumes nothing.
-use mathlib.Core.Path.{_≡_, sym, ap, _∙_}
-use Rattle.nodes.specs.declared.ByteTest.{ByteTest}
-use Rattle.nodes.specs.Nodes.{testOf}
-use Rattle.printing.specs.Lines.{testLine, nodeLine, literalLine, refusedLine, literalsRefusedLine}
-use Rattle.printing.proofs.LaidLaws.{put-none, put-then, put-same}
+use Rattle.printing.specs.Lines.{literalLine}
+use Rattle.printing.proofs.LaidLaws.{put-then}
 use Rattle.printing.proofs.NumberLaws.{length-hexes}
-use Rattle.printing.proofs.LineLaws.{node-line}
 use native.Mathlib.Omega.{arith}
 use borrow.Author.Needs.{needs}
 use Rattle.printing.proofs.put_literal.Statement.{statement}
@@ -15,7 +11,10 @@ put-hexes-requires : tie.Need-put-hexes-requires
 put-hexes-requires c κs = search needs
 
 put-byte-requires : tie.Need-put-byte-requires
-put-byte-requires c κs = let l = length-hexes (c .before .before .before .before .before .before .before .args .s .now) in let m = c .before .before .before .put-hexes .ensures .next in omega arith
+put-byte-requires c κs =
+    let l = length-hexes (c .before .before .before .before .before .before .before .args .s .now) in
+    let m = c .before .before .before .put-hexes .ensures .next in
+    omega arith
 
 same-length : tie.Need-same-length
 same-length c = search needs

@@ -1,11 +1,7 @@
 -- One writer after another. Assumes nothing.
-use mathlib.Core.Path.{_≡_}
-use Prim.Native.Nat.{_≤_}
-use lib.ListN.{length}
-use Rattle.printing.specs.Numbers.{hexOf, decimalOf}
-use Rattle.printing.specs.Lines.{numberLine, numbersLine, byteLine, maskLine}
+use Rattle.printing.specs.Numbers.{hexOf}
+use Rattle.printing.specs.Lines.{maskLine}
 use Rattle.printing.proofs.LaidLaws.{put-three}
-use Rattle.printing.proofs.NumberLaws.{decimal-length}
 use native.Mathlib.Omega.{arith}
 use borrow.Author.Needs.{needs}
 use Rattle.printing.proofs.put_mask_line.Statement.{statement}
@@ -22,7 +18,10 @@ slice-aggregate-put-byte-line c = search needs
 
 put-byte-line-requires : tie.Need-put-byte-line-requires
 unfolding hexOf
-put-byte-line-requires c κs = let m = c .before .before .before .before .before .before .before .before .put-bytes .ensures .next in let k = c .before .before .before .before .put-hex .ensures .next in omega arith
+put-byte-line-requires c κs =
+    let m = c .before .before .before .before .before .before .before .before .put-bytes .ensures .next in
+    let k = c .before .before .before .before .put-hex .ensures .next in
+    omega arith
 
 same-length : tie.Need-same-length
 same-length c = search needs

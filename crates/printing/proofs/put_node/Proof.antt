@@ -1,12 +1,7 @@
 -- One writer after another. Assumes nothing.
-use mathlib.Core.Path.{_≡_, sym, ap, _∙_}
-use Rattle.nodes.specs.declared.ByteTest.{ByteTest}
-use Rattle.nodes.specs.Nodes.{testOf}
-use Rattle.printing.specs.Lines.{testLine, nodeLine, literalLine, refusedLine, literalsRefusedLine}
-use Rattle.printing.proofs.LaidLaws.{put-none, put-then, put-same}
-use Rattle.printing.proofs.NumberLaws.{length-hexes}
+use Rattle.printing.specs.Lines.{nodeLine}
+use Rattle.printing.proofs.LaidLaws.{put-none, put-same}
 use Rattle.printing.proofs.LineLaws.{node-line}
-use native.Mathlib.Omega.{arith}
 use borrow.Author.Needs.{needs}
 use Rattle.printing.proofs.put_node.Statement.{statement}
 use Rattle.printing.proofs.put_node.Tie as tie
@@ -81,34 +76,52 @@ same-length : tie.Need-same-length
 same-length c = search needs
 
 returns : tie.Need-returns
-returns c = put-same (nodeLine (c .before .before .before .before .before .before .before .before .before .args .w)) (c .before .before .put-test .ensures) (node-line (c .before .before .before .before .before .before .before .before .before .args .w) (c .before .before .before .before .before .before .before .node-of .result) _ (c .before .before .before .before .before .before .before .node-of .ensures) (c .before .before .before .before .before .node .given .1))
+returns c =
+    let a = c .before .before .before .before .before .before .before .before .before .args in
+    let n = c .before .before .before .before .before .before .before .node-of in
+    put-same (nodeLine (a .w)) (c .before .before .put-test .ensures) (node-line (a .w) (n .result) _ (n .ensures) (c .before .before .before .before .before .node .given .1))
 
 same-length-2 : tie.Need-same-length-2
 same-length-2 c = search needs
 
 returns-2 : tie.Need-returns-2
-returns-2 c = put-same (nodeLine (c .before .before .before .before .before .before .before .before .before .before .args .w)) (c .before .before .put-number-line .ensures) (node-line (c .before .before .before .before .before .before .before .before .before .before .args .w) (c .before .before .before .before .before .before .before .before .node-of .result) _ (c .before .before .before .before .before .before .before .before .node-of .ensures) (c .before .before .before .before .before .before .node2 .given .1))
+returns-2 c =
+    let a = c .before .before .before .before .before .before .before .before .before .before .args in
+    let n = c .before .before .before .before .before .before .before .before .node-of in
+    put-same (nodeLine (a .w)) (c .before .before .put-number-line .ensures) (node-line (a .w) (n .result) _ (n .ensures) (c .before .before .before .before .before .before .node2 .given .1))
 
 same-length-3 : tie.Need-same-length-3
 same-length-3 c = search needs
 
 returns-3 : tie.Need-returns-3
-returns-3 c = put-same (nodeLine (c .before .before .before .before .before .before .before .before .before .before .before .args .w)) (c .before .before .put-numbers-line .ensures) (node-line (c .before .before .before .before .before .before .before .before .before .before .before .args .w) (c .before .before .before .before .before .before .before .before .before .node-of .result) _ (c .before .before .before .before .before .before .before .before .before .node-of .ensures) (c .before .before .before .before .before .before .before .node3 .given .1))
+returns-3 c =
+    let a = c .before .before .before .before .before .before .before .before .before .before .before .args in
+    let n = c .before .before .before .before .before .before .before .before .before .node-of in
+    put-same (nodeLine (a .w)) (c .before .before .put-numbers-line .ensures) (node-line (a .w) (n .result) _ (n .ensures) (c .before .before .before .before .before .before .before .node3 .given .1))
 
 same-length-4 : tie.Need-same-length-4
 same-length-4 c = search needs
 
 returns-4 : tie.Need-returns-4
-returns-4 c = put-same (nodeLine (c .before .before .before .before .before .before .before .before .before .before .args .w)) (c .before .before .put-number-line2 .ensures) (node-line (c .before .before .before .before .before .before .before .before .before .before .args .w) (c .before .before .before .before .before .before .before .before .node-of .result) _ (c .before .before .before .before .before .before .before .before .node-of .ensures) (c .before .before .before .before .before .before .node4 .given .1))
+returns-4 c =
+    let a = c .before .before .before .before .before .before .before .before .before .before .args in
+    let n = c .before .before .before .before .before .before .before .before .node-of in
+    put-same (nodeLine (a .w)) (c .before .before .put-number-line2 .ensures) (node-line (a .w) (n .result) _ (n .ensures) (c .before .before .before .before .before .before .node4 .given .1))
 
 same-length-5 : tie.Need-same-length-5
 same-length-5 c = search needs
 
 returns-5 : tie.Need-returns-5
-returns-5 c = put-same (nodeLine (c .before .before .before .before .before .before .before .before .before .before .args .w)) (c .before .before .put-number-line3 .ensures) (node-line (c .before .before .before .before .before .before .before .before .before .before .args .w) (c .before .before .before .before .before .before .before .before .node-of .result) _ (c .before .before .before .before .before .before .before .before .node-of .ensures) (c .before .before .before .before .before .before .node5 .given .1))
+returns-5 c =
+    let a = c .before .before .before .before .before .before .before .before .before .before .args in
+    let n = c .before .before .before .before .before .before .before .before .node-of in
+    put-same (nodeLine (a .w)) (c .before .before .put-number-line3 .ensures) (node-line (a .w) (n .result) _ (n .ensures) (c .before .before .before .before .before .before .node5 .given .1))
 
 returns-6 : tie.Need-returns-6
-returns-6 c = put-same (nodeLine (c .before .before .before .before .args .w)) (put-none (c .before .before .before .before .args .out .now) (c .before .before .before .before .args .at)) (node-line (c .before .before .before .before .args .w) (c .before .before .node-of .result) _ (c .before .before .node-of .ensures) (c .enum-told .given .1))
+returns-6 c =
+    let a = c .before .before .before .before .args in
+    let n = c .before .before .node-of in
+    put-same (nodeLine (a .w)) (put-none (a .out .now) (a .at)) (node-line (a .w) (n .result) _ (n .ensures) (c .enum-told .given .1))
 
 pub put-node-spec : {M : Type 1} → statement M
 put-node-spec =

@@ -1,10 +1,8 @@
 -- The head's line, and then the others. Assumes nothing.
-use Prim.Native.Nat.{ℕ, _+_, _≤_}
 use lib.ListN.{length}
-use Rattle.printing.specs.Text.{ascii}
-use Rattle.printing.specs.Lines.{programLines, literalsLines}
+use Rattle.printing.specs.Lines.{programLines}
 use Rattle.printing.proofs.LaidLaws.{put-then}
-use Rattle.printing.proofs.LineLaws.{length-number, length-numbers}
+use Rattle.printing.proofs.LineLaws.{length-number}
 use native.Mathlib.Omega.{arith}
 use borrow.Author.Needs.{needs}
 use Rattle.printing.proofs.put_program.Statement.{statement}
@@ -14,7 +12,11 @@ put-number-line-requires : tie.Need-put-number-line-requires
 put-number-line-requires c κs = search needs
 
 put-nodes-requires : tie.Need-put-nodes-requires
-put-nodes-requires c κs = let a = c .before .before .before .before .before .before .before .before .args in let b = length-number (a .name .now) 19 (length (a .words .now)) (omega arith) in let m = c .before .before .before .put-number-line .ensures .next in omega arith
+put-nodes-requires c κs =
+    let a = c .before .before .before .before .before .before .before .before .args in
+    let b = length-number (a .name .now) 19 (length (a .words .now)) (omega arith) in
+    let m = c .before .before .before .put-number-line .ensures .next in
+    omega arith
 
 same-length : tie.Need-same-length
 same-length c = search needs

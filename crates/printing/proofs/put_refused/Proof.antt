@@ -1,12 +1,5 @@
 -- One writer after another. Assumes nothing.
-use mathlib.Core.Path.{_≡_, sym, ap, _∙_}
-use Rattle.nodes.specs.declared.ByteTest.{ByteTest}
-use Rattle.nodes.specs.Nodes.{testOf}
-use Rattle.printing.specs.Lines.{testLine, nodeLine, literalLine, refusedLine, literalsRefusedLine}
-use Rattle.printing.proofs.LaidLaws.{put-none, put-then, put-same}
-use Rattle.printing.proofs.NumberLaws.{length-hexes}
-use Rattle.printing.proofs.LineLaws.{node-line}
-use native.Mathlib.Omega.{arith}
+use Rattle.printing.specs.Lines.{refusedLine}
 use borrow.Author.Needs.{needs}
 use Rattle.printing.proofs.put_refused.Statement.{statement}
 use Rattle.printing.proofs.put_refused.Tie as tie

@@ -1,12 +1,9 @@
 -- One writer after another. Assumes nothing.
-use mathlib.Core.Path.{_≡_, sym, ap, _∙_}
+use mathlib.Core.Path.{sym, ap}
 use Rattle.nodes.specs.declared.ByteTest.{ByteTest}
 use Rattle.nodes.specs.Nodes.{testOf}
-use Rattle.printing.specs.Lines.{testLine, nodeLine, literalLine, refusedLine, literalsRefusedLine}
-use Rattle.printing.proofs.LaidLaws.{put-none, put-then, put-same}
-use Rattle.printing.proofs.NumberLaws.{length-hexes}
-use Rattle.printing.proofs.LineLaws.{node-line}
-use native.Mathlib.Omega.{arith}
+use Rattle.printing.specs.Lines.{testLine}
+use Rattle.printing.proofs.LaidLaws.{put-same}
 use borrow.Author.Needs.{needs}
 use Rattle.printing.proofs.put_test.Statement.{statement}
 use Rattle.printing.proofs.put_test.Tie as tie
@@ -51,25 +48,33 @@ same-length : tie.Need-same-length
 same-length c = search needs
 
 returns : tie.Need-returns
-returns c = put-same (testLine (testOf (c .before .before .before .before .before .before .before .before .before .args .t))) (c .before .before .put-byte-line .ensures) (sym (ap (λ (x : ByteTest). testLine (testOf x)) (c .before .before .before .before .before .before .t .given .1)))
+returns c =
+    let a = c .before .before .before .before .before .before .before .before .before .args in
+    put-same (testLine (testOf (a .t))) (c .before .before .put-byte-line .ensures) (sym (ap (λ (x : ByteTest). testLine (testOf x)) (c .before .before .before .before .before .before .t .given .1)))
 
 same-length-2 : tie.Need-same-length-2
 same-length-2 c = search needs
 
 returns-2 : tie.Need-returns-2
-returns-2 c = put-same (testLine (testOf (c .before .before .before .before .before .before .before .before .before .args .t))) (c .before .before .put-mask-line .ensures) (sym (ap (λ (x : ByteTest). testLine (testOf x)) (c .before .before .before .before .before .before .t2 .given .1)))
+returns-2 c =
+    let a = c .before .before .before .before .before .before .before .before .before .args in
+    put-same (testLine (testOf (a .t))) (c .before .before .put-mask-line .ensures) (sym (ap (λ (x : ByteTest). testLine (testOf x)) (c .before .before .before .before .before .before .t2 .given .1)))
 
 same-length-3 : tie.Need-same-length-3
 same-length-3 c = search needs
 
 returns-3 : tie.Need-returns-3
-returns-3 c = put-same (testLine (testOf (c .before .before .before .before .before .before .before .before .before .args .t))) (c .before .before .put-mask-line2 .ensures) (sym (ap (λ (x : ByteTest). testLine (testOf x)) (c .before .before .before .before .before .before .t3 .given .1)))
+returns-3 c =
+    let a = c .before .before .before .before .before .before .before .before .before .args in
+    put-same (testLine (testOf (a .t))) (c .before .before .put-mask-line2 .ensures) (sym (ap (λ (x : ByteTest). testLine (testOf x)) (c .before .before .before .before .before .before .t3 .given .1)))
 
 same-length-4 : tie.Need-same-length-4
 same-length-4 c = search needs
 
 returns-4 : tie.Need-returns-4
-returns-4 c = put-same (testLine (testOf (c .before .before .before .before .before .before .before .before .args .t))) (c .before .before .put-bytes .ensures) (sym (ap (λ (x : ByteTest). testLine (testOf x)) (c .before .before .before .before .before .enum-told .given .1)))
+returns-4 c =
+    let a = c .before .before .before .before .before .before .before .before .args in
+    put-same (testLine (testOf (a .t))) (c .before .before .put-bytes .ensures) (sym (ap (λ (x : ByteTest). testLine (testOf x)) (c .before .before .before .before .before .enum-told .given .1)))
 
 pub put-test-spec : {M : Type 1} → statement M
 put-test-spec =
