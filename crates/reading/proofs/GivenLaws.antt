@@ -1,7 +1,6 @@
 -- A refusal is given exactly in its case. Assumes nothing.
 use mathlib.Core.Path.{_≡_, refl, sym, ap, ap₂, _∙_, subst}
 use mathlib.Core.Bool.{Bool, true, false, cond}
-use mathlib.Core.Option.{none}
 use mathlib.Core.List.{List}
 use Prim.Native.Nat.{ℕ, zero, suc, _+_, _-_, _*_, _≤_, _<_}
 use native.Mathlib.Omega.{arith}
@@ -13,23 +12,20 @@ use Rattle.base.specs.declared.Refusal.the-variants.{TextTooLong, Unexpected, J
 use Rattle.meaning.specs.Tokens.{Token, Tokens, Lists, nothing, _then_, neither, _or_}
 use Rattle.meaning.specs.Entries.{tokenCount}
 use Rattle.reading.specs.Blanks.{skip}
-use Rattle.reading.specs.Pieces.{Seen, found, absent, refused, digit, within, hexAt, plainly, jumped, rangeAt, plainAt, _else_}
+use Rattle.reading.specs.Pieces.{Seen, found, absent, refused, digit, within, jumped, plainAt}
 use Rattle.reading.specs.Lists.{Parsed, read, missing, stopped, tokenOr, asToken, bracketed, before, listOf, beside, atBound, begins, ends, token, more, list, lists, Outcome, accepted, rejected, closing, reading}
 use Rattle.reading.specs.Given as given
 use Rattle.reading.proofs.PieceLaws.{never, here-at, skip-from, skip-in}
-use Rattle.reading.proofs.PieceSteps.{byte-none, masked-no-right, hex-masked, not-else, range-else, plain-not, byte-else}
+use Rattle.reading.proofs.PieceSteps.{range-else}
+use Rattle.reading.proofs.InToken.{plain-other, in-token-refuses, refused-in-token}
 use Rattle.reading.proofs.ListBounds.{Gone}
 use Rattle.reading.proofs.ListSteps.{token-gone, list-gone, token-step, more-read, more-none, more-stopped, list-deep, list-of, lists-closed, lists-barred, lists-else, lists-missing, lists-stopped}
 use Rattle.reading.proofs.TextLaws.{text-long, text-unopened, text-opened, text-closed, text-unclosed}
 
 -- no other token begins with `(`
 bracket-alone : (t : List ℕ) (inside : Bool) (at : ℕ) → getD t at 0 ≡ 40 → plainAt t inside at ≡ absent
-unfolding _else_ plainly jumped digit within
-bracket-alone t inside at h =
-    let n : (c : ℕ) → (40 ≡ c → ⊥) → getD t at 0 ≡ c → ⊥ = λ c w z. w (sym h ∙ z) in
-    let d : digit (getD t at 0) ≡ none = ap digit h in
-    let x : hexAt t at ≡ absent = hex-masked t at (byte-none t at d) ∙ masked-no-right t at (n 63 (λ z. omega arith)) d in
-    plain-not t at inside (not-else t at (n 126 (λ z. omega arith))) ∙ byte-else t at x _ ∙ ap (jumped inside at) (range-else t at (n 91 (λ z. omega arith)))
+unfolding jumped digit within
+bracket-alone t inside at h = plain-other t inside at 40 h (λ z. omega arith) (λ z. omega arith) refl ∙ ap (jumped inside at) (range-else t at (λ z. let w : 40 ≡ 91 = sym h ∙ z in omega arith))
 
 module _ (t : List ℕ) (l c at : ℕ) where
   token-by : {x : Seen Token} → plainAt t (ltb 1 l) at ≡ x → token t l c at ≡ tokenOr at c x (bracketed t at c (lists t (l + 1) (c + 1) (skip t (at + 1)) (skip t (at + 1))))
@@ -86,7 +82,7 @@ given-rejects {t} (given.no-outer h k q) = text-opened t h k (skip t 1) refl q
 given-rejects {t} (given.no-list {level = l} {count = c} {at = at} {miss = miss} a q) = stop-lists a Unexpected miss (lists-missing t l c at miss q)
 given-rejects {t} (given.not-closed {e = e} {d = d} {ts = ts} h k q n) = text-opened t h k (skip t 1) refl q ∙ text-unclosed t (skip t 1) ts e d n
 given-rejects {t} (given.not-bracketed {level = l} {count = c} {at = at} {miss = miss} {e = e} a q n m) = stop-lists a Unexpected e (lists-else t l c at miss q n m)
-given-rejects {t} (given.in-token {level = l} {count = c} {at = at} {p = p} {r = r} k q) = stop-more k r p (more-stopped t l c at (token-by t l c at q))
+given-rejects {t} (given.in-token {level = l} {count = c} {at = at} {p = p} {r = r} k q) = stop-more k r p (more-stopped t l c at (token-by t l c at (in-token-refuses q)))
 given-rejects {t} (given.jump-at-bound {level = l} {count = c} {at = at} {e = e} {d = d} {ts = ts} b q h) = stop-list b JumpAtBound at (list-of t l c at (shallow b) ∙ ap (listOf at) q ∙ bounded at e d ts h)
 given-rejects {t} (given.too-deep {level = l} {count = c} {at = at} {miss = miss} a h) = stop-lists a HexStringTooDeep at (lists-stopped t l c at miss (list-deep t l c at h))
 given-rejects {t} (given.too-many {level = l} {count = c} {at = at} {e = e} {tok = tok} k h q) = stop-more k TooManyTokens at (more-stopped t l c at (token-by t l c at q ∙ ap (λ (b : Bool). cond b (read tok e (c + 1)) (stopped TooManyTokens at)) (le-ltb c 512 h)))
@@ -141,7 +137,7 @@ module _ (t : List ℕ) (r : Refusal) (p : ℕ) where
           never (cc)
       go (refused s y) i b j o w =
           let z : token t l c at ≡ stopped s y = token-by t l c at i in
-          move (cc) (cc) (given.in-token k i)
+          move (cc) (cc) (given.in-token k (refused-in-token t at (ltb 1 l) s y i))
 
   more-case : (l c at : ℕ) → given.Looked t l c at → ((tok : Token) (e d : ℕ) → token t l c at ≡ read tok e d → more t l d e ≡ stopped r p → given.Given t r p)
       → (getD t at 0 ≡ 40 → c < 512 → lists t (l + 1) (c + 1) (skip t (at + 1)) (skip t (at + 1)) ≡ stopped r p → given.Given t r p) → more t l c at ≡ stopped r p → given.Given t r p

@@ -7,5 +7,6 @@ pub mod ListSteps
 pub mod TextLaws
 pub mod Kept
 pub mod Decoded
+pub mod InToken
 pub mod GivenLaws
 pub mod Samples
