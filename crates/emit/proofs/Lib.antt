@@ -5,3 +5,5 @@ pub mod ListLaws
 pub mod LentLaws
 pub mod BranchLaws
 pub mod AltLaws
+pub mod OrderLaws
+pub mod LinkLaws
