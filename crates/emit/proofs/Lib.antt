@@ -7,3 +7,4 @@ pub mod BranchLaws
 pub mod AltLaws
 pub mod OrderLaws
 pub mod LinkLaws
+pub mod TokensLaws
