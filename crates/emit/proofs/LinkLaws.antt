@@ -30,7 +30,7 @@ use Rattle.emit.proofs.OrderLaws.{nth, firsts, directedOf, directed, di
 abbrev itemFrom : List ℕ → Item
 itemFrom l = entryItem (getD l 0 0) (getD l 1 0) (getD l 2 0)
 
-fields : (ws : List ℕ) (at : ℕ) (l : List ℕ) → drop at ws ≡ l → (getD ws at 0 ≡ getD l 0 0) × (getD ws (at + 1) 0 ≡ getD l 1 0) × (getD ws (at + 2) 0 ≡ getD l 2 0)
+pub fields : (ws : List ℕ) (at : ℕ) (l : List ℕ) → drop at ws ≡ l → (getD ws at 0 ≡ getD l 0 0) × (getD ws (at + 1) 0 ≡ getD l 1 0) × (getD ws (at + 2) 0 ≡ getD l 2 0)
 fields ws at l e =
     let z : at ≡ at + 0 = omega arith in (
       ap (λ (i : ℕ). getD ws i 0) z ∙ sym (getD-drop at ws 0 0) ∙ ap (λ (x : List ℕ). getD x 0 0) e,
@@ -197,11 +197,11 @@ four-in ls = let q = fours-in ls in omega (arith, q .1)
 
 -- alternatives at a place
 module _ (ws : List ℕ) (at : ℕ) (ls : Lists) (r : List ℕ) (e : drop at ws ≡ entriesOf (Alternatives ls) ++ r) where
-  alt-fields : (getD ws at 0 ≡ 5) × (getD ws (at + 1) 0 ≡ listCount ls) × (getD ws (at + 2) 0 ≡ entriesIn (listEntries ls))
+  pub alt-fields : (getD ws at 0 ≡ 5) × (getD ws (at + 1) 0 ≡ listCount ls) × (getD ws (at + 2) 0 ≡ entriesIn (listEntries ls))
   unfolding entriesOf
   alt-fields = fields ws at (entriesOf (Alternatives ls) ++ r) e
 
-  alt-inside : take (4 * getD ws (at + 2) 0) (drop (at + 4) ws) ≡ listEntries ls
+  pub alt-inside : take (4 * getD ws (at + 2) 0) (drop (at + 4) ws) ≡ listEntries ls
   unfolding entriesOf
   alt-inside =
       ap₂ take (ap (λ (n : ℕ). 4 * n) (alt-fields .2) ∙ four-in ls) (sym (drop-drop 4 at ws) ∙ ap (drop 4) e)
@@ -256,6 +256,16 @@ module _ (ws : List ℕ) (at : ℕ) (t : Token) (u : Alone t) (r : List ℕ) (e 
     fits = omega (arith, alone-size, length-drop at ws, ap length e, length-append (entriesOf t) r, size-least ws at);
     opened = λ f. absurd (other f);
   }
+
+-- the size of the token at its place
+pub starts-size : (ws : List ℕ) (at : ℕ) (t : Token) → Starts ws at t → sizeAt ws at ≡ length (entriesOf t)
+unfolding Starts
+starts-size ws at (Byte v) (r, e) = alone-size ws at (Byte v) tt r e
+starts-size ws at (NotByte v) (r, e) = alone-size ws at (NotByte v) tt r e
+starts-size ws at (MaskedByte v m) (r, e) = alone-size ws at (MaskedByte v m) tt r e
+starts-size ws at (NotMaskedByte v m) (r, e) = alone-size ws at (NotMaskedByte v m) tt r e
+starts-size ws at (Jump from to) (r, e) = alone-size ws at (Jump from to) tt r e
+starts-size ws at (Alternatives ls) (r, e) = alt-size ws at ls r e
 
 -- any token at its place
 pub record Placed (b : Bool) (ws : List ℕ) (at : ℕ) (t : Token) : Type 0 where

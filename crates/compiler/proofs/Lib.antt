@@ -1,0 +1,2 @@
+-- What the proofs of the functions rest on, and what crates above cite.
+pub mod WalkLaws
