@@ -95,7 +95,7 @@ pub record Stepped (ws : List ℕ) (at : ℕ) (ts : Tokens) : Type 0 where
   pub passes : simpleAt ws at ≡ true → Walked ws (at + sizeAt ws at) ts
   pub fails : simpleAt ws at ≡ false → simple ts ≡ false
 
-some-entry : (t : Token) → 4 ≤ length (entriesOf t)
+pub some-entry : (t : Token) → 4 ≤ length (entriesOf t)
 unfolding entries
 some-entry (Byte v) = omega arith
 some-entry (NotByte v) = omega arith

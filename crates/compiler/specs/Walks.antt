@@ -9,6 +9,7 @@ use Rattle.meaning.specs.Tokens.{Tokens}
 use Rattle.meaning.specs.Values.{Spelled}
 use Rattle.meaning.specs.Entries.{entries}
 use Rattle.compiling.specs.Compiling.{jumpLimit}
+use Rattle.compiling.specs.Compile.{simple}
 
 -- a jump's entry: it has a to, within the limit
 unfoldable pub jumpNear : ℕ → ℕ → Bool
@@ -37,3 +38,7 @@ pub record Entered (ws : List ℕ) : Type 0 where
   pub entered : ws ≡ entries tokens
   pub spelled : Spelled tokens
   pub short : length ws ≤ 4096
+
+-- whatever tokens the words are the entries of, they are simple
+abbrev pub Simply : List ℕ → Type 0
+Simply ws = (ts : Tokens) → ws ≡ entries ts → simple ts ≡ true

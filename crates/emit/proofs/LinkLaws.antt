@@ -290,7 +290,7 @@ directed-long-of : (b : Bool) (t : Token) → length (entriesOf (directedOf b t)
 directed-long-of true t = backwards-long-of t
 directed-long-of false t = refl
 
-directed-long : (b : Bool) (ts : Tokens) → length (entries (directed b ts)) ≡ length (entries ts)
+pub directed-long : (b : Bool) (ts : Tokens) → length (entries (directed b ts)) ≡ length (entries ts)
 directed-long true ts = backwards-long ts
 directed-long false ts = refl
 
