@@ -53,3 +53,25 @@ back NotPlain = refl
 
 pub number-one : (r s : Refusal) → numberOf r ≡ numberOf s → r ≡ s
 number-one r s e = sym (back r) ∙ ap refusalOf e ∙ back s
+
+-- 0 is no refusal's number, so it can say that there is none
+pub number-some : (r : Refusal) → eqb (numberOf r) 0 ≡ false
+number-some TextTooLong = refl
+number-some Unexpected = refl
+number-some NumberTooBig = refl
+number-some JumpEmpty = refl
+number-some JumpRangeInvalid = refl
+number-some JumpAtBound = refl
+number-some JumpUnboundedInAlternation = refl
+number-some JumpTooBigInAlternation = refl
+number-some CannotNegateMaskAll = refl
+number-some HexStringTooDeep = refl
+number-some TooManyTokens = refl
+number-some NotSimple = refl
+number-some TooManyNodes = refl
+number-some BranchTooLong = refl
+number-some Unsound = refl
+number-some BadWindow = refl
+number-some TooManyLiterals = refl
+number-some NoRoom = refl
+number-some NotPlain = refl

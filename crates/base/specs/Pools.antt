@@ -1,4 +1,5 @@
--- What a call leaves in a lent pool of words. Assumes nothing: these are definitions.
+-- What a call leaves in a lent pool of words. A pool that is shorter than `size` is refused by 18 and stays as it is, so these are used
+-- of pools of at least `size` words alone. Assumes nothing: these are definitions.
 use mathlib.Core.List.{List, _++_}
 use Prim.Native.Nat.{ℕ, _+_, _-_}
 use lib.ListN.{length, take, drop, replicate}
@@ -7,10 +8,10 @@ use lib.ListN.{length, take, drop, replicate}
 unfoldable pub zeroed : ℕ → ℕ → List ℕ → List ℕ
 zeroed from to p = take from p ++ (replicate (to - from) 0 ++ drop to p)
 
--- success, in a pool whose first `size` words are lent: the used words, 0 in the rest of those, and what lies beyond
+-- success, with at most `size` words used: the used words, 0 in the rest of the first `size`, and what lies beyond as it was
 unfoldable pub filled : ℕ → List ℕ → List ℕ → List ℕ
 filled size ws p = ws ++ (replicate (size - length ws) 0 ++ drop size p)
 
--- a refusal that zeroes: 0 in the first `size` words, and what lies beyond
+-- a refusal that zeroes: 0 in the first `size` words, and what lies beyond as it was
 unfoldable pub cleared : ℕ → List ℕ → List ℕ
 cleared size p = replicate size 0 ++ drop size p

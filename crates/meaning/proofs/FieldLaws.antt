@@ -1,8 +1,8 @@
 -- The fields of a word, over the number F of a field's values. Assumes nothing.
-use mathlib.Core.Path.{_≡_, refl, sym, ap, _∙_}
+use mathlib.Core.Path.{_≡_, sym, ap, _∙_}
 use Prim.Native.Nat.{ℕ, zero, suc, _+_, _*_, _/_, _%_, _<_}
 use native.Mathlib.Omega.{arith}
-use native.Mathlib.Nat.{mul-assoc, add-mul-div-left, add-mul-mod-self-left, div-eq-of-lt, mod-eq-of-lt, div-div-eq-div-mul, mod-add-div, zero-add, div-lt-iff-lt-mul, mul-comm, mod-lt}
+use native.Mathlib.Nat.{mul-assoc, add-mul-div-left, add-mul-mod-self-left, div-eq-of-lt, mod-eq-of-lt, div-div-eq-div-mul, mod-add-div, zero-add, div-lt-iff-lt-mul}
 use Rattle.meaning.specs.Words.{wordBy, kindOf, firstBy, secondBy}
 
 -- out of a word come the kind and the fields that it was made of

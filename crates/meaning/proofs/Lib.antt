@@ -6,10 +6,17 @@ pub mod RunLaws
 pub mod KindLaws
 pub mod WordLaws
 pub mod SoundLaws
+pub mod ChoiceLaws
+pub mod ChoiceRows
+pub mod ChoiceOrder
+pub mod FirstLaws
 pub mod JoinLaws
 pub mod MirrorWords
+pub mod SaysLaws
+pub mod WordSpans
 pub mod TokenLaws
 pub mod TokenTest
 pub mod YaraExamples
 pub mod FieldLaws
 pub mod MadeLaws
+pub mod MirrorSteps

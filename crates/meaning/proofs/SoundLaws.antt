@@ -157,7 +157,7 @@ plain-row o (w ∷ ws) h =
     (s .0, ap (rows o) (prog-item w ws (q .0) (q .1)) ∙ s .1)
 
 -- the other way: soundness from its parts
-and-both : {a b : Bool} → a ≡ true → b ≡ true → (a && b) ≡ true
+pub and-both : {a b : Bool} → a ≡ true → b ≡ true → (a && b) ≡ true
 and-both {a} {b} p q = rw (p, q)
 
 module _ (w : ℕ) (ws : List ℕ) where

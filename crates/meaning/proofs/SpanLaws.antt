@@ -55,9 +55,6 @@ mutual
   twice-in stop = refl
   twice-in (or p bs) = ap₂ or (twice p) (twice-in bs)
 
-as-long : (P : ℕ → Type 0) (s : List ℕ) → P (length s) → P (length (reverse s))
-as-long P s h = subst P (sym (length-reverse s)) h
-
 -- the mirror keeps each span, read from its other side
 mutual
   unfolding Span mirror
@@ -65,7 +62,7 @@ mutual
   mirror-span-of : (i : Item) (s : List ℕ) → SpanOf i s → SpanOf (mirrorOf i) (reverse s)
   mirror-span-of (one t) s (b, e, h) = (b, ap reverse e, h)
   mirror-span-of (jump n) s h = length-reverse s ∙ h
-  mirror-span-of (range a b) s h = as-long (λ n. (a ≤ n) × (n ≤ b)) s h
+  mirror-span-of (range a b) s h = let e = length-reverse s in (omega arith, omega arith)
   mirror-span-of (alt bs) s h = mirror-span-in bs s h
 
   pub mirror-span : (p : Prog) (s : List ℕ) → Span p s → Span (mirror p) (reverse s)

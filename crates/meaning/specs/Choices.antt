@@ -3,7 +3,7 @@
 use mathlib.Core.Path.{_≡_}
 use mathlib.Core.Bool.{true}
 use mathlib.Core.Logic.{_⊎_}
-use mathlib.Core.List.{List, [], _∷_, _++_}
+use mathlib.Core.List.{List, [], _∷_, _++_, reverse}
 use Prim.Native.Nat.{ℕ, _≤_, _<_}
 use lib.ListN.{length}
 use Rattle.meaning.specs.Programs.{pass, Item, Prog, Branches, one, jump, range, alt, end, _▹_, stop, or}
@@ -24,7 +24,7 @@ mutual
     done : Choice
     pick : Pick → Choice → Choice
 
--- what there is to pick
+-- what there is to pick: proofs/ChoiceOrder.antt lists exactly these
 unfoldable mutual
   pub Offers : Item → Pick → Type 0
   Offers (one t) k = k ≡ only
@@ -86,3 +86,15 @@ pub record First (o : Order) (p : Prog) (w v : List ℕ) : Type 0 where
   pub choice : Choice
   pub fits : FitsAt p choice w v
   pub none-sooner : (d : Choice) (u : List ℕ) → Sooner o d choice → FitsAt p d w u → ⊥
+
+-- no choice fits the window from its start
+abbrev pub Nowhere : Prog → List ℕ → Type 0
+Nowhere p w = (c : Choice) (v : List ℕ) → FitsAt p c w v → ⊥
+
+-- what the forward check is to find: the first choice, short jumps before long, leaves v of the window
+abbrev pub FirstForward : Prog → List ℕ → List ℕ → Type 0
+FirstForward p w v = First short p w v
+
+-- what the reverse check is to find: the first choice, long jumps before short, that fits the window read from its end leaves the front u of it
+abbrev pub FirstReverse : Prog → List ℕ → List ℕ → Type 0
+FirstReverse p w u = First long p (reverse w) (reverse u)

@@ -8,7 +8,8 @@ use lib.Dec.{eqb}
 use lib.Bits.{bitAnd}
 use lib.ListN.{length}
 
--- what is asked of one byte: to be this one; to have this value under the mask, or not to; nothing; not to be 0A
+-- what is asked of one byte: to be this one; to have this value under the mask, or not to; nothing (no word says that: it serves
+-- the rows of jumps); not to be 0A
 pub data Test : Type 0 where
   byte : ℕ → Test
   mask : ℕ → ℕ → Test

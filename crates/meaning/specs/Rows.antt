@@ -7,7 +7,7 @@ use mathlib.Core.List.{List, [], _∷_, _++_, map, reverse}
 use Prim.Native.Nat.{ℕ, zero, suc, _-_}
 use lib.ListN.{replicate}
 use Rattle.meaning.specs.Programs.{Test, any, pass, Item, Prog, Branches, one, jump, range, alt, end, _▹_, stop, or}
-use Rattle.meaning.specs.Choices.{Order, short, long}
+use Rattle.meaning.specs.Choices.{Pick, Choice, only, bytes, first, later, done, pick, Order, short, long}
 
 abbrev pub Row : Type 0
 Row = List Test
@@ -86,3 +86,60 @@ forward p w = run short p w
 
 abbrev pub backward : Prog → List ℕ → Option (List ℕ)
 backward p w = run long p (reverse w)
+
+-- every choice of a program, in choice order, and the row of each: proofs/ChoiceLaws.antt says that these are all, in that order
+
+-- a pick before each choice of a list
+unfoldable pub picked : Pick → List Choice → List Choice
+picked k [] = []
+picked k (c ∷ cs) = pick k c ∷ picked k cs
+
+-- each pick of the first list before each choice of the second, the first list deciding first
+infixr 70 _⊠_
+unfoldable pub _⊠_ : List Pick → List Choice → List Choice
+[] ⊠ cs = []
+(k ∷ ks) ⊠ cs = picked k cs ++ ks ⊠ cs
+
+unfoldable mutual
+  pub picks : Order → Item → List Pick
+  picks o (one t) = only ∷ []
+  picks o (jump n) = only ∷ []
+  picks o (range a b) = map bytes (lengths o a b)
+  picks o (alt bs) = picksIn o bs
+
+  pub choices : Order → Prog → List Choice
+  choices o end = done ∷ []
+  choices o (i ▹ p) = picks o i ⊠ choices o p
+
+  pub picksIn : Order → Branches → List Pick
+  picksIn o stop = []
+  picksIn o (or p bs) = map first (choices o p) ++ map later (picksIn o bs)
+
+abbrev pub headPick : Choice → Pick
+headPick done = only
+headPick (pick k c) = k
+
+abbrev pub tailChoice : Choice → Choice
+tailChoice done = done
+tailChoice (pick k c) = c
+
+abbrev pub byPick : Pick → (ℕ → Row) → (Choice → Row) → (Pick → Row) → Row
+byPick only f g h = []
+byPick (bytes n) f g h = f n
+byPick (first c) f g h = g c
+byPick (later k) f g h = h k
+
+unfoldable mutual
+  pub rowPick : Item → Pick → Row
+  rowPick (one t) k = t ∷ []
+  rowPick (jump n) k = anys n
+  rowPick (range a b) k = byPick k anys (λ c. []) (λ j. [])
+  rowPick (alt bs) k = rowIn bs k
+
+  pub rowBy : Prog → Choice → Row
+  rowBy end c = []
+  rowBy (i ▹ p) c = rowPick i (headPick c) ++ rowBy p (tailChoice c)
+
+  pub rowIn : Branches → Pick → Row
+  rowIn stop k = []
+  rowIn (or p bs) k = byPick k (λ n. []) (λ c. rowBy p c) (λ j. rowIn bs j)

@@ -1,4 +1,4 @@
--- Hexadecimal strings, as the YARA document ('Writing YARA rules') has them, and the bytes that they match.
+-- Hexadecimal strings, as the YARA document ('Writing YARA rules') has them, with `~` from 01, and the bytes that they match.
 -- Assumes nothing: these are definitions.
 use mathlib.Core.Path.{_≡_}
 use mathlib.Core.Logic.{_⊎_}

@@ -12,7 +12,8 @@ use Rattle.meaning.specs.Programs.{Test, byte, mask, negatedMask, dot, I
 abbrev pub fieldSize : ℕ
 fieldSize = 256
 
--- a word by its kind and its two fields, and each of them out of a word, over the size F of a field
+-- A word by its kind and its two fields, and each of them out of a word. The size F of a field is a parameter, so that the facts about
+-- fields (proofs/FieldLaws.antt) are proved once for every size: the kind always has 256 values.
 abbrev pub wordBy : ℕ → ℕ → ℕ → ℕ → ℕ
 wordBy F k a b = k + 256 * a + 256 * F * b
 
@@ -35,8 +36,8 @@ firstOf w = firstBy fieldSize w
 abbrev pub secondOf : ℕ → ℕ
 secondOf w = secondBy fieldSize w
 
--- what one word says: an item that is one word; alternatives, whose branches are the next so many words;
--- a branch, whose nodes are the next so many words; or nothing that 01 knows
+-- what one word says by its kind and fields, read without judging (`proper` judges): an item that is one word; alternatives, whose branches
+-- are the next so many words; a branch, whose nodes are the next so many words; or a kind that 01 does not have
 pub data Shape : Type 0 where
   item : Item → Shape
   opens : ℕ → Shape
@@ -91,11 +92,11 @@ mutual
   pub data Says : List ℕ → Prog → Type 0 where
     nothing : Says [] end
     node : {w : ℕ} {ws : List ℕ} {i : Item} {p : Prog} → proper w ≡ true → shape w ≡ item i → Says ws p → Says (w ∷ ws) (i ▹ p)
-    alternation : {w : ℕ} {bs ws : List ℕ} {b : Branches} {p : Prog} → proper w ≡ true → shape w ≡ opens (length bs) → SaysIn bs b → Says ws p → Says (w ∷ (bs ++ ws)) (alt b ▹ p)
+    alternation : {w : ℕ} {bs vs ws : List ℕ} {b : Branches} {p : Prog} → proper w ≡ true → shape w ≡ opens (length bs) → ws ≡ bs ++ vs → SaysIn bs b → Says vs p → Says (w ∷ ws) (alt b ▹ p)
 
   pub data SaysIn : List ℕ → Branches → Type 0 where
     last : {w : ℕ} {ns : List ℕ} {p : Prog} → proper w ≡ true → shape w ≡ mark (length ns) → plainProg p ≡ true → Says ns p → SaysIn (w ∷ ns) (or p stop)
-    more : {w : ℕ} {ns bs : List ℕ} {p : Prog} {b : Branches} → proper w ≡ true → shape w ≡ mark (length ns) → plainProg p ≡ true → Says ns p → SaysIn bs b → SaysIn (w ∷ (ns ++ bs)) (or p b)
+    more : {w : ℕ} {ns bs ws : List ℕ} {p : Prog} {b : Branches} → proper w ≡ true → shape w ≡ mark (length ns) → ws ≡ ns ++ bs → plainProg p ≡ true → Says ns p → SaysIn bs b → SaysIn (w ∷ ws) (or p b)
 
 -- a sound program: at most 512 words, which say one
 pub record SoundProgram (ws : List ℕ) : Type 0 where
@@ -113,7 +114,7 @@ unfoldable mutual
   items (suc n) (w ∷ ws) = elim (shape w) [
     | item i ↦ i ▹ items n ws
     | opens k ↦ alt (branches n (take k ws)) ▹ items n (drop k ws)
-    -- a mark that is met in the flow ends the branch before it: what follows is what follows the alternation
+    -- no sound program has a mark here; the words from inside a branch on meet the marks of the later branches, and skip each
     | mark k ↦ items n (drop k ws)
     | wrong ↦ end
   ]

@@ -1,20 +1,19 @@
 -- A word taken apart into a node and made from it: on proper words the two are inverse. Assumes nothing.
 use mathlib.Core.Path.{_≡_, refl, sym, ap, _∙_, subst}
-use mathlib.Core.Bool.{Bool, true, false, cond, _&&_}
-use Prim.Native.Nat.{ℕ, _+_, _*_, _/_, _%_, _<_}
+use mathlib.Core.Bool.{Bool, true, false, _&&_}
+use Prim.Native.Nat.{ℕ, _*_, _/_, _%_, _<_}
 use native.Mathlib.Omega.{arith}
-use native.Mathlib.Nat.{mod-lt}
-use lib.Dec.{eqb, leb, ltb}
+use lib.Dec.{eqb, ltb}
 use borrow.Author.Tests.{eqb-true, ltb-true}
-use Rattle.meaning.specs.Programs.{Test, byte, mask, negatedMask, any, dot, Item, one, jump, range, alt}
+use Rattle.meaning.specs.Programs.{Test, byte, mask, negatedMask, any, dot, one, jump, range, alt}
 use Rattle.meaning.specs.Words.{fieldSize, word, kindOf, firstOf, secondOf, Shape, item, opens, mark, wrong, shapeBy, shape, properBy, proper}
 use Rattle.meaning.proofs.SoundLaws.{and-left, and-right, false-true}
-use Rattle.meaning.proofs.FieldLaws.{kind-made, first-made, second-made, word-made}
-use Rattle.nodes.specs.declared.ByteTest.{ByteTest}
+use Rattle.meaning.proofs.FieldLaws.{word-made}
+use Rattle.meaning.proofs.MadeLaws.{made-shape}
 use Rattle.nodes.specs.declared.ByteTest.the-variants.{Byte, Mask, NegatedMask, Dot}
 use Rattle.nodes.specs.declared.Node.{Node}
 use Rattle.nodes.specs.declared.Node.the-variants.{One, Jump, JumpRange, Alternation, AltBranch, Bad}
-use Rattle.nodes.specs.Nodes.{testOf, shapeOf, testWord, wordOf, TestFits, NodeFits}
+use Rattle.nodes.specs.Nodes.{shapeOf, wordOf, NodeFits}
 
 -- what holds at each kind, and where the kind is none of them, holds
 by-kind : (P : ℕ → Type 0) (k : ℕ) → P 0 → P 1 → P 2 → P 3 → P 4 → P 5 → P 6 → P 7 → (eqb k 0 ≡ false → eqb k 1 ≡ false → eqb k 2 ≡ false → eqb k 3 ≡ false → eqb k 4 ≡ false → eqb k 5 ≡ false → eqb k 6 ≡ false → eqb k 7 ≡ false → P k) → P k
@@ -85,18 +84,14 @@ word-again w n p e =
     sym (ap wordOf (node-in n)) ∙ ap (λ (s : Shape). wordOf (nodeIn s)) e ∙ made-again (kindOf w) (firstOf w) (secondOf w) (omega arith) (omega arith) f ∙ word-made fieldSize w l
 
 -- the word of a node says that node: node_of (node_word n) = n
-shape-made : (k a b : ℕ) → k < 256 → a < fieldSize → b < fieldSize → shape (word k a b) ≡ shapeBy k a b
-unfolding shape
-shape-made k a b hk ha hb = rw (kind-made fieldSize k a b hk ha hb, first-made fieldSize k a b hk ha hb, second-made fieldSize k a b hk ha hb)
-
 pub shape-again : (n : Node) → NodeFits n → shape (wordOf n) ≡ shapeOf n
 unfolding shapeBy
-shape-again (One (Byte v)) h = shape-made 0 v 0 (omega arith) h (omega arith)
-shape-again (One (Mask v m)) h = shape-made 1 v m (omega arith) (h .0) (h .1)
-shape-again (One (NegatedMask v m)) h = shape-made 2 v m (omega arith) (h .0) (h .1)
-shape-again (One Dot) h = shape-made 5 0 0 (omega arith) (omega arith) (omega arith)
-shape-again (Jump n) h = shape-made 3 n 0 (omega arith) h (omega arith)
-shape-again (JumpRange a b) h = shape-made 4 a b (omega arith) (h .0) (h .1)
-shape-again (Alternation n) h = shape-made 6 (n % fieldSize) (n / fieldSize) (omega arith) (omega arith) (omega arith) ∙ ap opens (omega arith)
-shape-again (AltBranch n) h = shape-made 7 n 0 (omega arith) h (omega arith)
-shape-again Bad h = shape-made 8 0 0 (omega arith) (omega arith) (omega arith)
+shape-again (One (Byte v)) h = made-shape 0 v 0 (omega arith) h (omega arith)
+shape-again (One (Mask v m)) h = made-shape 1 v m (omega arith) (h .0) (h .1)
+shape-again (One (NegatedMask v m)) h = made-shape 2 v m (omega arith) (h .0) (h .1)
+shape-again (One Dot) h = made-shape 5 0 0 (omega arith) (omega arith) (omega arith)
+shape-again (Jump n) h = made-shape 3 n 0 (omega arith) h (omega arith)
+shape-again (JumpRange a b) h = made-shape 4 a b (omega arith) (h .0) (h .1)
+shape-again (Alternation n) h = made-shape 6 (n % fieldSize) (n / fieldSize) (omega arith) (omega arith) (omega arith) ∙ ap opens (omega arith)
+shape-again (AltBranch n) h = made-shape 7 n 0 (omega arith) h (omega arith)
+shape-again Bad h = made-shape 8 0 0 (omega arith) (omega arith) (omega arith)

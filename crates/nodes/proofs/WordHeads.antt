@@ -37,3 +37,7 @@ to-end n l = take-all (length l - n) (drop n l) (rw length-drop (omega arith))
 
 pub length-from : (n : ℕ) (l : List ℕ) → length (from n l) ≡ length l - n
 length-from n l = rw (to-end n l) (length-drop n l)
+
+-- what is left after a first word and some more is less
+pub from-less : (l : List ℕ) (w : ℕ) → firstWord l ≡ Word w → (k : ℕ) → length (from k (from 1 l)) < length l
+from-less l w e k = let p = word-pos l w e in omega (arith, length-from k (from 1 l), length-from 1 l)

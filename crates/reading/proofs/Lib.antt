@@ -7,4 +7,5 @@ pub mod ListSteps
 pub mod TextLaws
 pub mod Kept
 pub mod Decoded
+pub mod GivenLaws
 pub mod Samples

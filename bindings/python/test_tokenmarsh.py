@@ -1,0 +1,52 @@
+"""The doors from Python: `python3 -m unittest` in this folder."""
+import doctest
+import unittest
+
+import tokenmarsh
+from tokenmarsh import Alternatives, Byte, Jump, Mask, MaskedByte, NotMaskedByte, Program, Refusal, Refused
+
+
+class Doors(unittest.TestCase):
+    def refused(self, call, number, place=0):
+        with self.assertRaises(Refused) as caught:
+            call()
+        self.assertEqual((caught.exception.refusal, caught.exception.place), (number, place))
+
+    def test_refusals_have_their_places(self):
+        for text, number, place in (
+            (b"{ AB [0] CD }", 4, 5), (b"{ [5] AB }", 6, 2), (b"{ AB (CD [201] EF) }", 8, 9), (b"{ ~?? }", 9, 2), (b"{ ??? }", 2, 4),
+            (b"{ AB [2-3] [x }", 6, 2), (b"{ AB [x }", 2, 5), (b"{ (AB|) }", 2, 5), (b"{ AB [4294967296] CD }", 3, 6), (b"", 2, 0), (b"{" * 4097, 1, 0),
+        ):
+            for door in (tokenmarsh.read, tokenmarsh.compile, tokenmarsh.literals):
+                self.refused(lambda: door(text), number, place)
+
+    def test_tokens_are_nested(self):
+        r = tokenmarsh.read(b"{ AB ~?c [4-] ( 01 | 2? [1] ) 03 } zz")
+        self.assertEqual(r.reached, 35)
+        self.assertEqual(r.tokens, (Byte(0xAB), NotMaskedByte(0xC, Mask.LEFT), Jump(4, None),
+                                    Alternatives(((Byte(1),), (MaskedByte(2, Mask.RIGHT), MaskedByte(0, Mask.ALL)))), Byte(3)))
+
+    def test_programs(self):
+        self.assertEqual(tokenmarsh.compile(b"{ A? }").forward.words, (0x00F0A001,))
+        self.refused(lambda: tokenmarsh.compile(b"{ AB [256] CD }"), Refusal.NOT_SIMPLE)
+        self.refused(lambda: Program([7]), Refusal.UNSOUND)
+        self.refused(lambda: Program([0] * 513), Refusal.TOO_MANY_NODES)
+
+    def test_first_choice(self):
+        self.assertEqual(tokenmarsh.compile(b"{ (61|61 62) 63 }").forward.end(b"abc"), 3)
+        friend = tokenmarsh.compile(b"{ (61|62 61) }")
+        self.assertEqual(friend.reverse.start(b"ba"), 1)
+        self.assertEqual(friend.forward.mirror().start(b"ba"), 1)
+        self.assertEqual(bytes(tokenmarsh.compile(b"{ 61 }").forward.tail(b"abc")), b"bc")
+        self.refused(lambda: tokenmarsh.forward([], b"abc", 2, 1), Refusal.BAD_WINDOW)
+
+    def test_literals(self):
+        r = tokenmarsh.literals(b"{ 01 02 ?3 04 }")
+        self.assertEqual((r.rank, len(r.literals)), (70, 16))
+
+    def test_examples(self):
+        self.assertEqual(doctest.testmod(tokenmarsh).failed, 0)
+
+
+if __name__ == "__main__":
+    unittest.main()

@@ -1,0 +1,287 @@
+"""Byte patterns in YARA's hexadecimal strings, read, compiled and searched by proved code.
+
+    >>> import tokenmarsh
+    >>> pattern = tokenmarsh.compile(b"{ 61 [0-2] 63 }")
+    >>> pattern.forward.end(b"abcd")
+    3
+    >>> pattern.reverse.start(b"xabc")
+    1
+    >>> tokenmarsh.literals(b"{ 61 [0-2] 63 }")
+    Literals(literals=(b'c',), rank=20)
+
+The work is done by libtokenmarsh.so, from the file that TOKENMARSH_SO names, or from the repository's own build, or from where the system finds it.
+"""
+import ctypes
+import enum
+import os
+from typing import NamedTuple, Optional, Tuple, Union
+
+__all__ = ["Refusal", "Refused", "Mask", "Byte", "NotByte", "MaskedByte", "NotMaskedByte", "Jump", "Alternatives", "Read", "Program", "Pattern", "Literals",
+           "read", "compile", "literals", "forward", "reverse", "mirror", "sound"]
+
+TOKEN_POOL = 4096
+NODE_POOL = 512
+LITERAL_BYTES = 256 * 512
+LITERAL_COUNT = 256
+
+
+class Refusal(enum.IntEnum):
+    """Why a call gives no answer, by its number."""
+
+    TEXT_TOO_LONG = 1
+    UNEXPECTED = 2
+    NUMBER_TOO_BIG = 3
+    JUMP_EMPTY = 4
+    JUMP_RANGE_INVALID = 5
+    JUMP_AT_BOUND = 6
+    JUMP_UNBOUNDED_IN_ALTERNATION = 7
+    JUMP_TOO_BIG_IN_ALTERNATION = 8
+    CANNOT_NEGATE_MASK_ALL = 9
+    HEX_STRING_TOO_DEEP = 10
+    TOO_MANY_TOKENS = 11
+    NOT_SIMPLE = 12
+    TOO_MANY_NODES = 13
+    BRANCH_TOO_LONG = 14
+    UNSOUND = 15
+    BAD_WINDOW = 16
+    TOO_MANY_LITERALS = 17
+    NO_ROOM = 18
+    NOT_PLAIN = 19
+
+
+class Refused(ValueError):
+    """A refusal, and the offset in the text that it is given at (0 where none is meant)."""
+
+    def __init__(self, number: int, place: int = 0):
+        self.refusal = Refusal(number)
+        self.place = place
+        super().__init__(f"refused {number} at {place}: {self.refusal.name.lower().replace('_', ' ')}")
+
+
+class Mask(enum.IntEnum):
+    """What a masked byte leaves open: `?X`, `X?`, `??`."""
+
+    LEFT = 0
+    RIGHT = 1
+    ALL = 2
+
+
+class Byte(NamedTuple):
+    value: int
+
+
+class NotByte(NamedTuple):
+    value: int
+
+
+class MaskedByte(NamedTuple):
+    value: int
+    mask: Mask
+
+
+class NotMaskedByte(NamedTuple):
+    value: int
+    mask: Mask
+
+
+class Jump(NamedTuple):
+    start: int
+    to: Optional[int]
+
+
+class Alternatives(NamedTuple):
+    lists: tuple
+
+
+Token = Union[Byte, NotByte, MaskedByte, NotMaskedByte, Jump, Alternatives]
+
+
+class Read(NamedTuple):
+    tokens: Tuple[Token, ...]
+    reached: int
+
+
+class Literals(NamedTuple):
+    literals: Tuple[bytes, ...]
+    rank: int
+
+
+_u8, _u16, _u32, _u64, _size = ctypes.c_uint8, ctypes.c_uint16, ctypes.c_uint32, ctypes.c_uint64, ctypes.c_size_t
+
+
+def _result(*fields):
+    return type("_Result", (ctypes.Structure,), {"_fields_": list(fields)})
+
+
+_ReadResult = _result(("refusal", _u32), ("place", _u64), ("reached", _u64), ("words", _u64))
+_CompileResult = _result(("refusal", _u32), ("place", _u64), ("forward", _u64), ("reverse", _u64))
+_LiteralsResult = _result(("refusal", _u32), ("rank", _u32), ("place", _u64), ("count", _u64))
+_CheckResult = _result(("refusal", _u32), ("found", _u32), ("offset", _u64))
+_TailResult = _result(("offset", _u64), ("length", _u64))
+_MirrorResult = _result(("refusal", _u32), ("words", _u64))
+
+
+def _load():
+    here = os.path.dirname(os.path.abspath(__file__))
+    built = os.path.join(here, "..", "..", "target", "staticlib", "libtokenmarsh.so")
+    named = os.environ.get("TOKENMARSH_SO")
+    lib = ctypes.CDLL(named if named else built if os.path.exists(built) else "libtokenmarsh.so")
+    text = [ctypes.c_char_p, _size]
+    words = [ctypes.POINTER(_u32), _size]
+    window = words + [ctypes.c_char_p, _size, _size, _size]
+    for name, result, arguments in (
+        ("tm_read", _ReadResult, text + words),
+        ("tm_compile", _CompileResult, text + words + words),
+        ("tm_literals", _LiteralsResult, text + [ctypes.POINTER(_u8), _size, ctypes.POINTER(_u16), _size]),
+        ("tm_forward", _CheckResult, window),
+        ("tm_reverse", _CheckResult, window),
+        ("tm_tail", _TailResult, window),
+        ("tm_mirror", _MirrorResult, words + words),
+        ("tm_sound", _u32, words),
+    ):
+        function = getattr(lib, name)
+        function.restype, function.argtypes = result, arguments
+    return lib
+
+
+_lib = _load()
+
+
+def _text(text: bytes) -> bytes:
+    if not isinstance(text, (bytes, bytearray, memoryview)):
+        raise TypeError("a pattern is bytes")
+    return bytes(text)
+
+
+def _words(words):
+    words = tuple(words)
+    if any(not 0 <= w < 1 << 32 for w in words):
+        raise ValueError("a word has 32 bits")
+    return (_u32 * len(words))(*words), len(words)
+
+
+def _answered(result):
+    if result.refusal:
+        raise Refused(result.refusal, getattr(result, "place", 0))
+    return result
+
+
+def _list(entries):
+    tokens, at = [], 0
+    while at < len(entries):
+        kind, a, b, c = entries[at]
+        at += 1
+        if kind == 5:
+            inside, at = entries[at:at + b], at + b
+            lists, k = [], 0
+            while k < len(inside):
+                size = inside[k][2]
+                lists.append(_list(inside[k + 1:k + 1 + size]))
+                k += 1 + size
+            tokens.append(Alternatives(tuple(lists)))
+        else:
+            tokens.append((Byte(a), NotByte(a), MaskedByte(a, Mask(min(b, 2))), NotMaskedByte(a, Mask(min(b, 2))), Jump(a, b if c else None))[kind])
+    return tuple(tokens)
+
+
+def read(text: bytes) -> Read:
+    """The tokens of a hexadecimal string, and the offset reached. Refusals 1 to 11."""
+    text = _text(text)
+    pool = (_u32 * TOKEN_POOL)()
+    r = _answered(_lib.tm_read(text, len(text), pool, TOKEN_POOL))
+    return Read(_list([tuple(pool[i:i + 4]) for i in range(0, r.words, 4)]), r.reached)
+
+
+class Program:
+    """A sound program. Its checks take a window as bytes and cannot be refused."""
+
+    def __init__(self, words):
+        """Refused: 13, 15."""
+        words = tuple(words)
+        if len(words) > NODE_POOL:
+            raise Refused(Refusal.TOO_MANY_NODES)
+        if not sound(words):
+            raise Refused(Refusal.UNSOUND)
+        self.words = words
+
+    def __eq__(self, other):
+        return isinstance(other, Program) and self.words == other.words
+
+    def __hash__(self):
+        return hash(self.words)
+
+    def __repr__(self):
+        return "Program([%s])" % ", ".join(f"0x{w:08X}" for w in self.words)
+
+    def end(self, window: bytes) -> Optional[int]:
+        """Where the first choice ends that fits the window from its start."""
+        return forward(self.words, window, 0, len(window))
+
+    def start(self, window: bytes) -> Optional[int]:
+        """Of a reverse program: where the first choice starts that fits the window up to its end."""
+        return reverse(self.words, window, 0, len(window))
+
+    def tail(self, window: bytes) -> memoryview:
+        """What `end` leaves of the window, empty if nothing fits."""
+        words, n = _words(self.words)
+        r = _lib.tm_tail(words, n, bytes(window), len(window), 0, len(window))
+        return memoryview(window)[r.offset:r.offset + r.length]
+
+    def mirror(self) -> "Program":
+        return Program(mirror(self.words))
+
+
+class Pattern(NamedTuple):
+    forward: Program
+    reverse: Program
+
+
+def compile(text: bytes) -> Pattern:
+    """The two programs of a hexadecimal string. Refusals 1 to 11, then 12, 14, 13."""
+    text = _text(text)
+    ahead, back = (_u32 * NODE_POOL)(), (_u32 * NODE_POOL)()
+    r = _answered(_lib.tm_compile(text, len(text), ahead, NODE_POOL, back, NODE_POOL))
+    return Pattern(Program(ahead[:r.forward]), Program(back[:r.reverse]))
+
+
+def literals(text: bytes) -> Literals:
+    """The literals to search for, and their rank. Refusals 1 to 11, then 19, 17."""
+    text = _text(text)
+    data, lengths = (_u8 * LITERAL_BYTES)(), (_u16 * LITERAL_COUNT)()
+    r = _answered(_lib.tm_literals(text, len(text), data, LITERAL_BYTES, lengths, LITERAL_COUNT))
+    out, at = [], 0
+    for n in lengths[:r.count]:
+        out.append(bytes(data[at:at + n]))
+        at += n
+    return Literals(tuple(out), r.rank)
+
+
+def _check(function, words, haystack, start, end):
+    words, n = _words(words)
+    haystack = bytes(haystack)
+    r = _answered(function(words, n, haystack, len(haystack), start, end))
+    return r.offset if r.found else None
+
+
+def forward(words, haystack: bytes, start: int, end: int) -> Optional[int]:
+    """The end of the first choice that fits the window from its start, or None. Refusals 16, 13, 15."""
+    return _check(_lib.tm_forward, words, haystack, start, end)
+
+
+def reverse(words, haystack: bytes, start: int, end: int) -> Optional[int]:
+    """The start of the first choice that fits the window up to its end, or None. Refusals 16, 13, 15."""
+    return _check(_lib.tm_reverse, words, haystack, start, end)
+
+
+def mirror(words) -> Tuple[int, ...]:
+    """The words of the mirror. Refusals 13, 15."""
+    words, n = _words(words)
+    pool = (_u32 * NODE_POOL)()
+    r = _answered(_lib.tm_mirror(words, n, pool, NODE_POOL))
+    return tuple(pool[:r.words])
+
+
+def sound(words) -> bool:
+    """Whether words are a sound program."""
+    words, n = _words(words)
+    return _lib.tm_sound(words, n) == 1

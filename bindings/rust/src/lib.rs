@@ -1,0 +1,45 @@
+//! Byte patterns in YARA's hexadecimal strings, read, compiled and searched by proved code.
+//!
+//! The work is done by libtokenmarsh.a, a library whose every function is proved to meet its contract; this crate is a thin and safe layer over
+//! its C functions. What the types rule out needs no test at run time: a [`Program`] is sound, and a window is a slice.
+//!
+//! ```
+//! use tokenmarsh::Pattern;
+//!
+//! // [4-16] takes sixteen.
+//! let pattern = Pattern::compile(b"{ F4 [4-16] B4 }").unwrap();
+//! let mut bytes = vec![0u8; 18];
+//! bytes[0] = 0xF4;
+//! bytes[17] = 0xB4;
+//! assert_eq!(pattern.forward.end(&bytes), Some(18));
+//! assert_eq!(pattern.reverse.start(&bytes), Some(0));
+//! ```
+
+#![warn(missing_docs, clippy::pedantic)]
+#![allow(clippy::cast_possible_truncation)]
+
+mod literals;
+mod program;
+#[allow(missing_docs)]
+pub mod raw;
+mod refusal;
+mod tokens;
+
+pub use literals::{literals, Literals};
+pub use program::{Pattern, Program};
+pub use refusal::{Refusal, Refused};
+pub use tokens::{read, Mask, Token, Tokens};
+
+/// The longest text that is read.
+pub const TEXT_LIMIT: usize = 4096;
+/// The words of a token pool, and the most nodes of a program.
+const TOKEN_POOL: usize = 4096;
+const NODE_POOL: usize = 512;
+
+/// A refusal's number as a result.
+fn refused(number: u32, place: u64) -> Result<(), Refused> {
+    match Refusal::from_number(number) {
+        None => Ok(()),
+        Some(refusal) => Err(Refused { refusal, place: place as usize }),
+    }
+}

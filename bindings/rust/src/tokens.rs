@@ -1,0 +1,96 @@
+use crate::refusal::Refused;
+use crate::{raw, refused};
+
+/// What a masked byte leaves open.
+#[derive(Clone, Copy, Debug, PartialEq, Eq, Hash)]
+pub enum Mask {
+    /// `?X`
+    Left,
+    /// `X?`
+    Right,
+    /// `??`
+    All,
+}
+
+/// A token of a hexadecimal string.
+#[derive(Clone, Debug, PartialEq, Eq, Hash)]
+pub enum Token {
+    /// `AB`
+    Byte(u8),
+    /// `~AB`
+    NotByte(u8),
+    /// `?X`, `X?`, `??`: the digit as typed, 0 for `??`
+    MaskedByte(u8, Mask),
+    /// `~?X`, `~X?`
+    NotMaskedByte(u8, Mask),
+    /// `[from-to]`, `[from-]`
+    Jump { from: u32, to: Option<u32> },
+    /// `( .. | .. )`
+    Alternatives(Vec<Vec<Token>>),
+}
+
+/// A text as it was read.
+#[derive(Clone, Debug, PartialEq, Eq, Hash)]
+pub struct Tokens {
+    /// The tokens of the outer list.
+    pub tokens: Vec<Token>,
+    /// The offset after the closing brace and its blanks; what follows is ignored.
+    pub reached: usize,
+}
+
+/// Reads a hexadecimal string.
+///
+/// ```
+/// use tokenmarsh::{read, Token};
+///
+/// let read = read(b"{ AB [2-3] CD } rest").unwrap();
+/// assert_eq!(read.reached, 16);
+/// assert_eq!(read.tokens[1], Token::Jump { from: 2, to: Some(3) });
+/// ```
+///
+/// # Errors
+///
+/// Refusals 1 to 11, each with its place.
+pub fn read(text: &[u8]) -> Result<Tokens, Refused> {
+    let mut pool = vec![0u32; crate::TOKEN_POOL];
+    // SAFETY: both slices are good for their lengths, and they do not overlap.
+    let r = unsafe { raw::tm_read(text.as_ptr(), text.len(), pool.as_mut_ptr(), pool.len()) };
+    refused(r.refusal, r.place)?;
+    let entries: Vec<[u32; 4]> = pool[..r.words as usize].chunks_exact(4).map(|e| [e[0], e[1], e[2], e[3]]).collect();
+    Ok(Tokens { tokens: list(&entries), reached: r.reached as usize })
+}
+
+fn mask(number: u32) -> Mask {
+    match number {
+        0 => Mask::Left,
+        1 => Mask::Right,
+        _ => Mask::All,
+    }
+}
+
+/// The tokens of a list's entries.
+fn list(mut entries: &[[u32; 4]]) -> Vec<Token> {
+    let mut tokens = Vec::new();
+    while let Some((&[kind, a, b, c], rest)) = entries.split_first() {
+        entries = rest;
+        tokens.push(match kind {
+            0 => Token::Byte(a as u8),
+            1 => Token::NotByte(a as u8),
+            2 => Token::MaskedByte(a as u8, mask(b)),
+            3 => Token::NotMaskedByte(a as u8, mask(b)),
+            4 => Token::Jump { from: a, to: (c == 1).then_some(b) },
+            _ => {
+                let (mut inside, after) = entries.split_at(b as usize);
+                entries = after;
+                let mut lists = Vec::with_capacity(a as usize);
+                while let Some((mark, rest)) = inside.split_first() {
+                    let (one, more) = rest.split_at(mark[2] as usize);
+                    lists.push(list(one));
+                    inside = more;
+                }
+                Token::Alternatives(lists)
+            }
+        });
+    }
+    tokens
+}

@@ -1,0 +1,129 @@
+//! The doors through the safe types: 01's samples and false friends.
+
+use tokenmarsh::{literals, raw, read, Mask, Pattern, Program, Refusal, Refused, Token};
+
+fn refusal(text: &str) -> (u32, usize) {
+    let Refused { refusal, place } = read(text.as_bytes()).expect_err(text);
+    (refusal.number(), place)
+}
+
+#[test]
+fn refusals_of_texts_have_their_places() {
+    for (text, expected) in [
+        ("{ AB [0] CD }", (4, 5)),
+        ("{ [5] AB }", (6, 2)),
+        ("{ AB (CD [201] EF) }", (8, 9)),
+        ("{ ~?? }", (9, 2)),
+        ("{ ??? }", (2, 4)),
+        ("{ AB [2-3] [x }", (6, 2)),
+        ("{ AB [x }", (2, 5)),
+        ("{ (AB|) }", (2, 5)),
+        ("{ AB [4294967296] CD }", (3, 6)),
+        ("", (2, 0)),
+    ] {
+        assert_eq!(refusal(text), expected, "{text}");
+    }
+    assert_eq!(refusal(&" ".repeat(4097)), (1, 0));
+}
+
+#[test]
+fn tokens_are_nested() {
+    let r = read(b"{ AB ~?c [4-] ( 01 | 2? [1] ) 03 } zz").unwrap();
+    assert_eq!(r.reached, 35);
+    assert_eq!(
+        r.tokens,
+        [
+            Token::Byte(0xAB),
+            Token::NotMaskedByte(0xC, Mask::Left),
+            Token::Jump { from: 4, to: None },
+            Token::Alternatives(vec![
+                vec![Token::Byte(1)],
+                vec![Token::MaskedByte(2, Mask::Right), Token::MaskedByte(0, Mask::All)],
+            ]),
+            Token::Byte(3),
+        ]
+    );
+}
+
+#[test]
+fn programs_are_those_of_the_samples() {
+    let word = |text: &[u8]| Pattern::compile(text).unwrap().forward.words().to_vec();
+    assert_eq!(word(b"{ A? }"), [0x00F0_A001]);
+    let jumps = Pattern::compile(b"{ AB [100] [200] [50] [100] CD }").unwrap();
+    let lengths = |p: &Program| p.words()[1..4].iter().map(|w| w >> 8).collect::<Vec<_>>();
+    assert_eq!(lengths(&jumps.forward), [100, 250, 100]);
+    assert_eq!(lengths(&jumps.reverse), [150, 200, 100]);
+    assert!(Pattern::compile(b"{ AB [255] CD }").is_ok());
+    assert_eq!(Pattern::compile(b"{ AB [256] CD }").unwrap_err().refusal, Refusal::NotSimple);
+    assert_eq!(Pattern::compile(b"{ AB [4294967295] CD }").unwrap_err().refusal, Refusal::NotSimple);
+}
+
+#[test]
+fn the_first_choice_is_found() {
+    let end = |text: &[u8], window: &[u8]| Pattern::compile(text).unwrap().forward.end(window);
+    assert_eq!(end(b"{ (61|61 62) 63 }", b"abc"), Some(3));
+    assert_eq!(end(b"{ (61 62|61) }", b"ab"), Some(2));
+    let friend = Pattern::compile(b"{ (61|62 61) }").unwrap();
+    assert_eq!(friend.reverse.start(b"ba"), Some(1));
+    assert_eq!(friend.forward.mirror().start(b"ba"), Some(1));
+}
+
+#[test]
+fn a_jump_takes_its_top() {
+    let pattern = Pattern::compile(b"{ F4 [4-16] B4 }").unwrap();
+    for gap in 0..20 {
+        let mut bytes = vec![0u8; gap + 2];
+        bytes[0] = 0xF4;
+        bytes[gap + 1] = 0xB4;
+        let expected = (4..=16).contains(&gap);
+        assert_eq!(pattern.forward.end(&bytes).is_some(), expected, "{gap}");
+        assert_eq!(pattern.reverse.start(&bytes).is_some(), expected, "{gap}");
+    }
+}
+
+#[test]
+fn the_tail_is_the_callers_own() {
+    let pattern = Pattern::compile(b"{ 61 [0-2] 63 }").unwrap();
+    let window = b"abcde";
+    let tail = pattern.forward.tail(window);
+    assert_eq!(tail, b"de");
+    assert!(window.as_ptr_range().contains(&tail.as_ptr()));
+    assert_eq!(pattern.forward.tail(b"xyz"), b"");
+}
+
+#[test]
+fn unsound_words_make_no_program() {
+    assert_eq!(Program::new(&[7]), Err(Refusal::Unsound));
+    assert_eq!(Program::new(&[0x0001_0204]), Err(Refusal::Unsound));
+    assert_eq!(Program::new(&[0; 513]), Err(Refusal::TooManyNodes));
+    assert!(Program::new(&[]).is_ok());
+    // An empty branch, and a value with bits outside its mask, are sound.
+    assert!(Program::new(&[0x0106, 0x0007]).is_ok());
+    assert!(Program::new(&[0x0000_FF01]).is_ok());
+}
+
+#[test]
+fn literals_are_those_of_the_samples() {
+    let picked = literals(b"{ 01 02 ?3 04 }").unwrap();
+    assert_eq!((picked.rank, picked.literals.len()), (70, 16));
+    assert_eq!(picked.literals[0], [1, 2, 0x03, 4]);
+    assert_eq!(picked.literals[15], [1, 2, 0xF3, 4]);
+    let picked = literals(b"{ ?1 (AA | BB CC) }").unwrap();
+    assert_eq!((picked.rank, picked.literals.len()), (30, 32));
+    assert!(picked.literals[..16].iter().all(|l| l.len() == 2 && l[1] == 0xAA));
+    assert_eq!(literals(b"{ (AA|BB) }").unwrap().literals, [[0xAA], [0xBB]]);
+}
+
+#[test]
+fn windows_are_tested_where_they_are_numbers() {
+    let check = |start, end| {
+        let bytes = [0u8; 4];
+        // SAFETY: the slice is good for its length; the empty program has no words.
+        unsafe { raw::tm_forward([].as_ptr(), 0, bytes.as_ptr(), bytes.len(), start, end) }.refusal
+    };
+    assert_eq!(check(0, 4), 0);
+    assert_eq!(check(4, 4), 0);
+    for (start, end) in [(1, 0), (0, 5), (usize::MAX, usize::MAX), (usize::MAX, 0)] {
+        assert_eq!(check(start, end), 16, "{start} {end}");
+    }
+}

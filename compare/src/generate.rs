@@ -1,0 +1,442 @@
+//! Inputs: all short ones, and random ones that a seed fixes.
+
+/// A small generator of numbers (splitmix64): the same seed gives the same run everywhere.
+pub struct Rng(u64);
+
+impl Rng {
+    pub fn new(seed: u64) -> Self {
+        Rng(seed)
+    }
+
+    pub fn next(&mut self) -> u64 {
+        self.0 = self.0.wrapping_add(0x9E37_79B9_7F4A_7C15);
+        let mut z = self.0;
+        z = (z ^ (z >> 30)).wrapping_mul(0xBF58_476D_1CE4_E5B9);
+        z = (z ^ (z >> 27)).wrapping_mul(0x94D0_49BB_1331_11EB);
+        z ^ (z >> 31)
+    }
+
+    pub fn below(&mut self, n: usize) -> usize {
+        (self.next() % n as u64) as usize
+    }
+
+    pub fn pick<T: Copy>(&mut self, from: &[T]) -> T {
+        from[self.below(from.len())]
+    }
+
+    pub fn one_in(&mut self, n: usize) -> bool {
+        self.below(n) == 0
+    }
+}
+
+/// Calls `f` with every sequence over the alphabet of at most so many elements.
+pub fn sequences<T: Copy>(alphabet: &[T], most: usize, f: &mut dyn FnMut(&[T])) {
+    fn grow<T: Copy>(alphabet: &[T], most: usize, so_far: &mut Vec<T>, f: &mut dyn FnMut(&[T])) {
+        f(so_far);
+        if so_far.len() == most {
+            return;
+        }
+        for x in alphabet {
+            so_far.push(*x);
+            grow(alphabet, most, so_far, f);
+            so_far.pop();
+        }
+    }
+    grow(alphabet, most, &mut Vec::new(), f);
+}
+
+/// The signs of the grammar, two digits, a letter and a blank.
+pub const SIGNS: &[u8] = b"()[]|~?-01A {}";
+
+/// Whole and broken tokens, for texts that are long in tokens.
+pub const PIECES: &[&str] = &[
+    "41",
+    "~42",
+    "??",
+    "4?",
+    "?4",
+    "~?4",
+    "~??",
+    "~4",
+    "4",
+    "[1]",
+    "[1-1]",
+    "[2]",
+    "[0]",
+    "[3-2]",
+    "[2-3]",
+    "[2-]",
+    "[200]",
+    "[201]",
+    "[4294967296]",
+    "[x",
+    "(",
+    ")",
+    "|",
+    "}",
+];
+
+const NUMBERS: &[u64] = &[
+    0,
+    1,
+    2,
+    3,
+    9,
+    10,
+    15,
+    16,
+    99,
+    100,
+    199,
+    200,
+    201,
+    254,
+    255,
+    256,
+    257,
+    1000,
+    65535,
+    65536,
+    4_294_967_294,
+    4_294_967_295,
+    4_294_967_296,
+    4_294_967_297,
+    18_446_744_073_709_551_615,
+];
+
+fn blanks(rng: &mut Rng, out: &mut Vec<u8>) {
+    for _ in 0..rng.pick(&[0, 0, 0, 1, 1, 1, 1, 2, 3]) {
+        out.push(rng.pick(b"    \t\r\n"));
+    }
+}
+
+/// How a random pattern is drawn.
+#[derive(Clone, Copy)]
+pub struct Taste {
+    /// One in so many tokens is at odds with the rules.
+    pub odd: usize,
+    /// Whether jumps stay small, so that programs can be tried on short haystacks.
+    pub small: bool,
+    pub negations: bool,
+    /// Bytes are drawn from the first so many of a fixed list.
+    pub bytes: usize,
+}
+
+const BYTES: [u8; 16] = [
+    0x41, 0x42, 0x00, 0x0A, 0xFF, 0x61, 0x20, 0x90, 0xCC, 0x43, 0x4F, 0xF4, 0x14, 0x7F, 0x80, 0x01,
+];
+
+fn byte(rng: &mut Rng, taste: Taste) -> String {
+    let b = BYTES[rng.below(taste.bytes.min(BYTES.len()))];
+    if rng.one_in(8) { format!("{b:02x}") } else { format!("{b:02X}") }
+}
+
+fn mask(rng: &mut Rng, taste: Taste) -> String {
+    let text = byte(rng, taste);
+    if rng.one_in(2) { format!("?{}", &text[1..]) } else { format!("{}?", &text[..1]) }
+}
+
+fn number(rng: &mut Rng, taste: Taste) -> u64 {
+    if taste.small { rng.pick(&[0, 1, 1, 2, 2, 3]) } else { rng.pick(NUMBERS) }
+}
+
+fn jump(rng: &mut Rng, taste: Taste, out: &mut Vec<u8>) {
+    let (a, b) = (number(rng, taste), number(rng, taste));
+    let (a, b) = if rng.one_in(taste.odd) { (a, b) } else { (a.min(b), a.max(b).max(1)) };
+    out.push(b'[');
+    blanks(rng, out);
+    let shape = rng.below(10);
+    if shape < 8 || shape == 9 {
+        out.extend(if rng.one_in(9) { format!("00{a}") } else { a.to_string() }.bytes());
+        blanks(rng, out);
+    }
+    if shape > 3 {
+        out.push(b'-');
+        blanks(rng, out);
+        if shape < 9 {
+            out.extend(b.to_string().bytes());
+            blanks(rng, out);
+        }
+    }
+    out.push(b']');
+}
+
+/// One token; `levels` more lists may stand one in another.
+fn token(rng: &mut Rng, taste: Taste, levels: usize, inner: bool, out: &mut Vec<u8>) {
+    let kind = rng.below(20);
+    match kind {
+        0..=8 => out.extend(byte(rng, taste).bytes()),
+        9 if taste.negations => out.extend(format!("~{}", byte(rng, taste)).bytes()),
+        10 | 11 => out.extend(mask(rng, taste).bytes()),
+        12 if taste.negations => out.extend(format!("~{}", mask(rng, taste)).bytes()),
+        13 | 14 if inner => jump(rng, taste, out),
+        15 | 16 if levels > 0 => {
+            out.push(b'(');
+            blanks(rng, out);
+            for at in 0..rng.pick(&[1, 2, 2, 2, 3, 4]) {
+                if at > 0 {
+                    out.push(b'|');
+                    blanks(rng, out);
+                }
+                tokens(rng, taste, levels - 1, rng_length(at), out);
+            }
+            out.push(b')');
+        }
+        _ => out.extend(b"??"),
+    }
+    blanks(rng, out);
+}
+
+fn rng_length(at: usize) -> usize {
+    1 + at % 3
+}
+
+fn tokens(rng: &mut Rng, taste: Taste, levels: usize, most: usize, out: &mut Vec<u8>) {
+    let n = 1 + rng.below(most);
+    for at in 0..n {
+        let inner = (at > 0 && at + 1 < n) || rng.one_in(taste.odd);
+        token(rng, taste, levels, inner, out);
+    }
+}
+
+/// A pattern that mostly keeps to the grammar.
+pub fn pattern(rng: &mut Rng, taste: Taste, levels: usize, most: usize) -> Vec<u8> {
+    let mut out = vec![b'{'];
+    blanks(rng, &mut out);
+    tokens(rng, taste, levels, most, &mut out);
+    out.push(b'}');
+    if rng.one_in(5) {
+        out.extend(rng.pick(&[" ", " zz", "}", "\n\t{", "é"]).bytes());
+    }
+    out
+}
+
+/// Bytes and classes, as branches of plain alternatives have them.
+fn plain(rng: &mut Rng, taste: Taste, most: usize, out: &mut Vec<u8>) {
+    for _ in 0..1 + rng.below(most) {
+        let token = match rng.below(16) {
+            0 => mask(rng, taste),
+            1 if taste.negations => format!("~{}", byte(rng, taste)),
+            2 if taste.negations => format!("~{}", mask(rng, taste)),
+            _ => byte(rng, taste),
+        };
+        out.extend(token.bytes());
+    }
+}
+
+/// A pattern that has literals to choose from: runs of bytes, classes and plain alternatives,
+/// some of them with about as many branches as there may be literals.
+pub fn for_literals(rng: &mut Rng) -> Vec<u8> {
+    let bytes = rng.pick(&[2, 8, 9, 16]);
+    let taste = Taste { odd: 1000, small: true, negations: rng.one_in(2), bytes };
+    let mut out = b"{41".to_vec();
+    if rng.one_in(2) {
+        out.truncate(1);
+    }
+    for _ in 0..1 + rng.below(7) {
+        match rng.below(8) {
+            0 if out.len() > 1 => {
+                out.extend(rng.pick(&["??", "[2-3]41", "[4]42", "[2-]00"]).bytes())
+            }
+            1 | 2 => {
+                let many = rng.pick(&[15, 16, 17, 99, 100, 127, 128, 255, 256, 257]);
+                let branches = if rng.one_in(12) { many } else { 1 + rng.below(4) };
+                let most = if branches > 4 { 1 } else { 3 };
+                for at in 0..branches {
+                    out.push(if at == 0 { b'(' } else { b'|' });
+                    plain(rng, taste, most, &mut out);
+                }
+                out.push(b')');
+            }
+            3 => out.extend(mask(rng, taste).bytes()),
+            _ => plain(rng, taste, 4, &mut out),
+        }
+    }
+    out.extend(rng.pick(&["}", "??}", "4?}", "FF}"]).bytes());
+    out
+}
+
+/// A pattern near one of the limits: levels, tokens, length of text or of a number.
+pub fn at_limits(rng: &mut Rng) -> Vec<u8> {
+    let mut out = b"{".to_vec();
+    match rng.below(5) {
+        0 => {
+            let levels = 6 + rng.below(4);
+            out.extend(b"41".repeat(rng.below(2)));
+            out.extend(rng.pick(&["(", "( ", "(41|"]).repeat(levels).bytes());
+            out.extend(rng.pick(&["41", "[2]", "", "~??", "4", "[5-]"]).bytes());
+            out.extend(b")".repeat(levels + rng.below(3) - 1));
+        }
+        1 => {
+            let n = 509 + rng.below(6);
+            out.extend(
+                rng.pick(&["41", "??", "(41)", "41[2]41"])
+                    .repeat(n.div_ceil(1 + rng.below(3)))
+                    .bytes(),
+            );
+            out.extend(
+                rng.pick(&["41", "[0]", "[2-1]", "~??", "(", "(41", "[3]", "~4", "4", ""]).bytes(),
+            );
+        }
+        2 => {
+            let n = 4086 + rng.below(14);
+            out.extend(b"41");
+            out.extend(rng.pick(&[" ", "\n"]).repeat(n).bytes());
+        }
+        3 => {
+            let digits = 1 + rng.below(40);
+            let lead = rng.pick(&["0", "4", "9", "1"]);
+            out.extend(format!("41[{}4294967296]41", lead.repeat(digits)).bytes());
+        }
+        _ => {
+            let bytes = rng.pick(&["41", "?1", "~?1", "(41|42)", "[3]41", "??"]);
+            let n = rng.pick(&[100, 170, 171, 250, 254, 255, 256, 257, 400, 511, 512]);
+            out.extend(format!("(41|41{})41", bytes.repeat(n)).bytes());
+        }
+    }
+    out.extend(b"}");
+    out
+}
+
+/// A copy with a few signs changed, lost, doubled or moved.
+pub fn damaged(rng: &mut Rng, text: &[u8]) -> Vec<u8> {
+    let mut out = text.to_vec();
+    for _ in 0..1 + rng.below(3) {
+        let at = rng.below(out.len());
+        match rng.below(4) {
+            0 => out[at] = rng.pick(SIGNS),
+            1 if out.len() > 1 => {
+                out.remove(at);
+            }
+            2 => out.insert(at, rng.pick(b"()[]|~?-0149Ff {}x,;\n\x00")),
+            _ => {
+                let other = rng.below(out.len());
+                out.swap(at, other);
+            }
+        }
+    }
+    out
+}
+
+pub fn bytes(rng: &mut Rng, alphabet: &[u8], most: usize) -> Vec<u8> {
+    (0..rng.below(most + 1)).map(|_| rng.pick(alphabet)).collect()
+}
+
+/// The two ends of a window; some lie the wrong way round or beyond the haystack.
+pub fn window(rng: &mut Rng, length: usize) -> (usize, usize) {
+    let (a, b) = (rng.below(length + 1), rng.below(length + 1));
+    match rng.below(20) {
+        0 => (a, b + rng.below(3)),
+        1 => (a.max(b), a.min(b)),
+        2..=9 => (0, length),
+        _ => (a.min(b), a.max(b)),
+    }
+}
+
+fn plain_word(rng: &mut Rng, alphabet: &[u8]) -> u32 {
+    let b = u32::from(rng.pick(alphabet));
+    let mask = rng.pick(&[0x00, 0x01, 0x0F, 0xF0, 0xFF, 0x03]);
+    match rng.below(9) {
+        0..=3 => 256 * b,
+        4 => 1 + 256 * (b & mask) + 65536 * mask,
+        5 => 2 + 256 * (b & mask) + 65536 * mask,
+        6 => 1 + rng.below(2) as u32 + 256 * b + 65536 * mask,
+        7 => 3 + 256 * rng.below(4) as u32,
+        _ => 5,
+    }
+}
+
+/// A sound program of about so many items.
+pub fn program(rng: &mut Rng, alphabet: &[u8], most: usize) -> Vec<u32> {
+    let mut words = Vec::new();
+    for _ in 0..rng.below(most + 1) {
+        match rng.below(8) {
+            0 => {
+                let min = rng.below(3) as u32;
+                let max = min + rng.below(4) as u32;
+                words.push(4 + 256 * min + 65536 * max);
+            }
+            1 => {
+                let mut inner = Vec::new();
+                for _ in 0..1 + rng.below(3) {
+                    let n = rng.below(4);
+                    inner.push(7 + 256 * n as u32);
+                    inner.extend((0..n).map(|_| plain_word(rng, alphabet)));
+                }
+                words.push(6 + 256 * inner.len() as u32);
+                words.extend(inner);
+            }
+            _ => words.push(plain_word(rng, alphabet)),
+        }
+    }
+    words
+}
+
+/// A sound program with long jumps, or an alternation whose count needs both fields, and a
+/// haystack of about its length.
+pub fn wide(rng: &mut Rng) -> (Vec<u32>, Vec<u8>) {
+    let most = 200 + rng.below(500);
+    let mut hay = vec![0x41; most];
+    for _ in 0..rng.below(4) {
+        hay[rng.below(most)] = 0x42;
+    }
+    let mut words = Vec::new();
+    if rng.one_in(2) {
+        for _ in 0..1 + rng.below(3) {
+            let n = rng.pick(&[100, 200, 254, 255]);
+            words.push(7 + 256 * n);
+            words.extend((0..n).map(|_| if rng.one_in(60) { 0x4200 } else { 0x4100 }));
+        }
+        words.truncate(500);
+        let last = words.iter().rposition(|w| w % 256 == 7).unwrap_or(0);
+        words[last] = 7 + 256 * (words.len() - last - 1) as u32;
+        words.insert(0, 6 + 256 * words.len() as u32);
+    } else {
+        let (a, b) = (rng.below(256) as u32, rng.below(256) as u32);
+        words.push(4 + 256 * a.min(b) + 65536 * a.max(b));
+        words.push(0x4200);
+        words.push(3 + 256 * rng.below(256) as u32);
+        words.push(4 + 256 * rng.below(3) as u32 + 65536 * (3 + rng.below(20) as u32));
+    }
+    words.push(rng.pick(&[0x4200, 0x4100, 5]));
+    (words, hay)
+}
+
+/// A program with a few words spoilt, mostly unsound.
+pub fn spoilt(rng: &mut Rng, words: &[u32]) -> Vec<u32> {
+    let mut out = words.to_vec();
+    out.push(256 * 0x41);
+    for _ in 0..1 + rng.below(2) {
+        let at = rng.below(out.len());
+        out[at] = match rng.below(6) {
+            0 => out[at] ^ (1 << rng.below(32)),
+            1 => 7 + 256 * rng.below(3) as u32,
+            2 => 6 + 256 * rng.below(4) as u32,
+            3 => rng.below(12) as u32,
+            4 => 4 + 256 * rng.below(4) as u32 + 65536 * rng.below(4) as u32,
+            _ => rng.next() as u32,
+        };
+    }
+    out
+}
+
+/// The words from which all short programs are made.
+pub const WORDS: &[u32] = &[
+    0x0000_4100,
+    0x0000_4200,
+    0x0001_0101,
+    0x0001_0102,
+    0x0000_0103,
+    0x0000_0203,
+    0x0001_0004,
+    0x0002_0004,
+    0x0002_0104,
+    0x0001_0104,
+    0x0000_0005,
+    0x0000_0206,
+    0x0000_0306,
+    0x0000_0406,
+    0x0000_0007,
+    0x0000_0107,
+    0x0000_0207,
+];

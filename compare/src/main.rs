@@ -1,0 +1,127 @@
+//! Compares the library with the original by running both, and both with document 01.
+
+#[cfg(original)]
+mod generate;
+#[cfg(original)]
+mod listing;
+#[cfg(original)]
+mod model;
+#[cfg(original)]
+mod original;
+#[cfg(original)]
+mod ours;
+/// The C functions of the library, as its Rust binding declares them.
+#[allow(dead_code)]
+#[path = "../../bindings/rust/src/raw.rs"]
+mod raw;
+#[cfg(original)]
+mod runs;
+#[cfg(original)]
+mod samples;
+#[cfg(original)]
+mod sides;
+#[cfg(original)]
+mod tally;
+
+#[cfg(not(original))]
+fn main() {
+    println!("comparison: not run");
+    println!("Set BOREAL_SRC to a checkout of boreal at 7010b5e967, or to a folder with its files");
+    println!("under flat names (src--boreal--src--bitmaps.rs.txt), then run compare/run.");
+}
+
+#[cfg(original)]
+fn main() -> std::process::ExitCode {
+    std::panic::set_hook(Box::new(|info| eprintln!("panicked: {info}")));
+    let args: Vec<String> = std::env::args().skip(1).collect();
+    let judge = runs::Judge::new();
+    let good = compared(&judge, &args).or_else(|| shown(&judge, &args)).unwrap_or_else(|| {
+        eprintln!("no such comparison; compare/run names them");
+        false
+    });
+    if good { std::process::ExitCode::SUCCESS } else { std::process::ExitCode::FAILURE }
+}
+
+#[cfg(original)]
+fn number(args: &[String], at: usize, usual: u64) -> u64 {
+    args.get(at).map_or(usual, |a| a.parse().expect("a number"))
+}
+
+/// Runs a comparison and answers whether it was good; None for another name.
+#[cfg(original)]
+fn compared(judge: &runs::Judge, args: &[String]) -> Option<bool> {
+    let seed = || number(args, 1, 1);
+    let length = |usual: u64| number(args, 1, usual) as usize;
+    let count = |usual: u64| number(args, 2, usual) as usize;
+    Some(match args.first().map_or("all", String::as_str) {
+        "samples" => samples::samples(),
+        "rooms" => ours::rooms(),
+        "texts" => judge.texts(length(5)),
+        "pieces" => judge.pieces(length(4)),
+        "random" => judge.random(seed(), count(300_000)),
+        "literals" => judge.random_literals(seed(), count(100_000)),
+        "spans" => judge.spans(seed(), count(100_000)),
+        "programs" => judge.programs(length(4)),
+        "checks" => judge.random_checks(seed(), count(300_000)),
+        "listings" => listing::listings(&args[1], number(args, 2, 1), number(args, 3, 2000)),
+        "all" => [
+            samples::samples(),
+            ours::rooms(),
+            judge.texts(5),
+            judge.pieces(3),
+            judge.random(1, 300_000),
+            judge.random_literals(1, 100_000),
+            judge.spans(1, 100_000),
+            judge.programs(4),
+            judge.random_checks(1, 300_000),
+        ]
+        .iter()
+        .all(|good| *good),
+        _ => return None,
+    })
+}
+
+/// Prints what was asked for; None for another name.
+#[cfg(original)]
+fn shown(judge: &runs::Judge, args: &[String]) -> Option<bool> {
+    let size = |at: usize, usual: u64| number(args, at, usual) as usize;
+    match args[0].as_str() {
+        "show" => args[1..].iter().for_each(|text| judge.show(text.as_bytes())),
+        "nodes" => {
+            let word = |w: &String| u32::from_str_radix(w, 16).expect("hex");
+            let words: Vec<u32> = args[4..].iter().map(word).collect();
+            let (hay, start, end) = (hex(&args[1]), size(2, 0), size(3, 0));
+            judge.show_checks(&words, sides::Window { hay: &hay, start, end });
+        }
+        "listing" => {
+            let mut text = Vec::new();
+            std::io::Read::read_to_end(&mut std::io::stdin(), &mut text).expect("input");
+            print!("{}", listing::listing(&text));
+        }
+        "patterns" => runs::Judge::patterns(number(args, 1, 1), size(2, 50), size(3, 50)),
+        "starts" => starts(judge),
+        _ => return None,
+    }
+    Some(true)
+}
+
+#[cfg(original)]
+fn hex(text: &str) -> Vec<u8> {
+    let byte = |at: usize| u8::from_str_radix(&text[2 * at..2 * at + 2], 16).expect("hex");
+    (0..text.len() / 2).map(byte).collect()
+}
+
+/// Lines of a haystack in hex, a blank and a pattern; answers a line of starts, or `refused N`.
+#[cfg(original)]
+fn starts(judge: &runs::Judge) {
+    for line in std::io::stdin().lines() {
+        let line = line.expect("lines of text");
+        let (hay, pattern) = line.split_once(' ').expect("a haystack and a pattern");
+        match judge.starts(pattern.as_bytes(), &hex(hay)) {
+            Ok(all) => {
+                println!("{}", all.iter().map(usize::to_string).collect::<Vec<_>>().join(" "))
+            }
+            Err(number) => println!("refused {number}"),
+        }
+    }
+}

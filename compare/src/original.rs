@@ -1,0 +1,145 @@
+//! The original as a side.
+
+use boreal::hex::{NotByte, tree};
+use boreal::matcher::literals::seam::pick;
+use boreal::matcher::validator::simple::seam::Program;
+use boreal_parser::hex_string::{Mask, Token};
+
+use crate::model;
+use crate::sides::{Answer, Compiled, Found, Picked, Read, Refusal, Side, Tok, Window, entries};
+
+pub const SIDE: Side = Side {
+    name: "original",
+    read: Some(read),
+    compile: Some(compile),
+    literals: Some(literals),
+    mirror: None,
+    forward: Some(forward),
+    reverse: Some(reverse),
+};
+
+/// The original allows 30 list levels unless told otherwise; with eight its refusal of a ninth
+/// can be compared too.
+const LEVELS: u8 = 8;
+
+fn token(token: &Token) -> Tok {
+    let side = |mask: &Mask| match mask {
+        Mask::Left => 0,
+        Mask::Right => 1,
+        Mask::All => 2,
+    };
+    match token {
+        Token::Byte(b) => Tok::Byte(*b),
+        Token::NotByte(b) => Tok::NotByte(*b),
+        Token::MaskedByte(d, mask) => Tok::Masked(*d, side(mask)),
+        Token::NotMaskedByte(d, mask) => Tok::NotMasked(*d, side(mask)),
+        Token::Jump(jump) => Tok::Jump(jump.from, jump.to),
+        Token::Alternatives(lists) => Tok::Alts(lists.iter().map(|l| list(l)).collect()),
+    }
+}
+
+fn list(tokens: &[Token]) -> Vec<Tok> {
+    tokens.iter().map(token).collect()
+}
+
+/// The original by itself: its own limit of levels, no domain, no refusal 17 or 19.
+pub fn alone(text: &[u8]) {
+    let Ok(text) = std::str::from_utf8(text) else {
+        println!("    not text in UTF-8");
+        return;
+    };
+    match boreal_parser::read(text, 30) {
+        Err(r) => println!("    refused {} at {}", r.number, r.place),
+        Ok((tokens, reached)) => {
+            println!("    read     {:?}", Read { words: entries(&list(&tokens)), reached });
+            for reverse in [false, true] {
+                let built = Program::build(&tree(&tokens, NotByte::Mask), reverse);
+                println!("    built    {:x?}", built.map(|p| p.words()));
+            }
+            for (not_byte, how) in [(NotByte::Class, "class"), (NotByte::Mask, "mask FF")] {
+                let (rank, literals) = pick(&tree(&tokens, not_byte));
+                println!("    literals {:?} (~XX as a {how})", Picked { rank, literals });
+            }
+        }
+    }
+}
+
+/// Both checks, also of unsound programs and on wrong windows: the answers in words.
+pub fn raw(words: &[u32], w: Window) -> (String, String) {
+    let Some(program) = Program::new(words) else {
+        return ("no such node".into(), "no such node".into());
+    };
+    let told = |f: &dyn Fn() -> Option<usize>| match std::panic::catch_unwind(
+        std::panic::AssertUnwindSafe(f),
+    ) {
+        Ok(answer) => format!("{:?}", found(answer)),
+        Err(_) => "panic".into(),
+    };
+    let forward = told(&|| program.forward(w.hay, w.start, w.end));
+    (forward, told(&|| program.reverse(w.hay, w.start, w.end)))
+}
+
+/// None outside the domain of comparison.
+fn parsed(text: &[u8]) -> Option<Answer<(Vec<Token>, usize)>> {
+    let text = std::str::from_utf8(text).ok()?;
+    if text.len() > 4096 || text.contains('/') {
+        return None;
+    }
+    // A 513th token is refused by the document alone.
+    if matches!(model::tokens(text.as_bytes()), Err(Refusal { number: 11, .. })) {
+        return None;
+    }
+    Some(
+        boreal_parser::read(text, LEVELS).map_err(|r| Refusal { number: r.number, place: r.place }),
+    )
+}
+
+fn read(text: &[u8]) -> Option<Answer<Read>> {
+    let answer = parsed(text)?;
+    Some(answer.map(|(tokens, reached)| Read { words: entries(&list(&tokens)), reached }))
+}
+
+/// None also where the original's builder declines: it caps combinations at 64.
+fn compile(text: &[u8]) -> Option<Answer<Compiled>> {
+    match parsed(text)? {
+        Err(refusal) => Some(Err(refusal)),
+        Ok((tokens, _)) => {
+            let hir = tree(&tokens, NotByte::Mask);
+            let forward = Program::build(&hir, false)?.words();
+            let reverse = Program::build(&hir, true)?.words();
+            Some(Ok(Compiled { forward, reverse }))
+        }
+    }
+}
+
+/// None where the document refuses by 17 or 19.
+fn literals(text: &[u8]) -> Option<Answer<Picked>> {
+    match parsed(text)? {
+        Err(refusal) => Some(Err(refusal)),
+        Ok((tokens, _)) => {
+            model::pick(&list(&tokens)).ok()?;
+            let (rank, literals) = pick(&tree(&tokens, NotByte::Class));
+            Some(Ok(Picked { rank, literals }))
+        }
+    }
+}
+
+fn found(at: Option<usize>) -> Found {
+    at.map_or(Found::Nothing, Found::At)
+}
+
+/// None for unsound programs and bad windows: there the original panics or means nothing.
+fn program(words: &[u32], w: Window) -> Option<Program> {
+    if !model::sound(words) || w.start > w.end || w.end > w.hay.len() {
+        return None;
+    }
+    Program::new(words)
+}
+
+fn forward(words: &[u32], w: Window) -> Option<Answer<Found>> {
+    Some(Ok(found(program(words, w)?.forward(w.hay, w.start, w.end))))
+}
+
+fn reverse(words: &[u32], w: Window) -> Option<Answer<Found>> {
+    Some(Ok(found(program(words, w)?.reverse(w.hay, w.start, w.end))))
+}

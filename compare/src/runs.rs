@@ -1,0 +1,380 @@
+//! The comparisons: which inputs, which functions.
+
+use crate::generate::{self, PIECES, Rng, SIGNS, Taste, WORDS};
+use crate::sides::{Answer, Compiled, Found, Picked, Read, Side, Tok, Window};
+use crate::tally::{Answers, Tally};
+use crate::{model, original, ours};
+
+pub struct Judge {
+    original: Side,
+    document: Side,
+    ours: Side,
+}
+
+/// One side's answer; a panic is an answer that equals no other.
+fn ask<T>(f: impl FnOnce() -> Option<Answer<T>>) -> Option<Answer<T>> {
+    std::panic::catch_unwind(std::panic::AssertUnwindSafe(f))
+        .unwrap_or(Some(Err(crate::sides::Refusal { number: 99, place: 0 })))
+}
+
+macro_rules! answers {
+    ($judge:expr, $door:ident, $($arg:expr),*) => {{
+        let one = |side: &Side| ask(|| side.$door.and_then(|f| f($($arg),*)));
+        Answers {
+            original: one(&$judge.original),
+            document: one(&$judge.document),
+            ours: one(&$judge.ours),
+        }
+    }};
+}
+
+/// An answer in words: places in decimal, words and bytes in hex.
+fn told<T: std::fmt::Debug>(answer: Option<Answer<T>>) -> String {
+    match answer {
+        None => "no answer".into(),
+        Some(Ok(value)) => format!("{value:x?}"),
+        Some(Err(refusal)) => format!("refused {} at {}", refusal.number, refusal.place),
+    }
+}
+
+pub fn shown(text: &[u8]) -> String {
+    format!("\"{}\"", text.escape_ascii())
+}
+
+/// After `~` and one digit the original's place is behind the digit, the document's before it.
+fn half_after_not<T>(text: &[u8], a: &Answer<T>, b: &Answer<T>) -> Option<&'static str> {
+    let (Err(a), Err(b)) = (a, b) else {
+        return None;
+    };
+    let half = a.number == 2 && b.number == 2 && a.place == b.place + 1;
+    let digit = text.get(b.place).is_some_and(u8::is_ascii_hexdigit);
+    let not = b.place > 0 && text[b.place - 1] == b'~';
+    (half && digit && not).then_some("half byte after ~")
+}
+
+/// A jump after alternatives whose last branch ends with one: the original lets that one grow.
+fn grown(words: &[u32]) -> bool {
+    let mut at = 0;
+    while at < words.len() {
+        let alternation = words[at] % 256 == 6;
+        at += 1;
+        if alternation {
+            at += (words[at - 1] / 256) as usize;
+            let (Some(last), Some(next)) = (words.get(at - 1), words.get(at)) else {
+                return false;
+            };
+            if last % 256 == 3 && next % 256 == 3 && last / 256 < 255 {
+                return true;
+            }
+        }
+    }
+    false
+}
+
+fn known_compile(text: &[u8], a: &Answer<Compiled>, b: &Answer<Compiled>) -> Option<&'static str> {
+    match (a, b) {
+        (Ok(_), Ok(right)) => {
+            let any = grown(&right.forward) || grown(&right.reverse);
+            any.then_some("jump after alternatives grows the last branch's")
+        }
+        (Ok(left), Err(refusal)) => {
+            let many = left.forward.len() > 512 || left.reverse.len() > 512;
+            (many && refusal.number == 13).then_some("more than 512 nodes built")
+        }
+        _ => half_after_not(text, a, b),
+    }
+}
+
+impl Judge {
+    pub fn new() -> Self {
+        Judge { original: original::SIDE, document: model::SIDE, ours: ours::side() }
+    }
+
+    fn read(&self, tally: &mut Tally, text: &[u8]) {
+        let answers: Answers<Read> = answers!(self, read, text);
+        let known = |a: &Answer<Read>, b: &Answer<Read>| half_after_not(text, a, b);
+        tally.count(&answers, |_| "read".into(), || shown(text), known);
+    }
+
+    fn compile(&self, tally: &mut Tally, text: &[u8]) {
+        let answers: Answers<Compiled> = answers!(self, compile, text);
+        let known = |a: &Answer<Compiled>, b: &Answer<Compiled>| known_compile(text, a, b);
+        let label = |_: &Compiled| match answers.original {
+            None => "compiled, declined by the original".into(),
+            Some(_) => "compiled".into(),
+        };
+        tally.count(&answers, label, || shown(text), known);
+    }
+
+    fn literals(&self, tally: &mut Tally, text: &[u8]) {
+        let answers: Answers<Picked> = answers!(self, literals, text);
+        let known = |a: &Answer<Picked>, b: &Answer<Picked>| half_after_not(text, a, b);
+        let label = |p: &Picked| match p.literals.len() {
+            0 => "none picked".into(),
+            1 => "one picked".into(),
+            _ => "several picked".into(),
+        };
+        tally.count(&answers, label, || shown(text), known);
+    }
+
+    fn checks(&self, tally: &mut [Tally; 2], words: &[u32], w: Window) {
+        let show = || format!("{words:x?} on {:x?}[{}..{}]", w.hay, w.start, w.end);
+        let label = |f: &Found| match f {
+            Found::At(_) => "found".into(),
+            Found::Nothing => "nothing".into(),
+        };
+        let forward: Answers<Found> = answers!(self, forward, words, w);
+        tally[0].count(&forward, label, show, |_, _| None);
+        let reverse: Answers<Found> = answers!(self, reverse, words, w);
+        tally[1].count(&reverse, label, show, |_, _| None);
+    }
+
+    fn mirror(&self, tally: &mut Tally, words: &[u32]) {
+        let answers: Answers<Vec<u32>> = answers!(self, mirror, words);
+        tally.count(&answers, |_| "mirrored".into(), || format!("{words:x?}"), |_, _| None);
+    }
+
+    /// All texts of at most so many signs, as they are and between braces.
+    pub fn texts(&self, most: usize) -> bool {
+        let mut tally = Tally::default();
+        generate::sequences(SIGNS, most, &mut |inner| {
+            if inner.len() < most {
+                self.read(&mut tally, inner);
+            }
+            self.read(&mut tally, &[b"{", inner, b"}"].concat());
+        });
+        tally.report(&format!("reading all texts of up to {most} signs"))
+    }
+
+    /// All texts of at most so many tokens and broken tokens.
+    pub fn pieces(&self, most: usize) -> bool {
+        let (mut read, mut compile, mut literals) = <(Tally, Tally, Tally)>::default();
+        generate::sequences(PIECES, most, &mut |inner| {
+            let text = format!("{{ {} }}", inner.join(" "));
+            self.read(&mut read, text.as_bytes());
+            self.compile(&mut compile, text.as_bytes());
+            self.literals(&mut literals, text.as_bytes());
+        });
+        let title = |what: &str| format!("{what} all texts of up to {most} pieces");
+        [
+            read.report(&title("reading")),
+            compile.report(&title("compiling")),
+            literals.report(&title("picking from")),
+        ]
+        .iter()
+        .all(|good| *good)
+    }
+
+    /// Random patterns, patterns at the limits, and damaged copies of both.
+    pub fn random(&self, seed: u64, count: usize) -> bool {
+        let mut rng = Rng::new(seed);
+        let (mut read, mut compile, mut literals) = <(Tally, Tally, Tally)>::default();
+        for _ in 0..count {
+            let taste = Taste {
+                odd: rng.pick(&[4, 50, 1000]),
+                small: rng.one_in(2),
+                negations: !rng.one_in(3),
+                bytes: rng.pick(&[2, 5, 16]),
+            };
+            let levels = rng.pick(&[0, 1, 1, 2, 7, 8, 9]);
+            let most = rng.pick(&[2, 4, 8, 8, 30]);
+            let mut text = match rng.below(20) {
+                0 => generate::at_limits(&mut rng),
+                _ => generate::pattern(&mut rng, taste, levels, most),
+            };
+            if rng.one_in(3) {
+                text = generate::damaged(&mut rng, &text);
+            }
+            self.read(&mut read, &text);
+            self.compile(&mut compile, &text);
+            self.literals(&mut literals, &text);
+        }
+        let title = |what: &str| format!("{what} random texts, seed {seed}");
+        [
+            read.report(&title("reading")),
+            compile.report(&title("compiling")),
+            literals.report(&title("picking from")),
+        ]
+        .iter()
+        .all(|good| *good)
+    }
+
+    /// Random patterns that have literals to choose from.
+    pub fn random_literals(&self, seed: u64, count: usize) -> bool {
+        let mut rng = Rng::new(seed);
+        let mut literals = Tally::default();
+        for _ in 0..count {
+            self.literals(&mut literals, &generate::for_literals(&mut rng));
+        }
+        literals.report(&format!("picking from runs, seed {seed}"))
+    }
+
+    /// Random patterns on short haystacks: an end is found from a start exactly if the tokens
+    /// match there, and it is one of theirs; the same backwards.
+    pub fn spans(&self, seed: u64, count: usize) -> bool {
+        let mut rng = Rng::new(seed);
+        let taste = Taste { odd: 1000, small: true, negations: true, bytes: 4 };
+        let (mut patterns, mut windows, mut found, mut wrong) = (0, 0, 0, 0);
+        for _ in 0..count {
+            let most = rng.pick(&[2, 4, 6]);
+            let text = generate::pattern(&mut rng, taste, 1, most);
+            let Ok((list, _)) = model::tokens(&text) else {
+                continue;
+            };
+            let compile = self.ours.compile.or(self.document.compile).expect("there is one");
+            let Some(Ok(programs)) = compile(&text) else {
+                continue;
+            };
+            patterns += 1;
+            let hay = generate::bytes(&mut rng, &[0x41, 0x42, 0x41, 0x00, 0x0A, 0x14], 12);
+            for at in 0..=hay.len() {
+                let (good, hits) = self.span(&list, &programs, &hay, at);
+                windows += 2;
+                found += hits;
+                if !good {
+                    wrong += 1;
+                    println!("    DIFFERS {} on {hay:x?} at {at}", shown(&text));
+                }
+            }
+        }
+        println!(
+            "spans of random texts, seed {seed}: {patterns} patterns, {windows} windows, {found} found, {wrong} differ"
+        );
+        wrong == 0
+    }
+
+    fn span(&self, list: &[Tok], programs: &Compiled, hay: &[u8], at: usize) -> (bool, usize) {
+        let forward = self.ours.forward.or(self.original.forward).expect("there is one");
+        let reverse = self.ours.reverse.or(self.original.reverse).expect("there is one");
+        let ends = model::ends(list, hay, at);
+        let after = forward(&programs.forward, Window { hay, start: at, end: hay.len() });
+        let before = reverse(&programs.reverse, Window { hay, start: 0, end: at });
+        let starts: Vec<_> =
+            (0..=at).filter(|s| model::ends(list, &hay[..at], *s).contains(&at)).collect();
+        let agree = |answer: &Option<Answer<Found>>, all: &[usize]| match answer {
+            Some(Ok(Found::At(place))) => all.contains(place),
+            Some(Ok(Found::Nothing)) => all.is_empty(),
+            _ => false,
+        };
+        let hits = usize::from(!ends.is_empty()) + usize::from(!starts.is_empty());
+        (agree(&after, &ends) && agree(&before, &starts), hits)
+    }
+
+    /// All programs of at most so many words, sound or not, on all short haystacks.
+    pub fn programs(&self, most: usize) -> bool {
+        let mut hays: Vec<Vec<u8>> = Vec::new();
+        generate::sequences(&[0x41, 0x42], 4, &mut |hay| hays.push(hay.to_vec()));
+        hays.extend([vec![0x0A], vec![0x0A, 0x41], vec![0x41, 0x0A]]);
+        let (mut checks, mut mirror) = <([Tally; 2], Tally)>::default();
+        generate::sequences(WORDS, most, &mut |words| {
+            self.mirror(&mut mirror, words);
+            let sound = model::sound(words);
+            for hay in if sound { &hays[..] } else { &hays[..1] } {
+                self.checks(&mut checks, words, Window { hay, start: 0, end: hay.len() });
+            }
+        });
+        let title = |what: &str| format!("{what} all programs of up to {most} words");
+        [
+            checks[0].report(&title("forward checks of")),
+            checks[1].report(&title("reverse checks of")),
+            mirror.report(&title("mirrors of")),
+        ]
+        .iter()
+        .all(|good| *good)
+    }
+
+    /// Random programs and windows; some programs spoilt, some windows wrong.
+    pub fn random_checks(&self, seed: u64, count: usize) -> bool {
+        let mut rng = Rng::new(seed);
+        let (mut checks, mut mirror) = <([Tally; 2], Tally)>::default();
+        for _ in 0..count {
+            let alphabet: &[u8] =
+                rng.pick(&[&b"AB"[..], &b"A"[..], &b"AB\n"[..], &b"\x00\x01\x10\xff"[..]]);
+            let most = rng.pick(&[3, 6, 10]);
+            let mut words = generate::program(&mut rng, alphabet, most);
+            if rng.one_in(8) {
+                words = generate::spoilt(&mut rng, &words);
+            }
+            if rng.one_in(200) {
+                words.resize(rng.pick(&[511, 512, 513]), 256 * 0x41);
+            }
+            if rng.one_in(500) {
+                let (words, hay) = generate::wide(&mut rng);
+                self.mirror(&mut mirror, &words);
+                self.checks(&mut checks, &words, Window { hay: &hay, start: 0, end: hay.len() });
+            }
+            self.mirror(&mut mirror, &words);
+            for _ in 0..8 {
+                let hay = generate::bytes(&mut rng, alphabet, 14);
+                let (start, end) = generate::window(&mut rng, hay.len());
+                self.checks(&mut checks, &words, Window { hay: &hay, start, end });
+            }
+        }
+        let title = |what: &str| format!("{what} random programs, seed {seed}");
+        [
+            checks[0].report(&title("forward checks of")),
+            checks[1].report(&title("reverse checks of")),
+            mirror.report(&title("mirrors of")),
+        ]
+        .iter()
+        .all(|good| *good)
+    }
+
+    /// What each side answers to one text.
+    pub fn show(&self, text: &[u8]) {
+        println!("{}", shown(text));
+        println!("  original by itself");
+        original::alone(text);
+        for side in [&self.original, &self.document, &self.ours] {
+            println!("  {}", side.name);
+            println!("    read     {}", told(ask(|| side.read.and_then(|f| f(text)))));
+            println!("    compile  {}", told(ask(|| side.compile.and_then(|f| f(text)))));
+            println!("    literals {}", told(ask(|| side.literals.and_then(|f| f(text)))));
+        }
+    }
+
+    /// What each side's checks answer, the original also where the document refuses.
+    pub fn show_checks(&self, words: &[u32], w: Window) {
+        println!("{words:x?} on {:x?}[{}..{}]", w.hay, w.start, w.end);
+        let (forward, reverse) = original::raw(words, w);
+        println!("  original  forward {forward}, reverse {reverse}");
+        for side in [&self.document, &self.ours] {
+            let forward = told(ask(|| side.forward.and_then(|f| f(words, w))));
+            let reverse = told(ask(|| side.reverse.and_then(|f| f(words, w))));
+            println!("  {}  forward {forward}, reverse {reverse}", side.name);
+        }
+    }
+
+    /// For the second judge: lines of a haystack in hex, a blank and a pattern, several patterns
+    /// to a haystack. No `~`, which that judge does not know.
+    pub fn patterns(seed: u64, haystacks: usize, each: usize) {
+        let mut rng = Rng::new(seed);
+        let taste = Taste { odd: 1000, small: true, negations: false, bytes: 4 };
+        for _ in 0..haystacks {
+            let hay = generate::bytes(&mut rng, &[0x41, 0x42, 0x41, 0x00, 0x0A, 0x14], 60);
+            let hex: String = hay.iter().map(|b| format!("{b:02x}")).collect();
+            for _ in 0..each {
+                let most = rng.pick(&[2, 3, 5, 8]);
+                let text = generate::pattern(&mut rng, taste, 1, most);
+                let end = text.iter().position(|b| *b == b'}').unwrap_or(text.len() - 1);
+                let line = String::from_utf8_lossy(&text[..=end]).replace(['\r', '\n'], "\t");
+                println!("{hex} {line}");
+            }
+        }
+    }
+
+    /// For the second judge: the starts of a haystack from which a pattern's forward program is
+    /// found, by our library where it is linked, else by the original's check.
+    pub fn starts(&self, text: &[u8], hay: &[u8]) -> Result<Vec<usize>, u32> {
+        let compile = self.ours.compile.or(self.document.compile);
+        let check = self.ours.forward.or(self.original.forward);
+        let programs = compile.and_then(|f| f(text)).expect("every text is answered");
+        let words = programs.map_err(|r| r.number)?.forward;
+        let end = hay.len();
+        let found = |start: usize| {
+            let answer = check.and_then(|f| f(&words, Window { hay, start, end }));
+            matches!(answer, Some(Ok(Found::At(_))))
+        };
+        Ok((0..end).filter(|start| found(*start)).collect())
+    }
+}

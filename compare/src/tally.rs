@@ -1,0 +1,109 @@
+//! Counts of what was compared, by outcome and by pair of sides.
+
+use std::collections::BTreeMap;
+use std::fmt::Debug;
+
+use crate::sides::Answer;
+
+const EXAMPLES: usize = 5;
+
+fn shortened(text: String) -> String {
+    if text.chars().count() > 300 {
+        text.chars().take(300).chain("..".chars()).collect()
+    } else {
+        text
+    }
+}
+
+#[derive(Default)]
+struct Pair {
+    equal: u64,
+    known: BTreeMap<&'static str, (u64, String)>,
+    differ: u64,
+    examples: Vec<String>,
+}
+
+/// The answers of the three sides to one input; None where a side gives none.
+pub struct Answers<T> {
+    pub original: Option<Answer<T>>,
+    pub document: Option<Answer<T>>,
+    pub ours: Option<Answer<T>>,
+}
+
+#[derive(Default)]
+pub struct Tally {
+    inputs: u64,
+    outcomes: BTreeMap<String, u64>,
+    pairs: BTreeMap<&'static str, Pair>,
+}
+
+impl Tally {
+    /// Counts one input. `known` names a written-down difference between the original and the
+    /// document; anything else that is not equal is a fault.
+    pub fn count<T: PartialEq + Debug>(
+        &mut self,
+        answers: &Answers<T>,
+        label: impl Fn(&T) -> String,
+        show: impl Fn() -> String,
+        known: impl Fn(&Answer<T>, &Answer<T>) -> Option<&'static str>,
+    ) {
+        self.inputs += 1;
+        let outcome = match answers.document.as_ref().or(answers.original.as_ref()) {
+            None => "not judged".into(),
+            Some(Ok(value)) => label(value),
+            Some(Err(refusal)) => format!("refused {:2}", refusal.number),
+        };
+        *self.outcomes.entry(outcome).or_default() += 1;
+        self.pair("original and document", &answers.original, &answers.document, &show, &known);
+        self.pair("ours and document", &answers.ours, &answers.document, &show, &|_, _| None);
+        self.pair("original and ours", &answers.original, &answers.ours, &show, &known);
+    }
+
+    fn pair<T: PartialEq + Debug>(
+        &mut self,
+        name: &'static str,
+        a: &Option<Answer<T>>,
+        b: &Option<Answer<T>>,
+        show: &dyn Fn() -> String,
+        known: &dyn Fn(&Answer<T>, &Answer<T>) -> Option<&'static str>,
+    ) {
+        let (Some(a), Some(b)) = (a, b) else {
+            return;
+        };
+        let pair = self.pairs.entry(name).or_default();
+        if a == b {
+            pair.equal += 1;
+        } else if let Some(label) = known(a, b) {
+            let entry = pair.known.entry(label).or_insert((0, show()));
+            entry.0 += 1;
+            if show().len() < entry.1.len() {
+                entry.1 = show();
+            }
+        } else {
+            pair.differ += 1;
+            if pair.examples.len() < EXAMPLES {
+                let [x, a, b] = [show(), format!("{a:?}"), format!("{b:?}")].map(shortened);
+                pair.examples.push(format!("{x}\n      {a}\n      {b}"));
+            }
+        }
+    }
+
+    /// Prints the counts; answers whether nothing differed but what is written down.
+    pub fn report(&self, title: &str) -> bool {
+        println!("{title}: {} inputs", self.inputs);
+        let outcomes: Vec<_> = self.outcomes.iter().map(|(k, n)| format!("{k}: {n}")).collect();
+        println!("  {}", outcomes.join(", "));
+        let mut good = true;
+        for (name, pair) in &self.pairs {
+            println!("  {name}: {} equal, {} differ", pair.equal, pair.differ);
+            for (label, (n, example)) in &pair.known {
+                println!("    known, {label}: {n}, e.g. {}", shortened(example.clone()));
+            }
+            for example in &pair.examples {
+                println!("    DIFFERS {example}");
+            }
+            good &= pair.differ == 0;
+        }
+        good
+    }
+}

@@ -1,0 +1,68 @@
+-- The invariant: the sum is the score of the bytes passed, of which there are at most four.
+use mathlib.Core.Path.{_≡_, ap, _∙_}
+use Prim.Native.Nat.{ℕ, _+_, _-_, _≤_}
+use lib.ListN.{length, take, getD}
+use Rattle.atoms.specs.Score.{windowScore}
+use Rattle.atoms.proofs.Laws.{byte-le, window-none, window-more, window-whole, window-le}
+use native.Mathlib.Omega.{arith}
+use borrow.Author.Needs.{needs}
+use Rattle.atoms.proofs.Atom.score.Statement.{statement}
+use Rattle.atoms.proofs.Atom.score.Tie as tie
+
+abbrev Inv-loop : tie.InvT-loop
+Inv-loop bytes sum₀ i₀ sum i = (i ≤ 4) × (i ≤ length bytes) × (sum ≡ windowScore (take i bytes))
+
+abbrev μ-loop : tie.MeasureT-loop
+μ-loop bytes sum₀ i₀ sum i = 4 - i
+
+loop-holds : tie.Need-loop-holds Inv-loop μ-loop
+loop-holds c = (omega arith, omega arith, window-none)
+
+shared-slice-read-byte-score : tie.Need-shared-slice-read-byte-score Inv-loop μ-loop
+shared-slice-read-byte-score c = search needs
+
+byte-score-requires : tie.Need-byte-score-requires Inv-loop μ-loop
+byte-score-requires c κs = search needs
+
+add-sum : tie.Need-add-sum Inv-loop μ-loop
+add-sum c =
+    let i = c .before .before .before .before .loop .i in
+    let l = c .before .before .before .before .before .before .args .bytes .now in
+    record { fits = omega (arith, byte-le (getD l i 0), window-le i l) }
+
+add-i : tie.Need-add-i Inv-loop μ-loop
+add-i c = search needs
+
+loop-less : tie.Need-loop-less Inv-loop μ-loop
+loop-less c = search needs
+
+loop-again : tie.Need-loop-again Inv-loop μ-loop
+loop-again c = (
+  omega arith,
+  omega arith,
+  ap (λ (x : ℕ). c .before .before .before .before .loop .sum + x) (c .byte-score .ensures)
+      ∙ window-more (c .before .before .before .before .before .before .args .bytes .now) (c .before .before .before .before .loop .i) _ (omega arith)
+      (c .before .before .before .before .loop .inv .2),
+)
+
+returns : tie.Need-returns Inv-loop μ-loop
+returns c = let e : c .before .loop .i ≡ 4 = omega arith in rw e at (c .before .loop .inv .2)
+
+returns-2 : tie.Need-returns-2 Inv-loop μ-loop
+returns-2 c = window-whole (c .before .before .before .before .args .bytes .now) (c .before .before .loop .i) 4 _ (c .if1 .taken) (omega arith) (c .before .before .loop .inv .2)
+
+pub score-spec : {M : Type 1} → statement M
+score-spec =
+    tie.close
+    (tie.spec
+    Inv-loop
+    μ-loop
+    loop-holds
+    shared-slice-read-byte-score
+    byte-score-requires
+    add-sum
+    add-i
+    loop-less
+    loop-again
+    returns
+    returns-2)

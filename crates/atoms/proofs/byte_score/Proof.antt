@@ -1,0 +1,15 @@
+use Rattle.atoms.proofs.byte_score.Statement.{statement}
+use Rattle.atoms.proofs.byte_score.Tie as tie
+use Rattle.atoms.proofs.Laws.{among-one, among-none}
+use Rattle.atoms.specs.Score.{common, byteScore}
+
+returns : tie.Need-returns
+unfolding byteScore common
+returns c = rw (among-one (c .before .args .b) common (c .match .keys1))
+
+returns-2 : tie.Need-returns-2
+unfolding byteScore common
+returns-2 c = rw (among-none (c .before .args .b) common (c .match .rest .1))
+
+pub byte-score-spec : {M : Type 1} → statement M
+byte-score-spec = tie.close (tie.spec returns returns-2)

@@ -1,0 +1,2 @@
+pub mod Score
+pub mod Samples

@@ -1,0 +1,23 @@
+use lib.Dec.{eqb}
+use Rattle.bitmap.proofs.Table.{or-false}
+use mathlib.Core.Path.{_∙_, ap}
+use mathlib.Core.Bool.{Bool, not, _||_}
+use borrow.Author.Needs.{needs}
+use Rattle.bitmap.proofs.Bitmap.all_but.Statement.{statement}
+use Rattle.bitmap.proofs.Bitmap.all_but.Tie as tie
+
+new-requires : tie.Need-new-requires
+new-requires c κs = search needs
+
+with-requires : tie.Need-with-requires
+with-requires c κs = search needs
+
+invert-requires : tie.Need-invert-requires
+invert-requires c κs = search needs
+
+returns : tie.Need-returns
+returns c = λ v h. c .invert .ensures v h
+    ∙ ap not (c .before .with .ensures v h ∙ ap (λ (t : Bool). eqb v (c .before .before .before .args .b) || t) (c .before .before .new .ensures v h) ∙ or-false (eqb v (c .before .before .before .args .b)))
+
+pub all-but-spec : {M : Type 1} → statement M
+all-but-spec = tie.close (tie.spec new-requires with-requires invert-requires returns)

@@ -1,0 +1,59 @@
+use Rattle.bitmap.proofs.Words.{size-words}
+use borrow.Author.Needs.{needs}
+use Rattle.bitmap.proofs.Bitmap.count.Statement.{statement}
+use Rattle.bitmap.proofs.Bitmap.count.Tie as tie
+
+element-copy-out-word-count : tie.Need-element-copy-out-word-count
+element-copy-out-word-count c = search needs
+
+word-count-requires : tie.Need-word-count-requires
+word-count-requires c κs = search needs
+
+element-copy-out-word-count-2 : tie.Need-element-copy-out-word-count-2
+element-copy-out-word-count-2 c = search needs
+
+word-count-requires-2 : tie.Need-word-count-requires-2
+word-count-requires-2 c κs = search needs
+
+add-result : tie.Need-add-result
+add-result c = search needs
+
+element-copy-out-word-count-3 : tie.Need-element-copy-out-word-count-3
+element-copy-out-word-count-3 c = search needs
+
+word-count-requires-3 : tie.Need-word-count-requires-3
+word-count-requires-3 c κs = search needs
+
+add-result-2 : tie.Need-add-result-2
+add-result-2 c = search needs
+
+element-copy-out-word-count-4 : tie.Need-element-copy-out-word-count-4
+element-copy-out-word-count-4 c = search needs
+
+word-count-requires-4 : tie.Need-word-count-requires-4
+word-count-requires-4 c κs = search needs
+
+add-result-3 : tie.Need-add-result-3
+add-result-3 c = search needs
+
+returns : tie.Need-returns
+returns c = size-words (c .before .before .before .before .before .before .before .before .args .t1) _ _ _ _
+    (c .before .before .before .before .before .before .word-count .ensures .0) (c .before .before .before .before .word-count2 .ensures .0)
+    (c .before .before .word-count3 .ensures .0) (c .word-count4 .ensures .0)
+
+pub count-spec : {M : Type 1} → statement M
+count-spec =
+    tie.close
+    (tie.spec
+    element-copy-out-word-count
+    word-count-requires
+    element-copy-out-word-count-2
+    word-count-requires-2
+    add-result
+    element-copy-out-word-count-3
+    word-count-requires-3
+    add-result-2
+    element-copy-out-word-count-4
+    word-count-requires-4
+    add-result-3
+    returns)

@@ -1,0 +1,130 @@
+-- The doors' answers, case by case. Assumes nothing.
+use mathlib.Core.Path.{_≡_, refl, sym, ap, _∙_}
+use mathlib.Core.Bool.{Bool, true, false, cond, _&&_}
+use mathlib.Core.Option.{Option, none, some}
+use mathlib.Core.List.{List, [], reverse}
+use Prim.Native.Nat.{ℕ, _+_, _-_, _≤_, _<_}
+use native.Mathlib.Omega.{arith}
+use lib.Dec.{leb}
+use lib.ListN.{length, take, drop, length-drop, length-reverse}
+use lib.Seq.{length-take-le}
+use borrow.Author.Tests.{le-leb, lt-leb, leb-true}
+use Rattle.meaning.specs.Choices.{Order, short, long}
+use Rattle.meaning.specs.Rows.{run, forward, backward}
+use Rattle.meaning.specs.Words.{prog, sound, Sound}
+use Rattle.meaning.proofs.WordSpans.{sound-words}
+use Rattle.nodes.proofs.WordHeads.{from, to-end}
+use Rattle.steps.specs.declared.Found.the-variants.{Left, Nothing}
+use Rattle.steps.specs.Steps.{answer}
+use Rattle.steps.proofs.Answers.{answer-some, answer-none, left-fits, left-part}
+use Rattle.checkdoors.specs.Doors.{Outcome, found, noMatch, refused, window, refusal, unless, endAt, startAt, forwardSays, reverseSays, leftOr, unlessEmpty, leftSays}
+
+-- the tests, in their order
+module _ (ws : List ℕ) (n s e : ℕ) where
+  pub crossed : e < s → some 16 ≡ refusal ws n s e
+  unfolding refusal
+  crossed h = rw (lt-leb s e h)
+
+  pub beyond : s ≤ e → n < e → some 16 ≡ refusal ws n s e
+  unfolding refusal
+  beyond h l = rw (le-leb s e h, lt-leb e n l)
+
+  module _ (h : s ≤ e) (l : e ≤ n) where
+    pub many : 512 < length ws → some 13 ≡ refusal ws n s e
+    unfolding refusal
+    many m = rw (le-leb s e h, le-leb e n l, lt-leb (length ws) 512 m)
+
+    pub unsound : length ws ≤ 512 → false ≡ sound ws → some 15 ≡ refusal ws n s e
+    unfolding refusal
+    unsound m f = rw (le-leb s e h, le-leb e n l, le-leb (length ws) 512 m, ← f)
+
+    pub passed : length ws ≤ 512 → true ≡ sound ws → none ≡ refusal ws n s e
+    unfolding refusal
+    passed m f = rw (le-leb s e h, le-leb e n l, le-leb (length ws) 512 m, ← f)
+
+-- what is known where nothing was refused
+pub record Fine (ws : List ℕ) (n s e : ℕ) : Type 0 where
+  pub ordered : s ≤ e
+  pub inside : e ≤ n
+  pub tested : sound ws ≡ true
+
+pub fine : (ws : List ℕ) (n s e : ℕ) → none ≡ refusal ws n s e → Fine ws n s e
+unfolding refusal
+fine ws n s e h = go (leb s e) (leb e n) (leb (length ws) 512) (sound ws) (leb-true s e) (leb-true e n) refl h
+  where
+    go : (a b c d : Bool) → (a ≡ true → s ≤ e) → (b ≡ true → e ≤ n) → sound ws ≡ d → _≡_ {A = Option ℕ} none (cond (a && b) (cond c (cond d none (some 15)) (some 13)) (some 16)) → Fine ws n s e
+    go true true true true f g t x = record { ordered = f refl; inside = g refl; tested = t }
+    go true true true false f g t x = let z : _≡_ {A = ℕ} 0 1 = cc in absurd (omega arith)
+    go true true false d f g t x = let z : _≡_ {A = ℕ} 0 1 = cc in absurd (omega arith)
+    go true false c d f g t x = let z : _≡_ {A = ℕ} 0 1 = cc in absurd (omega arith)
+    go false b c d f g t x = let z : _≡_ {A = ℕ} 0 1 = cc in absurd (omega arith)
+
+pub fine-sound : {ws : List ℕ} {n s e : ℕ} → Fine ws n s e → Sound ws
+fine-sound {ws} f = sound-words ws (f .tested)
+
+pub window-length : (ws hay : List ℕ) (s e : ℕ) → Fine ws (length hay) s e → length (window hay s e) ≡ e - s
+window-length ws hay s e f = length-take-le (e - s) (drop s hay) (omega (arith, length-drop s hay, f .ordered, f .inside))
+
+module _ (ws hay : List ℕ) (s e : ℕ) where
+  -- refused
+  pub forward-refused : (k : ℕ) → some k ≡ refusal ws (length hay) s e → refused k ≡ forwardSays ws hay s e
+  unfolding forwardSays
+  forward-refused k h = rw (sym h)
+
+  pub reverse-refused : (k : ℕ) → some k ≡ refusal ws (length hay) s e → refused k ≡ reverseSays ws hay s e
+  unfolding reverseSays
+  reverse-refused k h = rw (sym h)
+
+  pub left-refused : (k : ℕ) → some k ≡ refusal ws (length hay) s e → [] ≡ leftSays ws hay s e
+  unfolding leftSays
+  left-refused k h = rw (sym h)
+
+  -- not refused
+  module _ (h : none ≡ refusal ws (length hay) s e) where
+    pub forward-checked : endAt e (forward (prog ws) (window hay s e)) ≡ forwardSays ws hay s e
+    unfolding forwardSays
+    forward-checked = rw (sym h)
+
+    pub reverse-checked : startAt s (backward (prog ws) (window hay s e)) ≡ reverseSays ws hay s e
+    unfolding reverseSays
+    reverse-checked = rw (sym h)
+
+    pub left-checked : leftOr (forward (prog ws) (window hay s e)) ≡ leftSays ws hay s e
+    unfolding leftSays
+    left-checked = rw (sym h)
+
+    module _ (g : Nothing ≡ answer (forward (prog ws) (window hay s e))) where
+      pub forward-none : noMatch ≡ forwardSays ws hay s e
+      forward-none = sym (ap (endAt e) (answer-none (forward (prog ws) (window hay s e)) g)) ∙ forward-checked
+
+      pub left-none : [] ≡ leftSays ws hay s e
+      left-none = sym (ap leftOr (answer-none (forward (prog ws) (window hay s e)) g)) ∙ left-checked
+
+    module _ (k : ℕ) (g : Left k ≡ answer (forward (prog ws) (window hay s e))) where
+      pub left-below : k ≤ length (window hay s e)
+      left-below = left-fits short (prog ws) (window hay s e) k g
+
+      pub left-end : k ≤ e
+      left-end = omega (arith, left-below, window-length ws hay s e (fine ws (length hay) s e h))
+
+      pub forward-found : found (e - k) ≡ forwardSays ws hay s e
+      forward-found =
+          let q = answer-some (forward (prog ws) (window hay s e)) k g in
+          sym (ap (endAt e) (q .1) ∙ ap (λ (n : ℕ). found (e - n)) (q .2)) ∙ forward-checked
+
+      pub left-found : from (length (window hay s e) - k) (window hay s e) ≡ leftSays ws hay s e
+      left-found = to-end (length (window hay s e) - k) (window hay s e) ∙ sym (ap leftOr (left-part short (prog ws) (window hay s e) k g)) ∙ left-checked
+
+    pub reverse-none : Nothing ≡ answer (backward (prog ws) (window hay s e)) → noMatch ≡ reverseSays ws hay s e
+    reverse-none g = sym (ap (startAt s) (answer-none (backward (prog ws) (window hay s e)) g)) ∙ reverse-checked
+
+    module _ (k : ℕ) (g : Left k ≡ answer (backward (prog ws) (window hay s e))) where
+      pub start-below : s + k ≤ e
+      start-below =
+          let f = fine ws (length hay) s e h in
+          omega (arith, left-fits long (prog ws) (reverse (window hay s e)) k g, length-reverse (window hay s e), window-length ws hay s e f, f .ordered)
+
+      pub reverse-found : found (s + k) ≡ reverseSays ws hay s e
+      reverse-found =
+          let q = answer-some (backward (prog ws) (window hay s e)) k g in
+          sym (ap (startAt s) (q .1) ∙ ap (λ (n : ℕ). found (s + n)) (q .2)) ∙ reverse-checked

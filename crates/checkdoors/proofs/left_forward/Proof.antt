@@ -1,0 +1,159 @@
+-- `checkdoors::left_forward` meets its contract. Assumes nothing.
+use mathlib.Core.Path.{_≡_, sym, ap, _∙_}
+use lib.ListN.{length}
+use Rattle.checkdoors.specs.Doors.{whyNot}
+use Rattle.checkdoors.proofs.DoorLaws as law
+use native.Mathlib.Omega.{arith}
+use borrow.Author.Needs.{needs}
+use Rattle.checkdoors.proofs.left_forward.Statement.{statement}
+use Rattle.checkdoors.proofs.left_forward.Tie as tie
+use Rattle.checkdoors.proofs.left_forward.Reads as reads
+use Rattle.checkdoors.proofs.left_forward.Lts as lts
+use Rattle.checkdoors.proofs.admit.Reads as admit-reads
+use Rattle.forward.proofs.check.Reads as check-reads
+
+admit-requires : tie.Need-admit-requires
+admit-requires c κs = search needs
+
+enum-told : tie.Need-enum-told
+enum-told c = search needs
+
+sub-result : tie.Need-sub-result
+sub-result c = search needs
+
+part-result-start : tie.Need-part-result-start
+part-result-start c = search needs
+
+part-result-end : tie.Need-part-result-end
+part-result-end c = search needs
+
+returns : tie.Need-returns
+returns c =
+    let W = c .before .before .before .before .before .before .args .words .now in
+    let H = c .before .before .before .before .before .before .args .hay .now in
+    let S = c .before .before .before .before .before .before .args .start in
+    let E = c .before .before .before .before .before .before .args .end in
+    law.left-refused W H S E _ (sym (ap whyNot (c .before .enum-told .given .1)) ∙ c .before .before .before .admit .ensures)
+
+enum-told-2 : tie.Need-enum-told-2
+enum-told-2 c = search needs
+
+sub-window : tie.Need-sub-window
+sub-window c =
+    let W = c .before .before .before .before .before .args .words .now in
+    let H = c .before .before .before .before .before .args .hay .now in
+    let S = c .before .before .before .before .before .args .start in
+    let E = c .before .before .before .before .before .args .end in
+    let ok = sym (ap whyNot (c .enum-told2 .given .1)) ∙ c .before .before .admit .ensures in
+    let fine = law.fine W (length H) S E ok in
+    fine .ordered
+
+part-window-start : tie.Need-part-window-start
+part-window-start c =
+    let W = c .before .before .before .before .before .args .words .now in
+    let H = c .before .before .before .before .before .args .hay .now in
+    let S = c .before .before .before .before .before .args .start in
+    let E = c .before .before .before .before .before .args .end in
+    let ok = sym (ap whyNot (c .enum-told2 .given .1)) ∙ c .before .before .admit .ensures in
+    let fine = law.fine W (length H) S E ok in
+    fine .ordered
+
+part-window-end : tie.Need-part-window-end
+part-window-end c =
+    let W = c .before .before .before .before .before .args .words .now in
+    let H = c .before .before .before .before .before .args .hay .now in
+    let S = c .before .before .before .before .before .args .start in
+    let E = c .before .before .before .before .before .args .end in
+    let ok = sym (ap whyNot (c .enum-told2 .given .1)) ∙ c .before .before .admit .ensures in
+    let fine = law.fine W (length H) S E ok in
+    fine .inside
+
+check-requires : tie.Need-check-requires
+check-requires c κs =
+    let W = c .before .before .before .before .before .before .args .words .now in
+    let H = c .before .before .before .before .before .before .args .hay .now in
+    let S = c .before .before .before .before .before .before .args .start in
+    let E = c .before .before .before .before .before .before .args .end in
+    let ok = sym (ap whyNot (c .before .enum-told2 .given .1)) ∙ c .before .before .before .admit .ensures in
+    let fine = law.fine W (length H) S E ok in
+    law.fine-sound fine
+
+enum-known-left : tie.Need-enum-known-left
+enum-known-left c = search needs
+
+enum-told-3 : tie.Need-enum-told-3
+enum-told-3 c = search needs
+
+sub-result-2 : tie.Need-sub-result-2
+sub-result-2 c = search needs
+
+part-result-start-2 : tie.Need-part-result-start-2
+part-result-start-2 c = search needs
+
+part-result-end-2 : tie.Need-part-result-end-2
+part-result-end-2 c = search needs
+
+returns-2 : tie.Need-returns-2
+returns-2 c =
+    let W = c .before .before .before .before .before .before .before .before .before .before .args .words .now in
+    let H = c .before .before .before .before .before .before .before .before .before .before .args .hay .now in
+    let S = c .before .before .before .before .before .before .before .before .before .before .args .start in
+    let E = c .before .before .before .before .before .before .before .before .before .before .args .end in
+    let ok = sym (ap whyNot (c .before .before .before .before .before .enum-told2 .given .1)) ∙ c .before .before .before .before .before .before .before .admit .ensures in
+    law.left-none W H S E ok (sym (c .before .enum-told3 .given .1) ∙ c .before .before .before .check .ensures)
+
+sub-used : tie.Need-sub-used
+sub-used c =
+    let W = c .before .before .before .before .before .before .before .before .before .before .args .words .now in
+    let H = c .before .before .before .before .before .before .before .before .before .before .args .hay .now in
+    let S = c .before .before .before .before .before .before .before .before .before .before .args .start in
+    let E = c .before .before .before .before .before .before .before .before .before .before .args .end in
+    let ok = sym (ap whyNot (c .before .before .before .before .before .enum-told2 .given .1)) ∙ c .before .before .before .before .before .before .before .admit .ensures in
+    let got = sym (c .before .left .given .1) ∙ c .before .before .before .check .ensures in
+    law.left-below W H S E ok _ got
+
+sub-result-3 : tie.Need-sub-result-3
+sub-result-3 c = search needs
+
+part-result-start-3 : tie.Need-part-result-start-3
+part-result-start-3 c = search needs
+
+part-result-end-3 : tie.Need-part-result-end-3
+part-result-end-3 c = search needs
+
+returns-3 : tie.Need-returns-3
+returns-3 c =
+    let W = c .before .before .before .before .before .before .before .before .before .before .before .args .words .now in
+    let H = c .before .before .before .before .before .before .before .before .before .before .before .args .hay .now in
+    let S = c .before .before .before .before .before .before .before .before .before .before .before .args .start in
+    let E = c .before .before .before .before .before .before .before .before .before .before .before .args .end in
+    let ok = sym (ap whyNot (c .before .before .before .before .before .before .enum-told2 .given .1)) ∙ c .before .before .before .before .before .before .before .before .admit .ensures in
+    let got = sym (c .before .before .left .given .1) ∙ c .before .before .before .before .check .ensures in
+    law.left-found W H S E ok _ got
+
+pub left-forward-spec : {M : Type 1} → statement M
+left-forward-spec =
+    tie.close
+    (tie.spec
+    admit-requires
+    enum-told
+    sub-result
+    part-result-start
+    part-result-end
+    returns
+    enum-told-2
+    sub-window
+    part-window-start
+    part-window-end
+    check-requires
+    enum-known-left
+    enum-told-3
+    sub-result-2
+    part-result-start-2
+    part-result-end-2
+    returns-2
+    sub-used
+    sub-result-3
+    part-result-start-3
+    part-result-end-3
+    returns-3)

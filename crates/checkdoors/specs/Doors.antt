@@ -1,0 +1,71 @@
+-- What the doors of the checks answer, in 01's words. Assumes nothing: these are definitions.
+use mathlib.Core.Bool.{Bool, cond, _&&_}
+use mathlib.Core.Option.{Option, none, some}
+use mathlib.Core.List.{List, []}
+use Prim.Native.Nat.{ℕ, _+_, _-_}
+use lib.Dec.{leb}
+use lib.ListN.{length, take, drop}
+use Rattle.base.specs.Refusals.{numberOf}
+use Rattle.meaning.specs.Rows.{forward, backward}
+use Rattle.meaning.specs.Words.{prog, sound}
+use Rattle.checkdoors.specs.declared.Answer.{Answer}
+use Rattle.checkdoors.specs.declared.Answer.the-variants.{At, NoMatch, Refused}
+use Rattle.checkdoors.specs.declared.Admitted.{Admitted}
+use Rattle.checkdoors.specs.declared.Admitted.the-variants.{Yes, No}
+
+-- 01's answers of a check: found at an offset, no match, refused under a number
+pub data Outcome : Type 0 where
+  found : ℕ → Outcome
+  noMatch : Outcome
+  refused : ℕ → Outcome
+
+-- what each of the code's answers says
+abbrev pub said : Answer → Outcome
+said (At n) = found n
+said NoMatch = noMatch
+said (Refused r) = refused (numberOf r)
+
+-- the part of the haystack inside the window
+abbrev pub window : List ℕ → ℕ → ℕ → List ℕ
+window hay s e = take (e - s) (drop s hay)
+
+-- 16 for a window that is not in a haystack of n bytes, then 13 for more than 512 words, then 15 for words that are not sound
+unfoldable pub refusal : List ℕ → ℕ → ℕ → ℕ → Option ℕ
+refusal ws n s e = cond (leb s e && leb e n) (cond (leb (length ws) 512) (cond (sound ws) none (some 15)) (some 13)) (some 16)
+
+abbrev pub whyNot : Admitted → Option ℕ
+whyNot Yes = none
+whyNot (No r) = some (numberOf r)
+
+-- refused, or the outcome of the check
+abbrev pub unless : Option ℕ → Outcome → Outcome
+unless none o = o
+unless (some k) o = refused k
+
+-- the offset of the end, where the match leaves the last bytes of a window that ends at e
+abbrev pub endAt : ℕ → Option (List ℕ) → Outcome
+endAt e none = noMatch
+endAt e (some v) = found (e - length v)
+
+-- the offset of the start, where the match leaves the first bytes of a window that starts at s
+abbrev pub startAt : ℕ → Option (List ℕ) → Outcome
+startAt s none = noMatch
+startAt s (some v) = found (s + length v)
+
+unfoldable pub forwardSays : List ℕ → List ℕ → ℕ → ℕ → Outcome
+forwardSays ws hay s e = unless (refusal ws (length hay) s e) (endAt e (forward (prog ws) (window hay s e)))
+
+unfoldable pub reverseSays : List ℕ → List ℕ → ℕ → ℕ → Outcome
+reverseSays ws hay s e = unless (refusal ws (length hay) s e) (startAt s (backward (prog ws) (window hay s e)))
+
+-- what is left of the window, and nothing after no match and after a refusal
+abbrev pub leftOr : Option (List ℕ) → List ℕ
+leftOr none = []
+leftOr (some v) = v
+
+abbrev pub unlessEmpty : Option ℕ → List ℕ → List ℕ
+unlessEmpty none l = l
+unlessEmpty (some k) l = []
+
+unfoldable pub leftSays : List ℕ → List ℕ → ℕ → ℕ → List ℕ
+leftSays ws hay s e = unlessEmpty (refusal ws (length hay) s e) (leftOr (forward (prog ws) (window hay s e)))

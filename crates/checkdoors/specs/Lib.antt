@@ -1,0 +1,2 @@
+-- What the doors of the checks answer.
+pub mod Doors

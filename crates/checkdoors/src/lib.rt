@@ -1,0 +1,84 @@
+// The doors of the two checks: any words, any haystack and any window numbers are answered.
+use base::Refusal;
+use sound::is_sound;
+use steps::Found;
+ghost use mathlib.Core.Path.{_≡_};
+ghost use Rattle.checkdoors.specs.Doors.{said, refusal, whyNot, forwardSays, reverseSays, leftSays};
+
+// Found at an offset of the haystack, no match, or refused.
+pub enum Answer {
+    At(usize),
+    NoMatch,
+    Refused(Refusal),
+}
+
+// Whether a check may run, or why not.
+pub enum Admitted {
+    Yes,
+    No(Refusal),
+}
+
+// 16, then 13, then 15, as 01 orders the tests of a check; `len` is the haystack's length.
+fn admit(words: &[u32], len: usize, start: usize, end: usize) -> Admitted
+    ensures { λ r. ⌜ whyNot r ≡ refusal (now (words .entry)) len start end ⌝ }
+{
+    if end < start {
+        return Admitted::No(Refusal::BadWindow);
+    }
+    if len < end {
+        return Admitted::No(Refusal::BadWindow);
+    }
+    if 512 < words.len() {
+        return Admitted::No(Refusal::TooManyNodes);
+    }
+    if is_sound(words) {
+        return Admitted::Yes;
+    }
+    Admitted::No(Refusal::Unsound)
+}
+
+// The forward check of the window from start to end: the end of the first choice that fits at its start.
+pub fn forward(words: &[u32], hay: &[u8], start: usize, end: usize) -> Answer
+    ensures { λ r. ⌜ said r ≡ forwardSays (now (words .entry)) (now (hay .entry)) start end ⌝ }
+{
+    let test = admit(words, hay.len(), start, end);
+    if let Admitted::No(why) = test {
+        return Answer::Refused(why);
+    }
+    let Found::Left(left) = forward::check(words, &hay[start..end]) else {
+        return Answer::NoMatch;
+    };
+    let after = end - left;
+    Answer::At(after)
+}
+
+// The reverse check of the window from start to end: the start of the first choice that fits at its end.
+pub fn reverse(words: &[u32], hay: &[u8], start: usize, end: usize) -> Answer
+    ensures { λ r. ⌜ said r ≡ reverseSays (now (words .entry)) (now (hay .entry)) start end ⌝ }
+{
+    let test = admit(words, hay.len(), start, end);
+    if let Admitted::No(why) = test {
+        return Answer::Refused(why);
+    }
+    let Found::Left(left) = reverse::check(words, &hay[start..end]) else {
+        return Answer::NoMatch;
+    };
+    let at = start + left;
+    Answer::At(at)
+}
+
+// The second forward door: what the match leaves of the window, as the caller's own bytes.
+pub fn left_forward<'n, 'h>(words: &'n [u32], hay: &'h [u8], start: usize, end: usize) -> &'h [u8]
+    ensures { λ r. ⌜ now r ≡ leftSays (now (words .entry)) (now (hay .entry)) start end ⌝ }
+{
+    let test = admit(words, hay.len(), start, end);
+    if let Admitted::No(_) = test {
+        return &hay[0..0];
+    }
+    let window = &hay[start..end];
+    let Found::Left(left) = forward::check(words, window) else {
+        return &hay[0..0];
+    };
+    let used = window.len() - left;
+    &window[used..]
+}

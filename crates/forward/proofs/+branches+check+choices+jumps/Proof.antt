@@ -1,0 +1,792 @@
+-- The cycle of calls {branches, check, choices, jumps} meets its contracts. Every loop keeps: the answer for the whole is the
+-- answer for what is left. Each call is at fewer words, or at as many on the way from check to choices to jumps or branches. Assumes nothing.
+use mathlib.Core.Path.{_≡_, refl, sym, ap, ap₂, subst, _∙_}
+use mathlib.Core.Logic.{_⊎_, ⊎-elim}
+use mathlib.Core.List.{List, _∷_}
+use Prim.Native.Nat.{_+_, _*_, _-_, _/_, _%_, _≤_}
+use native.Mathlib.Omega.{arith}
+use lib.ListN.{length, take, drop}
+use lib.Seq.{length-take-le}
+use borrow.Author.Needs.{needs}
+use Rattle.meaning.specs.Programs.{range, alt, _▹_}
+use Rattle.meaning.specs.Choices.{short}
+use Rattle.meaning.specs.Rows.{forward}
+use Rattle.meaning.specs.Words.{prog, branchesOf, Sound, SoundBranches}
+use Rattle.meaning.proofs.KindLaws.{kind-jump}
+use Rattle.meaning.proofs.RunLaws.{run-range-empty}
+use Rattle.steps.specs.Steps.{answer}
+use Rattle.nodes.proofs.WordHeads.{word-pos, from, to-end, length-from}
+use Rattle.steps.proofs.Heads.{byte-pos, whole, word-whole}
+use Rattle.steps.proofs.Tests.{is-test, passes-as}
+use Rattle.steps.proofs.Answers.{left-fits}
+use Rattle.steps.proofs.Turns as turns
+use Rattle.steps.proofs.Ranges as ranges
+use Rattle.steps.proofs.Alternatives as alts
+use Rattle.steps.proofs.Choices as choice
+use Prim.Native.Nat.{ℕ, _<_}
+use borrow.Fn.Kinds.{In}
+use borrow.Fn.PlainCycle.{Measures, is, falls, and}
+use Rattle.forward.proofs.branches.Reads as branches
+use Rattle.forward.proofs.branches.Kinds as branches-kinds
+use Rattle.forward.proofs.+branches+check+choices+jumps.Lts-branches as branches-lts
+use Rattle.forward.proofs.check.Reads as check
+use Rattle.forward.proofs.check.Kinds as check-kinds
+use Rattle.forward.proofs.+branches+check+choices+jumps.Lts-check as check-lts
+use Rattle.forward.proofs.choices.Reads as choices
+use Rattle.forward.proofs.choices.Kinds as choices-kinds
+use Rattle.forward.proofs.+branches+check+choices+jumps.Lts-choices as choices-lts
+use Rattle.forward.proofs.jumps.Reads as jumps
+use Rattle.forward.proofs.jumps.Kinds as jumps-kinds
+use Rattle.forward.proofs.+branches+check+choices+jumps.Lts-jumps as jumps-lts
+use Rattle.forward.proofs.flat.Reads as flat-reads
+use Rattle.nodes.proofs.first_word.Reads as first-word-reads
+use Rattle.steps.proofs.first_byte.Reads as first-byte-reads
+use Rattle.steps.proofs.tests_byte.Reads as tests-byte-reads
+use Rattle.steps.proofs.word_passes.Reads as word-passes-reads
+use Rattle.forward.proofs.+branches+check+choices+jumps.{statement}
+use Rattle.forward.proofs.+branches+check+choices+jumps.Tie.{close}
+
+abbrev μ-branches : Measures 3 branches-kinds.ps ℕ
+μ-branches κs a = 3 * length (a .1 .0 .now) + 1
+
+abbrev μ-check : Measures 2 check-kinds.ps ℕ
+μ-check κs a = 3 * length (a .0 .now)
+
+abbrev μ-choices : Measures 2 choices-kinds.ps ℕ
+μ-choices κs a = 3 * length (a .1 .0 .now) + 2
+
+abbrev μ-jumps : Measures 2 jumps-kinds.ps ℕ
+μ-jumps κs a = 3 * length (a .0 .now) + 1
+
+abbrev branches-at : ℕ → In 3 branches-kinds.ps
+branches-at t = and 3 branches-kinds.ps (is 3 branches-kinds.ps μ-branches t) branches.Pre
+
+abbrev branches-below : ℕ → In 3 branches-kinds.ps
+branches-below t = and 3 branches-kinds.ps (falls 3 branches-kinds.ps _<_ μ-branches t) branches.Pre
+
+abbrev check-at : ℕ → In 2 check-kinds.ps
+check-at t = and 2 check-kinds.ps (is 2 check-kinds.ps μ-check t) check.Pre
+
+abbrev check-below : ℕ → In 2 check-kinds.ps
+check-below t = and 2 check-kinds.ps (falls 2 check-kinds.ps _<_ μ-check t) check.Pre
+
+abbrev choices-at : ℕ → In 2 choices-kinds.ps
+choices-at t = and 2 choices-kinds.ps (is 2 choices-kinds.ps μ-choices t) choices.Pre
+
+abbrev choices-below : ℕ → In 2 choices-kinds.ps
+choices-below t = and 2 choices-kinds.ps (falls 2 choices-kinds.ps _<_ μ-choices t) choices.Pre
+
+abbrev jumps-at : ℕ → In 2 jumps-kinds.ps
+jumps-at t = and 2 jumps-kinds.ps (is 2 jumps-kinds.ps μ-jumps t) jumps.Pre
+
+abbrev jumps-below : ℕ → In 2 jumps-kinds.ps
+jumps-below t = and 2 jumps-kinds.ps (falls 2 jumps-kinds.ps _<_ μ-jumps t) jumps.Pre
+
+abbrev branches-claims : ℕ → branches-lts.Claims
+branches-claims t = (first-word-reads.Asked, first-word-reads.Learnt, flat-reads.Asked, flat-reads.Learnt, check-below t, check.Post)
+
+abbrev check-claims : ℕ → check-lts.Claims
+check-claims t = (first-word-reads.Asked, first-word-reads.Learnt, tests-byte-reads.Asked, tests-byte-reads.Learnt, first-byte-reads.Asked, first-byte-reads.Learnt, word-passes-reads.Asked, word-passes-reads.Learnt, choices-below t, choices.Post)
+
+abbrev choices-claims : ℕ → choices-lts.Claims
+choices-claims t = (jumps-below t, jumps.Post, first-word-reads.Asked, first-word-reads.Learnt, branches-below t, branches.Post)
+
+abbrev jumps-claims : ℕ → jumps-lts.Claims
+jumps-claims t = (check-below t, check.Post)
+
+abbrev branches-Inv-loop : branches-lts.InvT-loop
+branches-Inv-loop alts rest mem from to last bs w size left used tail n₀ n = forward (range from to ▹ prog rest) tail ≡ forward (range n to ▹ prog rest) tail
+
+abbrev branches-μ-loop : branches-lts.MeasureT-loop
+branches-μ-loop alts rest mem from to last bs w size left used tail n₀ n = last + 1 - n
+
+abbrev branches-Inv-branches : branches-lts.InvT-branches
+branches-Inv-branches alts rest mem from to last bs₀ bs = SoundBranches bs × (forward (alt (branchesOf alts) ▹ range from to ▹ prog rest) mem ≡ forward (alt (branchesOf bs) ▹ range from to ▹ prog rest) mem)
+
+abbrev branches-μ-branches : branches-lts.MeasureT-branches
+branches-μ-branches alts rest mem from to last bs₀ bs = length bs
+
+abbrev check-Inv-loop : check-lts.InvT-loop
+check-Inv-loop nodes mem ns₀ m₀ ns m = (length ns ≤ length nodes) × Sound ns × (forward (prog nodes) mem ≡ forward (prog ns) m)
+
+abbrev check-μ-loop : check-lts.MeasureT-loop
+check-μ-loop nodes mem ns₀ m₀ ns m = length ns
+
+abbrev jumps-Inv-loop : jumps-lts.InvT-loop
+jumps-Inv-loop rest mem from to last n₀ n = forward (range from to ▹ prog rest) mem ≡ forward (range n to ▹ prog rest) mem
+
+abbrev jumps-μ-loop : jumps-lts.MeasureT-loop
+jumps-μ-loop rest mem from to last n₀ n = last + 1 - n
+
+module _ (t : ℕ) where
+  branches-branches-holds : branches-lts.Need-branches-holds (branches-claims t) (branches-at t) branches.Post branches-Inv-loop branches-μ-loop branches-Inv-branches branches-μ-branches
+  branches-branches-holds c = search needs
+
+  branches-first-word-requires : branches-lts.Need-first-word-requires (branches-claims t) (branches-at t) branches.Post branches-Inv-loop branches-μ-loop branches-Inv-branches branches-μ-branches
+  branches-first-word-requires c κs = search needs
+
+  branches-enum-known-w : branches-lts.Need-enum-known-w (branches-claims t) (branches-at t) branches.Post branches-Inv-loop branches-μ-loop branches-Inv-branches branches-μ-branches
+  branches-enum-known-w c = search needs
+
+  branches-enum-told : branches-lts.Need-enum-told (branches-claims t) (branches-at t) branches.Post branches-Inv-loop branches-μ-loop branches-Inv-branches branches-μ-branches
+  branches-enum-told c = search needs
+
+  branches-sub-bs : branches-lts.Need-sub-bs (branches-claims t) (branches-at t) branches.Post branches-Inv-loop branches-μ-loop branches-Inv-branches branches-μ-branches
+  branches-sub-bs c =
+      let L = c .before .before .before .before .branches .bs .now in
+      let W = c .before .w .given .0 .0 in
+      let e = sym (c .before .before .before .first-word .ensures) ∙ c .before .w .given .1 in
+      word-pos L W e
+
+  branches-part-bs-start : branches-lts.Need-part-bs-start (branches-claims t) (branches-at t) branches.Post branches-Inv-loop branches-μ-loop branches-Inv-branches branches-μ-branches
+  branches-part-bs-start c =
+      let L = c .before .before .before .before .branches .bs .now in
+      let W = c .before .w .given .0 .0 in
+      let e = sym (c .before .before .before .first-word .ensures) ∙ c .before .w .given .1 in
+      word-pos L W e
+
+  branches-part-bs-end : branches-lts.Need-part-bs-end (branches-claims t) (branches-at t) branches.Post branches-Inv-loop branches-μ-loop branches-Inv-branches branches-μ-branches
+  branches-part-bs-end c = search needs
+
+  branches-cast-size : branches-lts.Need-cast-size (branches-claims t) (branches-at t) branches.Post branches-Inv-loop branches-μ-loop branches-Inv-branches branches-μ-branches
+  branches-cast-size c = search needs
+
+  branches-slice-aggregate-flat : branches-lts.Need-slice-aggregate-flat (branches-claims t) (branches-at t) branches.Post branches-Inv-loop branches-μ-loop branches-Inv-branches branches-μ-branches
+  branches-slice-aggregate-flat c =
+      let L = c .before .before .before .before .before .before .branches .bs .now in
+      let W = c .before .before .before .w .given .0 .0 in
+      let e = sym (c .before .before .before .before .before .first-word .ensures) ∙ c .before .before .before .w .given .1 in
+      let sb = c .before .before .before .before .before .before .branches .inv .0 in
+      let marked = alts.head-marked L W e sb in
+      sym (length-take-le _ _ (marked .fits))
+
+  branches-flat-requires : branches-lts.Need-flat-requires (branches-claims t) (branches-at t) branches.Post branches-Inv-loop branches-μ-loop branches-Inv-branches branches-μ-branches
+  branches-flat-requires c κs =
+      let L = c .before .before .before .before .before .before .branches .bs .now in
+      let W = c .before .before .before .w .given .0 .0 in
+      let e = sym (c .before .before .before .before .before .first-word .ensures) ∙ c .before .before .before .w .given .1 in
+      let sb = c .before .before .before .before .before .before .branches .inv .0 in
+      let marked = alts.head-marked L W e sb in
+      marked .inside
+
+  branches-enum-known-got : branches-lts.Need-enum-known-got (branches-claims t) (branches-at t) branches.Post branches-Inv-loop branches-μ-loop branches-Inv-branches branches-μ-branches
+  branches-enum-known-got c = search needs
+
+  branches-sub-used : branches-lts.Need-sub-used (branches-claims t) (branches-at t) branches.Post branches-Inv-loop branches-μ-loop branches-Inv-branches branches-μ-branches
+  branches-sub-used c =
+      let M = c .before .before .before .before .before .before .before .before .before .before .before .before .before .before .args .mem .now in
+      let fits = sym (c .before .got .given .1) ∙ c .before .before .before .flat .ensures in
+      left-fits short _ M _ fits
+
+  branches-sub-tail : branches-lts.Need-sub-tail (branches-claims t) (branches-at t) branches.Post branches-Inv-loop branches-μ-loop branches-Inv-branches branches-μ-branches
+  branches-sub-tail c = search needs
+
+  branches-part-tail-start : branches-lts.Need-part-tail-start (branches-claims t) (branches-at t) branches.Post branches-Inv-loop branches-μ-loop branches-Inv-branches branches-μ-branches
+  branches-part-tail-start c = search needs
+
+  branches-part-tail-end : branches-lts.Need-part-tail-end (branches-claims t) (branches-at t) branches.Post branches-Inv-loop branches-μ-loop branches-Inv-branches branches-μ-branches
+  branches-part-tail-end c = search needs
+
+  branches-loop-holds : branches-lts.Need-loop-holds (branches-claims t) (branches-at t) branches.Post branches-Inv-loop branches-μ-loop branches-Inv-branches branches-μ-branches
+  branches-loop-holds c = refl
+
+  branches-sub-check : branches-lts.Need-sub-check (branches-claims t) (branches-at t) branches.Post branches-Inv-loop branches-μ-loop branches-Inv-branches branches-μ-branches
+  branches-sub-check c = search needs
+
+  branches-part-check-start : branches-lts.Need-part-check-start (branches-claims t) (branches-at t) branches.Post branches-Inv-loop branches-μ-loop branches-Inv-branches branches-μ-branches
+  branches-part-check-start c = search needs
+
+  branches-part-check-end : branches-lts.Need-part-check-end (branches-claims t) (branches-at t) branches.Post branches-Inv-loop branches-μ-loop branches-Inv-branches branches-μ-branches
+  branches-part-check-end c = search needs
+
+  branches-sub-check-2 : branches-lts.Need-sub-check-2 (branches-claims t) (branches-at t) branches.Post branches-Inv-loop branches-μ-loop branches-Inv-branches branches-μ-branches
+  branches-sub-check-2 c = search needs
+
+  branches-part-check-start-2 : branches-lts.Need-part-check-start-2 (branches-claims t) (branches-at t) branches.Post branches-Inv-loop branches-μ-loop branches-Inv-branches branches-μ-branches
+  branches-part-check-start-2 c = search needs
+
+  branches-part-check-end-2 : branches-lts.Need-part-check-end-2 (branches-claims t) (branches-at t) branches.Post branches-Inv-loop branches-μ-loop branches-Inv-branches branches-μ-branches
+  branches-part-check-end-2 c = search needs
+
+  branches-check-requires : branches-lts.Need-check-requires (branches-claims t) (branches-at t) branches.Post branches-Inv-loop branches-μ-loop branches-Inv-branches branches-μ-branches
+  branches-check-requires c κs =
+      let R = c .before .before .before .before .before .before .before .before .before .before .before .before .before .before .before .before .before .before .before .before .args .rest .now in
+      (omega (arith, length-from 0 R, c .before .before .before .before .before .before .before .before .before .before .before .before .before .before .before .before .before .before .before .before .pre .0), subst Sound (sym (whole R)) (c .before .before .before .before .before .before .before .before .before .before .before .before .before .before .before .before .before .before .before .before .pre .1 .1))
+
+  branches-enum-known-got-2 : branches-lts.Need-enum-known-got-2 (branches-claims t) (branches-at t) branches.Post branches-Inv-loop branches-μ-loop branches-Inv-branches branches-μ-branches
+  branches-enum-known-got-2 c = search needs
+
+  branches-enum-told-2 : branches-lts.Need-enum-told-2 (branches-claims t) (branches-at t) branches.Post branches-Inv-loop branches-μ-loop branches-Inv-branches branches-μ-branches
+  branches-enum-told-2 c = search needs
+
+  branches-add-n : branches-lts.Need-add-n (branches-claims t) (branches-at t) branches.Post branches-Inv-loop branches-μ-loop branches-Inv-branches branches-μ-branches
+  branches-add-n c = search needs
+
+  branches-loop-less : branches-lts.Need-loop-less (branches-claims t) (branches-at t) branches.Post branches-Inv-loop branches-μ-loop branches-Inv-branches branches-μ-branches
+  branches-loop-less c = search needs
+
+  branches-loop-again : branches-lts.Need-loop-again (branches-claims t) (branches-at t) branches.Post branches-Inv-loop branches-μ-loop branches-Inv-branches branches-μ-branches
+  branches-loop-again c =
+      let p = prog (c .before .before .before .before .before .before .before .before .before .before .before .before .before .before .before .before .before .before .before .before .before .before .before .args .rest .now) in
+      let M = c .before .before .before .before .before .before .before .before .before .before .before .before .before .before .before .before .before .before .before .before .before .before .before .args .mem .now in
+      let N = from (length M - c .before .before .before .before .before .before .before .before .before .before .got .given .0 .0) M in
+      let T = c .before .before .before .before .before .before .before .before .before .before .before .before .before .before .before .before .before .before .before .before .before .before .before .args .to in
+      let R = c .before .before .before .before .before .before .before .before .before .before .before .before .before .before .before .before .before .before .before .before .before .before .before .args .rest .now in
+      let tried = c .before .before .check .ensures ∙ ap (λ (l : List ℕ). answer (forward (prog l) (from (c .before .before .before .before .before .before .before .loop .n) N))) (whole R) in
+      c .before .before .before .before .before .before .before .loop .inv ∙ ranges.range-next p N _ (c .before .before .before .before .before .before .before .loop .n) T (to-end (c .before .before .before .before .before .before .before .loop .n) N) (c .before .before .before .before .before .before .loop-test .taken) (c .before .before .before .before .before .if1 .left) (sym (c .enum-told2 .given .1) ∙ tried)
+
+  branches-enum-told-3 : branches-lts.Need-enum-told-3 (branches-claims t) (branches-at t) branches.Post branches-Inv-loop branches-μ-loop branches-Inv-branches branches-μ-branches
+  branches-enum-told-3 c = search needs
+
+  branches-mul-bs : branches-lts.Need-mul-bs (branches-claims t) (branches-at t) branches.Post branches-Inv-loop branches-μ-loop branches-Inv-branches branches-μ-branches
+  branches-mul-bs c = search needs
+
+  branches-sub-bs-2 : branches-lts.Need-sub-bs-2 (branches-claims t) (branches-at t) branches.Post branches-Inv-loop branches-μ-loop branches-Inv-branches branches-μ-branches
+  branches-sub-bs-2 c =
+      let L = c .before .before .before .before .before .before .before .before .branches .bs .now in
+      let W = c .before .before .before .before .before .w .given .0 .0 in
+      let e = sym (c .before .before .before .before .before .before .before .first-word .ensures) ∙ c .before .before .before .before .before .w .given .1 in
+      let sb = c .before .before .before .before .before .before .before .before .branches .inv .0 in
+      let marked = alts.head-marked L W e sb in
+      marked .fits
+
+  branches-part-bs-start-2 : branches-lts.Need-part-bs-start-2 (branches-claims t) (branches-at t) branches.Post branches-Inv-loop branches-μ-loop branches-Inv-branches branches-μ-branches
+  branches-part-bs-start-2 c =
+      let L = c .before .before .before .before .before .before .before .before .branches .bs .now in
+      let W = c .before .before .before .before .before .w .given .0 .0 in
+      let e = sym (c .before .before .before .before .before .before .before .first-word .ensures) ∙ c .before .before .before .before .before .w .given .1 in
+      let sb = c .before .before .before .before .before .before .before .before .branches .inv .0 in
+      let marked = alts.head-marked L W e sb in
+      marked .fits
+
+  branches-part-bs-end-2 : branches-lts.Need-part-bs-end-2 (branches-claims t) (branches-at t) branches.Post branches-Inv-loop branches-μ-loop branches-Inv-branches branches-μ-branches
+  branches-part-bs-end-2 c = search needs
+
+  branches-branches-less : branches-lts.Need-branches-less (branches-claims t) (branches-at t) branches.Post branches-Inv-loop branches-μ-loop branches-Inv-branches branches-μ-branches
+  branches-branches-less c =
+      let L = c .before .before .before .before .before .before .before .before .before .branches .bs .now in
+      let W = c .before .before .before .before .before .before .w .given .0 .0 in
+      let e = sym (c .before .before .before .before .before .before .before .before .first-word .ensures) ∙ c .before .before .before .before .before .before .w .given .1 in
+      omega (arith, word-pos L W e, length-from 1 L, length-from (W / 256 % 256) (from 1 L))
+
+  branches-branches-again : branches-lts.Need-branches-again (branches-claims t) (branches-at t) branches.Post branches-Inv-loop branches-μ-loop branches-Inv-branches branches-μ-branches
+  branches-branches-again c =
+      let L = c .before .before .before .before .before .before .before .before .before .branches .bs .now in
+      let W = c .before .before .before .before .before .before .w .given .0 .0 in
+      let e = sym (c .before .before .before .before .before .before .before .before .first-word .ensures) ∙ c .before .before .before .before .before .before .w .given .1 in
+      let sb = c .before .before .before .before .before .before .before .before .before .branches .inv .0 in
+      let p = prog (c .before .before .before .before .before .before .before .before .before .before .before .before .before .args .rest .now) in
+      let q = range (c .before .before .before .before .before .before .before .before .before .before .before .before .before .args .from) (c .before .before .before .before .before .before .before .before .before .before .before .before .before .args .to) ▹ p in
+      let M = c .before .before .before .before .before .before .before .before .before .before .before .before .before .args .mem .now in
+      let T = c .before .before .before .before .before .before .before .before .before .before .before .before .before .args .to in (
+        alts.head-after L W e sb,
+        c .before .before .before .before .before .before .before .before .before .branches .inv .1 ∙ ⊎-elim
+            (λ w. alts.head-skip L W e sb short q M _ _ (to-end _ M) (sym (w .1 .given .1) ∙ c .before .before .flat .ensures) (w .4 .inv ∙ run-range-empty p _ short (w .4 .n) T (w .5 .left)))
+            (λ v. ⊎-elim
+            (λ w. alts.head-skip L W e sb short q M _ _ (to-end _ M) (sym (w .1 .given .1) ∙ c .before .before .flat .ensures) (w .4 .inv ∙ ranges.range-short p _ (w .4 .n) T (w .6 .taken)))
+            (λ w. alts.head-none L W e sb short q M (sym (w .1 .given .1) ∙ c .before .before .flat .ensures)) v)
+            (c .before .match2 .came),
+      )
+
+  branches-returns : branches-lts.Need-returns (branches-claims t) (branches-at t) branches.Post branches-Inv-loop branches-μ-loop branches-Inv-branches branches-μ-branches
+  branches-returns c =
+      let L = c .before .before .before .branches .bs .now in
+      let p = prog (c .before .before .before .before .before .before .before .args .rest .now) in
+      let q = range (c .before .before .before .before .before .before .before .args .from) (c .before .before .before .before .before .before .before .args .to) ▹ p in
+      let M = c .before .before .before .before .before .before .before .args .mem .now in
+      ap answer (sym (c .before .before .before .branches .inv .1 ∙ alts.heads-over short L q M (sym (c .before .before .first-word .ensures) ∙ c .enum-told .given .1)))
+
+  branches-returns-2 : branches-lts.Need-returns-2 (branches-claims t) (branches-at t) branches.Post branches-Inv-loop branches-μ-loop branches-Inv-branches branches-μ-branches
+  branches-returns-2 c =
+      let L = c .before .before .before .before .before .before .before .before .before .before .before .before .before .before .before .before .before .before .before .before .branches .bs .now in
+      let W = c .before .before .before .before .before .before .before .before .before .before .before .before .before .before .before .before .before .w .given .0 .0 in
+      let e = sym (c .before .before .before .before .before .before .before .before .before .before .before .before .before .before .before .before .before .before .before .first-word .ensures) ∙ c .before .before .before .before .before .before .before .before .before .before .before .before .before .before .before .before .before .w .given .1 in
+      let sb = c .before .before .before .before .before .before .before .before .before .before .before .before .before .before .before .before .before .before .before .before .branches .inv .0 in
+      let p = prog (c .before .before .before .before .before .before .before .before .before .before .before .before .before .before .before .before .before .before .before .before .before .before .before .before .args .rest .now) in
+      let q = range (c .before .before .before .before .before .before .before .before .before .before .before .before .before .before .before .before .before .before .before .before .before .before .before .before .args .from) (c .before .before .before .before .before .before .before .before .before .before .before .before .before .before .before .before .before .before .before .before .before .before .before .before .args .to) ▹ p in
+      let M = c .before .before .before .before .before .before .before .before .before .before .before .before .before .before .before .before .before .before .before .before .before .before .before .before .args .mem .now in
+      let fits = sym (c .before .before .before .before .before .before .before .before .before .before .before .got .given .1) ∙ c .before .before .before .before .before .before .before .before .before .before .before .before .before .flat .ensures in
+      let N = from (length M - c .before .before .before .before .before .before .before .before .before .before .before .got .given .0 .0) M in
+      let T = c .before .before .before .before .before .before .before .before .before .before .before .before .before .before .before .before .before .before .before .before .before .before .before .before .args .to in
+      let R = c .before .before .before .before .before .before .before .before .before .before .before .before .before .before .before .before .before .before .before .before .before .before .before .before .args .rest .now in
+      let tried = c .before .before .before .check .ensures ∙ ap (λ (l : List ℕ). answer (forward (prog l) (from (c .before .before .before .before .before .before .before .before .loop .n) N))) (whole R) in
+      alts.head-take L W e sb short q M _ _ (to-end _ M) fits _
+      (ranges.range-take p N _ (c .before .before .before .before .before .before .before .before .loop .n) T (to-end (c .before .before .before .before .before .before .before .before .loop .n) N) (c .before .before .before .before .before .before .before .loop-test .taken) (c .before .before .before .before .before .before .if1 .left) _ (sym (c .before .got2 .given .1) ∙ tried) ∙ ap answer (sym (c .before .before .before .before .before .before .before .before .loop .inv)))
+      ∙ ap answer (sym (c .before .before .before .before .before .before .before .before .before .before .before .before .before .before .before .before .before .before .before .before .branches .inv .1))
+
+  check-loop-holds : check-lts.Need-loop-holds (check-claims t) (check-at t) check.Post check-Inv-loop check-μ-loop
+  check-loop-holds c = search needs
+
+  check-first-word-requires : check-lts.Need-first-word-requires (check-claims t) (check-at t) check.Post check-Inv-loop check-μ-loop
+  check-first-word-requires c κs = search needs
+
+  check-enum-known-w : check-lts.Need-enum-known-w (check-claims t) (check-at t) check.Post check-Inv-loop check-μ-loop
+  check-enum-known-w c = search needs
+
+  check-enum-told : check-lts.Need-enum-told (check-claims t) (check-at t) check.Post check-Inv-loop check-μ-loop
+  check-enum-told c = search needs
+
+  check-returns : check-lts.Need-returns (check-claims t) (check-at t) check.Post check-Inv-loop check-μ-loop
+  check-returns c =
+      let inv = c .before .before .before .loop .inv .2 in
+      let L = c .before .before .before .loop .ns .now in
+      let M = c .before .before .before .loop .m .now in
+      ap answer (sym (inv ∙ turns.end-left short L M (sym (c .before .before .first-word .ensures) ∙ c .enum-told .given .1)))
+
+  check-sub-ns : check-lts.Need-sub-ns (check-claims t) (check-at t) check.Post check-Inv-loop check-μ-loop
+  check-sub-ns c =
+      let L = c .before .before .before .before .loop .ns .now in
+      let W = c .before .w .given .0 .0 in
+      let e = sym (c .before .before .before .first-word .ensures) ∙ c .before .w .given .1 in
+      word-pos L W e
+
+  check-part-ns-start : check-lts.Need-part-ns-start (check-claims t) (check-at t) check.Post check-Inv-loop check-μ-loop
+  check-part-ns-start c =
+      let L = c .before .before .before .before .loop .ns .now in
+      let W = c .before .w .given .0 .0 in
+      let e = sym (c .before .before .before .first-word .ensures) ∙ c .before .w .given .1 in
+      word-pos L W e
+
+  check-part-ns-end : check-lts.Need-part-ns-end (check-claims t) (check-at t) check.Post check-Inv-loop check-μ-loop
+  check-part-ns-end c = search needs
+
+  check-tests-byte-requires : check-lts.Need-tests-byte-requires (check-claims t) (check-at t) check.Post check-Inv-loop check-μ-loop
+  check-tests-byte-requires c κs = search needs
+
+  check-first-byte-requires : check-lts.Need-first-byte-requires (check-claims t) (check-at t) check.Post check-Inv-loop check-μ-loop
+  check-first-byte-requires c κs = search needs
+
+  check-enum-known-b : check-lts.Need-enum-known-b (check-claims t) (check-at t) check.Post check-Inv-loop check-μ-loop
+  check-enum-known-b c = search needs
+
+  check-enum-told-2 : check-lts.Need-enum-told-2 (check-claims t) (check-at t) check.Post check-Inv-loop check-μ-loop
+  check-enum-told-2 c = search needs
+
+  check-returns-2 : check-lts.Need-returns-2 (check-claims t) (check-at t) check.Post check-Inv-loop check-μ-loop
+  check-returns-2 c =
+      let inv = c .before .before .before .before .before .before .before .before .before .before .loop .inv .2 in
+      let L = c .before .before .before .before .before .before .before .before .before .before .loop .ns .now in
+      let W = c .before .before .before .before .before .before .before .w .given .0 .0 in
+      let e = sym (c .before .before .before .before .before .before .before .before .before .first-word .ensures) ∙ c .before .before .before .before .before .before .before .w .given .1 in
+      let M = c .before .before .before .before .before .before .before .before .before .before .loop .m .now in
+      let test = is-test W (sym (c .before .before .before .if1 .taken) ∙ c .before .before .before .before .tests-byte .ensures) in
+      ap answer (sym (inv ∙ turns.stop-short L W e short M (test .0) (test .1) (sym (c .before .before .first-byte .ensures) ∙ c .enum-told2 .given .1)))
+
+  check-sub-m : check-lts.Need-sub-m (check-claims t) (check-at t) check.Post check-Inv-loop check-μ-loop
+  check-sub-m c =
+      let M = c .before .before .before .before .before .before .before .before .before .before .before .loop .m .now in
+      let B = c .before .b .given .0 .0 in
+      let f = sym (c .before .before .before .first-byte .ensures) ∙ c .before .b .given .1 in
+      byte-pos M B f
+
+  check-part-m-start : check-lts.Need-part-m-start (check-claims t) (check-at t) check.Post check-Inv-loop check-μ-loop
+  check-part-m-start c =
+      let M = c .before .before .before .before .before .before .before .before .before .before .before .loop .m .now in
+      let B = c .before .b .given .0 .0 in
+      let f = sym (c .before .before .before .first-byte .ensures) ∙ c .before .b .given .1 in
+      byte-pos M B f
+
+  check-part-m-end : check-lts.Need-part-m-end (check-claims t) (check-at t) check.Post check-Inv-loop check-μ-loop
+  check-part-m-end c = search needs
+
+  check-word-passes-requires : check-lts.Need-word-passes-requires (check-claims t) (check-at t) check.Post check-Inv-loop check-μ-loop
+  check-word-passes-requires c κs = search needs
+
+  check-loop-less : check-lts.Need-loop-less (check-claims t) (check-at t) check.Post check-Inv-loop check-μ-loop
+  check-loop-less c =
+      let L = c .before .before .before .before .before .before .before .before .before .before .before .before .before .before .loop .ns .now in
+      let W = c .before .before .before .before .before .before .before .before .before .before .before .w .given .0 .0 in
+      let e = sym (c .before .before .before .before .before .before .before .before .before .before .before .before .before .first-word .ensures) ∙ c .before .before .before .before .before .before .before .before .before .before .before .w .given .1 in
+      omega (arith, word-pos L W e, length-from 1 L, c .before .before .before .before .before .before .before .before .before .before .before .before .before .before .loop .inv .0)
+
+  check-loop-again : check-lts.Need-loop-again (check-claims t) (check-at t) check.Post check-Inv-loop check-μ-loop
+  check-loop-again c =
+      let L = c .before .before .before .before .before .before .before .before .before .before .before .before .before .before .loop .ns .now in
+      let W = c .before .before .before .before .before .before .before .before .before .before .before .w .given .0 .0 in
+      let e = sym (c .before .before .before .before .before .before .before .before .before .before .before .before .before .first-word .ensures) ∙ c .before .before .before .before .before .before .before .before .before .before .before .w .given .1 in
+      let test = is-test W (sym (c .before .before .before .before .before .before .before .if1 .taken) ∙ c .before .before .before .before .before .before .before .before .tests-byte .ensures) in
+      let sound = c .before .before .before .before .before .before .before .before .before .before .before .before .before .before .loop .inv .1 in
+      let inv = c .before .before .before .before .before .before .before .before .before .before .before .before .before .before .loop .inv .2 in
+      let M = c .before .before .before .before .before .before .before .before .before .before .before .before .before .before .loop .m .now in
+      let B = c .before .before .before .before .b .given .0 .0 in
+      let f = sym (c .before .before .before .before .before .before .first-byte .ensures) ∙ c .before .before .before .before .b .given .1 in
+      (omega (arith, word-pos L W e, length-from 1 L, c .before .before .before .before .before .before .before .before .before .before .before .before .before .before .loop .inv .0), turns.tail-sound L W e (test .1) sound, inv ∙ turns.turn-one L W e short M _ (to-end 1 M) (test .0) B (test .1) f (passes-as W B (test .0) (test .1) (sym (c .if2 .taken) ∙ c .before .word-passes .ensures)))
+
+  check-returns-3 : check-lts.Need-returns-3 (check-claims t) (check-at t) check.Post check-Inv-loop check-μ-loop
+  check-returns-3 c =
+      let inv = c .before .before .before .before .before .before .before .before .before .before .before .before .before .before .loop .inv .2 in
+      let L = c .before .before .before .before .before .before .before .before .before .before .before .before .before .before .loop .ns .now in
+      let W = c .before .before .before .before .before .before .before .before .before .before .before .w .given .0 .0 in
+      let e = sym (c .before .before .before .before .before .before .before .before .before .before .before .before .before .first-word .ensures) ∙ c .before .before .before .before .before .before .before .before .before .before .before .w .given .1 in
+      let M = c .before .before .before .before .before .before .before .before .before .before .before .before .before .before .loop .m .now in
+      let test = is-test W (sym (c .before .before .before .before .before .before .before .if1 .taken) ∙ c .before .before .before .before .before .before .before .before .tests-byte .ensures) in
+      let B = c .before .before .before .before .b .given .0 .0 in
+      let f = sym (c .before .before .before .before .before .before .first-byte .ensures) ∙ c .before .before .before .before .b .given .1 in
+      ap answer (sym (inv ∙ turns.stop-one L W e short M (test .0) B (test .1) f (passes-as W B (test .0) (test .1) (sym (c .if2 .left) ∙ c .before .word-passes .ensures))))
+
+  check-cast-n : check-lts.Need-cast-n (check-claims t) (check-at t) check.Post check-Inv-loop check-μ-loop
+  check-cast-n c = search needs
+
+  check-returns-4 : check-lts.Need-returns-4 (check-claims t) (check-at t) check.Post check-Inv-loop check-μ-loop
+  check-returns-4 c =
+      let inv = c .before .before .before .before .before .before .before .before .before .loop .inv .2 in
+      let L = c .before .before .before .before .before .before .before .before .before .loop .ns .now in
+      let W = c .before .before .before .before .before .before .w .given .0 .0 in
+      let e = sym (c .before .before .before .before .before .before .before .before .first-word .ensures) ∙ c .before .before .before .before .before .before .w .given .1 in
+      let M = c .before .before .before .before .before .before .before .before .before .loop .m .now in
+      let kind = kind-jump W (c .before .if3 .taken) in
+      ap answer (sym (inv ∙ turns.stop-jump L W e short M _ kind (c .if4 .taken)))
+
+  check-sub-m-2 : check-lts.Need-sub-m-2 (check-claims t) (check-at t) check.Post check-Inv-loop check-μ-loop
+  check-sub-m-2 c = search needs
+
+  check-part-m-start-2 : check-lts.Need-part-m-start-2 (check-claims t) (check-at t) check.Post check-Inv-loop check-μ-loop
+  check-part-m-start-2 c = search needs
+
+  check-part-m-end-2 : check-lts.Need-part-m-end-2 (check-claims t) (check-at t) check.Post check-Inv-loop check-μ-loop
+  check-part-m-end-2 c = search needs
+
+  check-loop-less-2 : check-lts.Need-loop-less-2 (check-claims t) (check-at t) check.Post check-Inv-loop check-μ-loop
+  check-loop-less-2 c =
+      let L = c .before .before .before .before .before .before .before .before .before .before .loop .ns .now in
+      let W = c .before .before .before .before .before .before .before .w .given .0 .0 in
+      let e = sym (c .before .before .before .before .before .before .before .before .before .first-word .ensures) ∙ c .before .before .before .before .before .before .before .w .given .1 in
+      omega (arith, word-pos L W e, length-from 1 L, c .before .before .before .before .before .before .before .before .before .before .loop .inv .0)
+
+  check-loop-again-2 : check-lts.Need-loop-again-2 (check-claims t) (check-at t) check.Post check-Inv-loop check-μ-loop
+  check-loop-again-2 c =
+      let L = c .before .before .before .before .before .before .before .before .before .before .loop .ns .now in
+      let W = c .before .before .before .before .before .before .before .w .given .0 .0 in
+      let e = sym (c .before .before .before .before .before .before .before .before .before .first-word .ensures) ∙ c .before .before .before .before .before .before .before .w .given .1 in
+      let kind = kind-jump W (c .before .before .if3 .taken) in
+      let sound = c .before .before .before .before .before .before .before .before .before .before .loop .inv .1 in
+      let inv = c .before .before .before .before .before .before .before .before .before .before .loop .inv .2 in
+      let M = c .before .before .before .before .before .before .before .before .before .before .loop .m .now in
+      (omega (arith, word-pos L W e, length-from 1 L, c .before .before .before .before .before .before .before .before .before .before .loop .inv .0), turns.tail-sound L W e kind sound, inv ∙ turns.turn-jump L W e short M _ _ (to-end _ M) kind (c .before .if4 .left))
+
+  check-sub-choices : check-lts.Need-sub-choices (check-claims t) (check-at t) check.Post check-Inv-loop check-μ-loop
+  check-sub-choices c = search needs
+
+  check-part-choices-start : check-lts.Need-part-choices-start (check-claims t) (check-at t) check.Post check-Inv-loop check-μ-loop
+  check-part-choices-start c = search needs
+
+  check-part-choices-end : check-lts.Need-part-choices-end (check-claims t) (check-at t) check.Post check-Inv-loop check-μ-loop
+  check-part-choices-end c = search needs
+
+  check-sub-choices-2 : check-lts.Need-sub-choices-2 (check-claims t) (check-at t) check.Post check-Inv-loop check-μ-loop
+  check-sub-choices-2 c = search needs
+
+  check-part-choices-start-2 : check-lts.Need-part-choices-start-2 (check-claims t) (check-at t) check.Post check-Inv-loop check-μ-loop
+  check-part-choices-start-2 c = search needs
+
+  check-part-choices-end-2 : check-lts.Need-part-choices-end-2 (check-claims t) (check-at t) check.Post check-Inv-loop check-μ-loop
+  check-part-choices-end-2 c = search needs
+
+  check-choices-requires : check-lts.Need-choices-requires (check-claims t) (check-at t) check.Post check-Inv-loop check-μ-loop
+  check-choices-requires c κs =
+      let L = c .before .before .before .before .before .before .before .before .before .before .loop .ns .now in
+      let W = c .before .before .before .before .before .before .before .w .given .0 .0 in
+      let e = sym (c .before .before .before .before .before .before .before .before .before .first-word .ensures) ∙ c .before .before .before .before .before .before .before .w .given .1 in
+      let sound = c .before .before .before .before .before .before .before .before .before .before .loop .inv .1 in
+      (omega (arith, word-pos L W e, length-from 1 L, c .before .before .before .before .before .before .before .before .before .before .loop .inv .0, length-from 0 (from 1 L), c .before .before .before .before .before .before .before .before .before .before .before .before .before .pre .0), (subst Sound (sym (word-whole L W e)) sound, turns.choice-kind L W e sound (sym (c .before .before .before .if1 .left) ∙ c .before .before .before .before .tests-byte .ensures) (c .before .before .if3 .left)))
+
+  check-returns-5 : check-lts.Need-returns-5 (check-claims t) (check-at t) check.Post check-Inv-loop check-μ-loop
+  check-returns-5 c =
+      let L = c .before .before .before .before .before .before .before .before .before .before .before .loop .ns .now in
+      let W = c .before .before .before .before .before .before .before .before .w .given .0 .0 in
+      let e = sym (c .before .before .before .before .before .before .before .before .before .before .first-word .ensures) ∙ c .before .before .before .before .before .before .before .before .w .given .1 in
+      let M = c .before .before .before .before .before .before .before .before .before .before .before .loop .m .now in
+      let inv = c .before .before .before .before .before .before .before .before .before .before .before .loop .inv .2 in
+      c .choices .ensures ∙ ap₂ (λ (x y : List ℕ). answer (forward (prog x) y)) (word-whole L W e) (whole M) ∙ ap answer (sym inv)
+
+  choices-cast-from : choices-lts.Need-cast-from (choices-claims t) (choices-at t) choices.Post
+  choices-cast-from c = search needs
+
+  choices-cast-to : choices-lts.Need-cast-to (choices-claims t) (choices-at t) choices.Post
+  choices-cast-to c = search needs
+
+  choices-sub-jumps : choices-lts.Need-sub-jumps (choices-claims t) (choices-at t) choices.Post
+  choices-sub-jumps c = search needs
+
+  choices-part-jumps-start : choices-lts.Need-part-jumps-start (choices-claims t) (choices-at t) choices.Post
+  choices-part-jumps-start c = search needs
+
+  choices-part-jumps-end : choices-lts.Need-part-jumps-end (choices-claims t) (choices-at t) choices.Post
+  choices-part-jumps-end c = search needs
+
+  choices-sub-jumps-2 : choices-lts.Need-sub-jumps-2 (choices-claims t) (choices-at t) choices.Post
+  choices-sub-jumps-2 c = search needs
+
+  choices-part-jumps-start-2 : choices-lts.Need-part-jumps-start-2 (choices-claims t) (choices-at t) choices.Post
+  choices-part-jumps-start-2 c = search needs
+
+  choices-part-jumps-end-2 : choices-lts.Need-part-jumps-end-2 (choices-claims t) (choices-at t) choices.Post
+  choices-part-jumps-end-2 c = search needs
+
+  choices-jumps-requires : choices-lts.Need-jumps-requires (choices-claims t) (choices-at t) choices.Post
+  choices-jumps-requires c κs =
+      let R = c .before .before .before .before .before .args .rest .now in
+      let W = c .before .before .before .before .before .args .w in
+      let sound = c .before .before .before .before .before .pre .1 .0 in
+      (omega (arith, length-from 0 R, c .before .before .before .before .before .pre .0), choice.range-after W R (c .before .before .if1 .taken) sound)
+
+  choices-returns : choices-lts.Need-returns (choices-claims t) (choices-at t) choices.Post
+  choices-returns c =
+      let W = c .before .before .before .before .before .before .args .w in
+      let R = c .before .before .before .before .before .before .args .rest .now in
+      let M = c .before .before .before .before .before .before .args .mem .now in
+      c .jumps .ensures ∙ ap answer (choice.range-alone W R (c .before .before .before .if1 .taken) short M _ (whole M))
+
+  choices-cast-count : choices-lts.Need-cast-count (choices-claims t) (choices-at t) choices.Post
+  choices-cast-count c = search needs
+
+  choices-mul-after : choices-lts.Need-mul-after (choices-claims t) (choices-at t) choices.Post
+  choices-mul-after c = search needs
+
+  choices-sub-after : choices-lts.Need-sub-after (choices-claims t) (choices-at t) choices.Post
+  choices-sub-after c =
+      let W = c .before .before .before .args .w in
+      let R = c .before .before .before .args .rest .now in
+      let k = choice.is-alt W (c .before .before .before .pre .1 .1) (c .if1 .left) in
+      let sound = c .before .before .before .pre .1 .0 in
+      let opened = choice.opened W R k sound in
+      opened .fits
+
+  choices-part-after-start : choices-lts.Need-part-after-start (choices-claims t) (choices-at t) choices.Post
+  choices-part-after-start c =
+      let W = c .before .before .before .args .w in
+      let R = c .before .before .before .args .rest .now in
+      let k = choice.is-alt W (c .before .before .before .pre .1 .1) (c .if1 .left) in
+      let sound = c .before .before .before .pre .1 .0 in
+      let opened = choice.opened W R k sound in
+      opened .fits
+
+  choices-part-after-end : choices-lts.Need-part-after-end (choices-claims t) (choices-at t) choices.Post
+  choices-part-after-end c = search needs
+
+  choices-first-word-requires : choices-lts.Need-first-word-requires (choices-claims t) (choices-at t) choices.Post
+  choices-first-word-requires c κs = search needs
+
+  choices-enum-known-x : choices-lts.Need-enum-known-x (choices-claims t) (choices-at t) choices.Post
+  choices-enum-known-x c = search needs
+
+  choices-cast-from-2 : choices-lts.Need-cast-from-2 (choices-claims t) (choices-at t) choices.Post
+  choices-cast-from-2 c = search needs
+
+  choices-cast-to-2 : choices-lts.Need-cast-to-2 (choices-claims t) (choices-at t) choices.Post
+  choices-cast-to-2 c = search needs
+
+  choices-slice-aggregate-branches : choices-lts.Need-slice-aggregate-branches (choices-claims t) (choices-at t) choices.Post
+  choices-slice-aggregate-branches c =
+      let W = c .before .before .before .before .before .before .before .before .before .before .args .w in
+      let R = c .before .before .before .before .before .before .before .before .before .before .args .rest .now in
+      let k = choice.is-alt W (c .before .before .before .before .before .before .before .before .before .before .pre .1 .1) (c .before .before .before .before .before .before .before .if1 .left) in
+      let sound = c .before .before .before .before .before .before .before .before .before .before .pre .1 .0 in
+      let opened = choice.opened W R k sound in
+      sym (length-take-le _ _ (opened .fits))
+
+  choices-sub-branches : choices-lts.Need-sub-branches (choices-claims t) (choices-at t) choices.Post
+  choices-sub-branches c =
+      let W = c .before .before .before .before .before .before .before .before .before .before .args .w in
+      let R = c .before .before .before .before .before .before .before .before .before .before .args .rest .now in
+      let A = from (W / 256 % 65536) R in
+      let X = c .before .before .before .x .given .0 .0 in
+      let e = sym (c .before .before .before .before .before .first-word .ensures) ∙ c .before .before .before .x .given .1 in
+      word-pos A X e
+
+  choices-part-branches-start : choices-lts.Need-part-branches-start (choices-claims t) (choices-at t) choices.Post
+  choices-part-branches-start c =
+      let W = c .before .before .before .before .before .before .before .before .before .before .args .w in
+      let R = c .before .before .before .before .before .before .before .before .before .before .args .rest .now in
+      let A = from (W / 256 % 65536) R in
+      let X = c .before .before .before .x .given .0 .0 in
+      let e = sym (c .before .before .before .before .before .first-word .ensures) ∙ c .before .before .before .x .given .1 in
+      word-pos A X e
+
+  choices-part-branches-end : choices-lts.Need-part-branches-end (choices-claims t) (choices-at t) choices.Post
+  choices-part-branches-end c = search needs
+
+  choices-sub-branches-2 : choices-lts.Need-sub-branches-2 (choices-claims t) (choices-at t) choices.Post
+  choices-sub-branches-2 c = search needs
+
+  choices-part-branches-start-2 : choices-lts.Need-part-branches-start-2 (choices-claims t) (choices-at t) choices.Post
+  choices-part-branches-start-2 c = search needs
+
+  choices-part-branches-end-2 : choices-lts.Need-part-branches-end-2 (choices-claims t) (choices-at t) choices.Post
+  choices-part-branches-end-2 c = search needs
+
+  choices-branches-requires : choices-lts.Need-branches-requires (choices-claims t) (choices-at t) choices.Post
+  choices-branches-requires c κs =
+      let W = c .before .before .before .before .before .before .before .before .before .before .before .before .args .w in
+      let R = c .before .before .before .before .before .before .before .before .before .before .before .before .args .rest .now in
+      let A = from (W / 256 % 65536) R in
+      let K = W / 256 % 65536 in
+      let k = choice.is-alt W (c .before .before .before .before .before .before .before .before .before .before .before .before .pre .1 .1) (c .before .before .before .before .before .before .before .before .before .if1 .left) in
+      let sound = c .before .before .before .before .before .before .before .before .before .before .before .before .pre .1 .0 in
+      let opened = choice.opened W R k sound in
+      let X = c .before .before .before .before .before .x .given .0 .0 in
+      let e = sym (c .before .before .before .before .before .before .before .first-word .ensures) ∙ c .before .before .before .before .before .x .given .1 in
+      (omega (arith, length-from 1 A, length-from K R, c .before .before .before .before .before .before .before .before .before .before .before .before .pre .0), (opened .inside, choice.range-sound W R k X e (c .before .before .before .if2 .taken) sound))
+
+  choices-returns-2 : choices-lts.Need-returns-2 (choices-claims t) (choices-at t) choices.Post
+  choices-returns-2 c =
+      let W = c .before .before .before .before .before .before .before .before .before .before .before .before .before .args .w in
+      let R = c .before .before .before .before .before .before .before .before .before .before .before .before .before .args .rest .now in
+      let k = choice.is-alt W (c .before .before .before .before .before .before .before .before .before .before .before .before .before .pre .1 .1) (c .before .before .before .before .before .before .before .before .before .before .if1 .left) in
+      let X = c .before .before .before .before .before .before .x .given .0 .0 in
+      let e = sym (c .before .before .before .before .before .before .before .before .first-word .ensures) ∙ c .before .before .before .before .before .before .x .given .1 in
+      let M = c .before .before .before .before .before .before .before .before .before .before .before .before .before .args .mem .now in
+      c .branches .ensures ∙ ap answer (choice.alt-range W R k X e (c .before .before .before .before .if2 .taken) short M _ (whole M))
+
+  choices-enum-told : choices-lts.Need-enum-told (choices-claims t) (choices-at t) choices.Post
+  choices-enum-told c = search needs
+
+  choices-slice-aggregate-branches-2 : choices-lts.Need-slice-aggregate-branches-2 (choices-claims t) (choices-at t) choices.Post
+  choices-slice-aggregate-branches-2 c =
+      let W = c .before .before .before .before .before .before .before .args .w in
+      let R = c .before .before .before .before .before .before .before .args .rest .now in
+      let k = choice.is-alt W (c .before .before .before .before .before .before .before .pre .1 .1) (c .before .before .before .before .if1 .left) in
+      let sound = c .before .before .before .before .before .before .before .pre .1 .0 in
+      let opened = choice.opened W R k sound in
+      sym (length-take-le _ _ (opened .fits))
+
+  choices-sub-branches-3 : choices-lts.Need-sub-branches-3 (choices-claims t) (choices-at t) choices.Post
+  choices-sub-branches-3 c = search needs
+
+  choices-part-branches-start-3 : choices-lts.Need-part-branches-start-3 (choices-claims t) (choices-at t) choices.Post
+  choices-part-branches-start-3 c = search needs
+
+  choices-part-branches-end-3 : choices-lts.Need-part-branches-end-3 (choices-claims t) (choices-at t) choices.Post
+  choices-part-branches-end-3 c = search needs
+
+  choices-sub-branches-4 : choices-lts.Need-sub-branches-4 (choices-claims t) (choices-at t) choices.Post
+  choices-sub-branches-4 c = search needs
+
+  choices-part-branches-start-4 : choices-lts.Need-part-branches-start-4 (choices-claims t) (choices-at t) choices.Post
+  choices-part-branches-start-4 c = search needs
+
+  choices-part-branches-end-4 : choices-lts.Need-part-branches-end-4 (choices-claims t) (choices-at t) choices.Post
+  choices-part-branches-end-4 c = search needs
+
+  choices-branches-requires-2 : choices-lts.Need-branches-requires-2 (choices-claims t) (choices-at t) choices.Post
+  choices-branches-requires-2 c κs =
+      let W = c .before .before .before .before .before .before .before .before .before .args .w in
+      let R = c .before .before .before .before .before .before .before .before .before .args .rest .now in
+      let A = from (W / 256 % 65536) R in
+      let K = W / 256 % 65536 in
+      let k = choice.is-alt W (c .before .before .before .before .before .before .before .before .before .pre .1 .1) (c .before .before .before .before .before .before .if1 .left) in
+      let sound = c .before .before .before .before .before .before .before .before .before .pre .1 .0 in
+      let opened = choice.opened W R k sound in
+      (omega (arith, length-from 0 A, length-from K R, c .before .before .before .before .before .before .before .before .before .pre .0), (opened .inside, choice.alone-sound W R k sound))
+
+  choices-returns-3 : choices-lts.Need-returns-3 (choices-claims t) (choices-at t) choices.Post
+  choices-returns-3 c =
+      let W = c .before .before .before .before .before .before .before .before .before .before .args .w in
+      let R = c .before .before .before .before .before .before .before .before .before .before .args .rest .now in
+      let k = choice.is-alt W (c .before .before .before .before .before .before .before .before .before .before .pre .1 .1) (c .before .before .before .before .before .before .before .if1 .left) in
+      let M = c .before .before .before .before .before .before .before .before .before .before .args .mem .now in
+      c .branches2 .ensures ∙ ap answer (choice.alt-alone W R k short M _ (whole M))
+
+  jumps-loop-holds : jumps-lts.Need-loop-holds (jumps-claims t) (jumps-at t) jumps.Post jumps-Inv-loop jumps-μ-loop
+  jumps-loop-holds c = refl
+
+  jumps-sub-check : jumps-lts.Need-sub-check (jumps-claims t) (jumps-at t) jumps.Post jumps-Inv-loop jumps-μ-loop
+  jumps-sub-check c = search needs
+
+  jumps-part-check-start : jumps-lts.Need-part-check-start (jumps-claims t) (jumps-at t) jumps.Post jumps-Inv-loop jumps-μ-loop
+  jumps-part-check-start c = search needs
+
+  jumps-part-check-end : jumps-lts.Need-part-check-end (jumps-claims t) (jumps-at t) jumps.Post jumps-Inv-loop jumps-μ-loop
+  jumps-part-check-end c = search needs
+
+  jumps-check-requires : jumps-lts.Need-check-requires (jumps-claims t) (jumps-at t) jumps.Post jumps-Inv-loop jumps-μ-loop
+  jumps-check-requires c κs = search needs
+
+  jumps-enum-known-got : jumps-lts.Need-enum-known-got (jumps-claims t) (jumps-at t) jumps.Post jumps-Inv-loop jumps-μ-loop
+  jumps-enum-known-got c = search needs
+
+  jumps-enum-told : jumps-lts.Need-enum-told (jumps-claims t) (jumps-at t) jumps.Post jumps-Inv-loop jumps-μ-loop
+  jumps-enum-told c = search needs
+
+  jumps-add-n : jumps-lts.Need-add-n (jumps-claims t) (jumps-at t) jumps.Post jumps-Inv-loop jumps-μ-loop
+  jumps-add-n c = search needs
+
+  jumps-loop-less : jumps-lts.Need-loop-less (jumps-claims t) (jumps-at t) jumps.Post jumps-Inv-loop jumps-μ-loop
+  jumps-loop-less c = search needs
+
+  jumps-loop-again : jumps-lts.Need-loop-again (jumps-claims t) (jumps-at t) jumps.Post jumps-Inv-loop jumps-μ-loop
+  jumps-loop-again c =
+      let inv = c .before .before .before .before .before .before .loop .inv in
+      let p = prog (c .before .before .before .before .before .before .before .before .before .args .rest .now) in
+      let M = c .before .before .before .before .before .before .before .before .before .args .mem .now in
+      let N = c .before .before .before .before .before .before .loop .n in
+      let T = c .before .before .before .before .before .before .before .before .before .args .to in
+      inv ∙ ranges.range-next p M _ N T (to-end N M) (c .before .before .before .before .before .if1 .left) (c .before .before .before .before .if2 .left) (sym (c .enum-told .given .1) ∙ c .before .before .check .ensures)
+
+  jumps-returns : jumps-lts.Need-returns (jumps-claims t) (jumps-at t) jumps.Post jumps-Inv-loop jumps-μ-loop
+  jumps-returns c =
+      let inv = c .before .loop .inv in
+      let p = prog (c .before .before .before .before .args .rest .now) in
+      let M = c .before .before .before .before .args .mem .now in
+      let N = c .before .loop .n in
+      let T = c .before .before .before .before .args .to in
+      ap answer (sym (inv ∙ run-range-empty p M short N T (c .if1 .taken)))
+
+  jumps-returns-2 : jumps-lts.Need-returns-2 (jumps-claims t) (jumps-at t) jumps.Post jumps-Inv-loop jumps-μ-loop
+  jumps-returns-2 c =
+      let inv = c .before .before .loop .inv in
+      let p = prog (c .before .before .before .before .before .args .rest .now) in
+      let M = c .before .before .before .before .before .args .mem .now in
+      let N = c .before .before .loop .n in
+      let T = c .before .before .before .before .before .args .to in
+      ap answer (sym (inv ∙ ranges.range-short p M N T (c .if2 .taken)))
+
+  jumps-returns-3 : jumps-lts.Need-returns-3 (jumps-claims t) (jumps-at t) jumps.Post jumps-Inv-loop jumps-μ-loop
+  jumps-returns-3 c =
+      let p = prog (c .before .before .before .before .before .before .before .before .before .before .args .rest .now) in
+      let M = c .before .before .before .before .before .before .before .before .before .before .args .mem .now in
+      let N = c .before .before .before .before .before .before .before .loop .n in
+      let T = c .before .before .before .before .before .before .before .before .before .before .args .to in
+      let inv = c .before .before .before .before .before .before .before .loop .inv in
+      ranges.range-take p M _ N T (to-end N M) (c .before .before .before .before .before .before .if1 .left) (c .before .before .before .before .before .if2 .left) _ (sym (c .before .got .given .1) ∙ c .before .before .before .check .ensures) ∙ ap answer (sym inv)
+
+pub +branches+check+choices+jumps-spec : {M : Type 1} → statement M
++branches+check+choices+jumps-spec =
+    close μ-branches μ-check μ-choices μ-jumps
+    (λ t. branches-lts.spec (branches-claims t) (branches-at t) branches.Post branches-Inv-loop branches-μ-loop branches-Inv-branches branches-μ-branches
+    (branches-branches-holds t) (branches-first-word-requires t) (branches-enum-known-w t) (branches-enum-told t)
+    (branches-sub-bs t) (branches-part-bs-start t) (branches-part-bs-end t) (branches-cast-size t)
+    (branches-slice-aggregate-flat t) (branches-flat-requires t) (branches-enum-known-got t) (branches-sub-used t)
+    (branches-sub-tail t) (branches-part-tail-start t) (branches-part-tail-end t) (branches-loop-holds t)
+    (branches-sub-check t) (branches-part-check-start t) (branches-part-check-end t) (branches-sub-check-2 t)
+    (branches-part-check-start-2 t) (branches-part-check-end-2 t) (branches-check-requires t) (branches-enum-known-got-2 t)
+    (branches-enum-told-2 t) (branches-add-n t) (branches-loop-less t) (branches-loop-again t)
+    (branches-enum-told-3 t) (branches-mul-bs t) (branches-sub-bs-2 t) (branches-part-bs-start-2 t)
+    (branches-part-bs-end-2 t) (branches-branches-less t) (branches-branches-again t) (branches-returns t)
+    (branches-returns-2 t))
+    (λ t. check-lts.spec (check-claims t) (check-at t) check.Post check-Inv-loop check-μ-loop
+    (check-loop-holds t) (check-first-word-requires t) (check-enum-known-w t) (check-enum-told t)
+    (check-returns t) (check-sub-ns t) (check-part-ns-start t) (check-part-ns-end t)
+    (check-tests-byte-requires t) (check-first-byte-requires t) (check-enum-known-b t) (check-enum-told-2 t)
+    (check-returns-2 t) (check-sub-m t) (check-part-m-start t) (check-part-m-end t)
+    (check-word-passes-requires t) (check-loop-less t) (check-loop-again t) (check-returns-3 t)
+    (check-cast-n t) (check-returns-4 t) (check-sub-m-2 t) (check-part-m-start-2 t)
+    (check-part-m-end-2 t) (check-loop-less-2 t) (check-loop-again-2 t) (check-sub-choices t)
+    (check-part-choices-start t) (check-part-choices-end t) (check-sub-choices-2 t) (check-part-choices-start-2 t)
+    (check-part-choices-end-2 t) (check-choices-requires t) (check-returns-5 t))
+    (λ t. choices-lts.spec (choices-claims t) (choices-at t) choices.Post
+    (choices-cast-from t) (choices-cast-to t) (choices-sub-jumps t) (choices-part-jumps-start t)
+    (choices-part-jumps-end t) (choices-sub-jumps-2 t) (choices-part-jumps-start-2 t) (choices-part-jumps-end-2 t)
+    (choices-jumps-requires t) (choices-returns t) (choices-cast-count t) (choices-mul-after t)
+    (choices-sub-after t) (choices-part-after-start t) (choices-part-after-end t) (choices-first-word-requires t)
+    (choices-enum-known-x t) (choices-cast-from-2 t) (choices-cast-to-2 t) (choices-slice-aggregate-branches t)
+    (choices-sub-branches t) (choices-part-branches-start t) (choices-part-branches-end t) (choices-sub-branches-2 t)
+    (choices-part-branches-start-2 t) (choices-part-branches-end-2 t) (choices-branches-requires t) (choices-returns-2 t)
+    (choices-enum-told t) (choices-slice-aggregate-branches-2 t) (choices-sub-branches-3 t) (choices-part-branches-start-3 t)
+    (choices-part-branches-end-3 t) (choices-sub-branches-4 t) (choices-part-branches-start-4 t) (choices-part-branches-end-4 t)
+    (choices-branches-requires-2 t) (choices-returns-3 t))
+    (λ t. jumps-lts.spec (jumps-claims t) (jumps-at t) jumps.Post jumps-Inv-loop jumps-μ-loop
+    (jumps-loop-holds t) (jumps-sub-check t) (jumps-part-check-start t) (jumps-part-check-end t)
+    (jumps-check-requires t) (jumps-enum-known-got t) (jumps-enum-told t) (jumps-add-n t)
+    (jumps-loop-less t) (jumps-loop-again t) (jumps-returns t) (jumps-returns-2 t)
+    (jumps-returns-3 t))

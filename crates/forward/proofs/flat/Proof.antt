@@ -1,0 +1,210 @@
+-- `forward::flat` meets its contract: what fits the whole is what fits what is left. Assumes nothing.
+use mathlib.Core.Path.{_≡_, refl, sym, ap, _∙_}
+use mathlib.Core.Bool.{true}
+use lib.ListN.{length}
+use Rattle.meaning.specs.Choices.{short}
+use Rattle.meaning.specs.Rows.{forward}
+use Rattle.meaning.specs.Words.{prog, plainWords}
+use Rattle.meaning.proofs.KindLaws.{kind-jump}
+use Rattle.steps.specs.Steps.{answer}
+use Rattle.nodes.proofs.WordHeads.{word-pos, to-end, length-from}
+use Rattle.steps.proofs.Heads.{byte-pos}
+use Rattle.steps.proofs.Tests.{passes-as}
+use Rattle.steps.proofs.Turns as turns
+use native.Mathlib.Omega.{arith}
+use borrow.Author.Needs.{needs}
+use Rattle.forward.proofs.flat.Statement.{statement}
+use Rattle.forward.proofs.flat.Tie as tie
+use Rattle.forward.proofs.flat.Reads as reads
+use Rattle.forward.proofs.flat.Lts as lts
+use Rattle.steps.proofs.first_byte.Reads as first-byte-reads
+use Rattle.nodes.proofs.first_word.Reads as first-word-reads
+use Rattle.steps.proofs.word_passes.Reads as word-passes-reads
+
+abbrev Inv-loop : tie.InvT-loop
+Inv-loop branch mem ns₀ m₀ ns m = (plainWords ns ≡ true) × (forward (prog branch) mem ≡ forward (prog ns) m)
+
+abbrev μ-loop : tie.MeasureT-loop
+μ-loop branch mem ns₀ m₀ ns m = length ns
+
+loop-holds : tie.Need-loop-holds Inv-loop μ-loop
+loop-holds c = search needs
+
+first-word-requires : tie.Need-first-word-requires Inv-loop μ-loop
+first-word-requires c κs = search needs
+
+enum-known-w : tie.Need-enum-known-w Inv-loop μ-loop
+enum-known-w c = search needs
+
+enum-told : tie.Need-enum-told Inv-loop μ-loop
+enum-told c = search needs
+
+returns : tie.Need-returns Inv-loop μ-loop
+returns c =
+    let inv = c .before .before .before .loop .inv .1 in
+    let L = c .before .before .before .loop .ns .now in
+    let M = c .before .before .before .loop .m .now in
+    ap answer (sym (inv ∙ turns.end-left short L M (sym (c .before .before .first-word .ensures) ∙ c .enum-told .given .1)))
+
+sub-ns : tie.Need-sub-ns Inv-loop μ-loop
+sub-ns c =
+    let L = c .before .before .before .before .loop .ns .now in
+    let W = c .before .w .given .0 .0 in
+    let e = sym (c .before .before .before .first-word .ensures) ∙ c .before .w .given .1 in
+    word-pos L W e
+
+part-ns-start : tie.Need-part-ns-start Inv-loop μ-loop
+part-ns-start c =
+    let L = c .before .before .before .before .loop .ns .now in
+    let W = c .before .w .given .0 .0 in
+    let e = sym (c .before .before .before .first-word .ensures) ∙ c .before .w .given .1 in
+    word-pos L W e
+
+part-ns-end : tie.Need-part-ns-end Inv-loop μ-loop
+part-ns-end c = search needs
+
+cast-n : tie.Need-cast-n Inv-loop μ-loop
+cast-n c = search needs
+
+returns-2 : tie.Need-returns-2 Inv-loop μ-loop
+returns-2 c =
+    let inv = c .before .before .before .before .before .before .before .loop .inv .1 in
+    let L = c .before .before .before .before .before .before .before .loop .ns .now in
+    let W = c .before .before .before .before .w .given .0 .0 in
+    let e = sym (c .before .before .before .before .before .before .first-word .ensures) ∙ c .before .before .before .before .w .given .1 in
+    let M = c .before .before .before .before .before .before .before .loop .m .now in
+    let kind = kind-jump W (c .before .if1 .taken) in
+    ap answer (sym (inv ∙ turns.stop-jump L W e short M _ kind (c .if2 .taken)))
+
+sub-m : tie.Need-sub-m Inv-loop μ-loop
+sub-m c = search needs
+
+part-m-start : tie.Need-part-m-start Inv-loop μ-loop
+part-m-start c = search needs
+
+part-m-end : tie.Need-part-m-end Inv-loop μ-loop
+part-m-end c = search needs
+
+loop-less : tie.Need-loop-less Inv-loop μ-loop
+loop-less c =
+    let L = c .before .before .before .before .before .before .before .before .loop .ns .now in
+    let W = c .before .before .before .before .before .w .given .0 .0 in
+    let e = sym (c .before .before .before .before .before .before .before .first-word .ensures) ∙ c .before .before .before .before .before .w .given .1 in
+    omega (arith, word-pos L W e, length-from 1 L)
+
+loop-again : tie.Need-loop-again Inv-loop μ-loop
+loop-again c =
+    let L = c .before .before .before .before .before .before .before .before .loop .ns .now in
+    let W = c .before .before .before .before .before .w .given .0 .0 in
+    let e = sym (c .before .before .before .before .before .before .before .first-word .ensures) ∙ c .before .before .before .before .before .w .given .1 in
+    let plain = c .before .before .before .before .before .before .before .before .loop .inv .0 in
+    let inv = c .before .before .before .before .before .before .before .before .loop .inv .1 in
+    let M = c .before .before .before .before .before .before .before .before .loop .m .now in
+    let kind = kind-jump W (c .before .before .if1 .taken) in
+    (turns.plain-tail L W e plain, inv ∙ turns.turn-jump L W e short M _ _ (to-end _ M) kind (c .before .if2 .left))
+
+first-byte-requires : tie.Need-first-byte-requires Inv-loop μ-loop
+first-byte-requires c κs = search needs
+
+enum-known-b : tie.Need-enum-known-b Inv-loop μ-loop
+enum-known-b c = search needs
+
+enum-told-2 : tie.Need-enum-told-2 Inv-loop μ-loop
+enum-told-2 c = search needs
+
+returns-3 : tie.Need-returns-3 Inv-loop μ-loop
+returns-3 c =
+    let inv = c .before .before .before .before .before .before .before .before .before .loop .inv .1 in
+    let L = c .before .before .before .before .before .before .before .before .before .loop .ns .now in
+    let W = c .before .before .before .before .before .before .w .given .0 .0 in
+    let e = sym (c .before .before .before .before .before .before .before .before .first-word .ensures) ∙ c .before .before .before .before .before .before .w .given .1 in
+    let M = c .before .before .before .before .before .before .before .before .before .loop .m .now in
+    let plain = c .before .before .before .before .before .before .before .before .before .loop .inv .0 in
+    let test = turns.plain-test L W e plain (c .before .before .before .if1 .left) in
+    ap answer (sym (inv ∙ turns.stop-short L W e short M (test .0) (test .1) (sym (c .before .before .first-byte .ensures) ∙ c .enum-told2 .given .1)))
+
+sub-m-2 : tie.Need-sub-m-2 Inv-loop μ-loop
+sub-m-2 c =
+    let M = c .before .before .before .before .before .before .before .before .before .before .loop .m .now in
+    let B = c .before .b .given .0 .0 in
+    let f = sym (c .before .before .before .first-byte .ensures) ∙ c .before .b .given .1 in
+    byte-pos M B f
+
+part-m-start-2 : tie.Need-part-m-start-2 Inv-loop μ-loop
+part-m-start-2 c =
+    let M = c .before .before .before .before .before .before .before .before .before .before .loop .m .now in
+    let B = c .before .b .given .0 .0 in
+    let f = sym (c .before .before .before .first-byte .ensures) ∙ c .before .b .given .1 in
+    byte-pos M B f
+
+part-m-end-2 : tie.Need-part-m-end-2 Inv-loop μ-loop
+part-m-end-2 c = search needs
+
+word-passes-requires : tie.Need-word-passes-requires Inv-loop μ-loop
+word-passes-requires c κs = search needs
+
+loop-less-2 : tie.Need-loop-less-2 Inv-loop μ-loop
+loop-less-2 c =
+    let L = c .before .before .before .before .before .before .before .before .before .before .before .before .before .loop .ns .now in
+    let W = c .before .before .before .before .before .before .before .before .before .before .w .given .0 .0 in
+    let e = sym (c .before .before .before .before .before .before .before .before .before .before .before .before .first-word .ensures) ∙ c .before .before .before .before .before .before .before .before .before .before .w .given .1 in
+    omega (arith, word-pos L W e, length-from 1 L)
+
+loop-again-2 : tie.Need-loop-again-2 Inv-loop μ-loop
+loop-again-2 c =
+    let L = c .before .before .before .before .before .before .before .before .before .before .before .before .before .loop .ns .now in
+    let W = c .before .before .before .before .before .before .before .before .before .before .w .given .0 .0 in
+    let e = sym (c .before .before .before .before .before .before .before .before .before .before .before .before .first-word .ensures) ∙ c .before .before .before .before .before .before .before .before .before .before .w .given .1 in
+    let plain = c .before .before .before .before .before .before .before .before .before .before .before .before .before .loop .inv .0 in
+    let inv = c .before .before .before .before .before .before .before .before .before .before .before .before .before .loop .inv .1 in
+    let M = c .before .before .before .before .before .before .before .before .before .before .before .before .before .loop .m .now in
+    let test = turns.plain-test L W e plain (c .before .before .before .before .before .before .before .if1 .left) in
+    let B = c .before .before .before .before .b .given .0 .0 in
+    let f = sym (c .before .before .before .before .before .before .first-byte .ensures) ∙ c .before .before .before .before .b .given .1 in
+    (turns.plain-tail L W e plain, inv ∙ turns.turn-one L W e short M _ (to-end 1 M) (test .0) B (test .1) f (passes-as W B (test .0) (test .1) (sym (c .if3 .taken) ∙ c .before .word-passes .ensures)))
+
+returns-4 : tie.Need-returns-4 Inv-loop μ-loop
+returns-4 c =
+    let inv = c .before .before .before .before .before .before .before .before .before .before .before .before .before .loop .inv .1 in
+    let L = c .before .before .before .before .before .before .before .before .before .before .before .before .before .loop .ns .now in
+    let W = c .before .before .before .before .before .before .before .before .before .before .w .given .0 .0 in
+    let e = sym (c .before .before .before .before .before .before .before .before .before .before .before .before .first-word .ensures) ∙ c .before .before .before .before .before .before .before .before .before .before .w .given .1 in
+    let M = c .before .before .before .before .before .before .before .before .before .before .before .before .before .loop .m .now in
+    let plain = c .before .before .before .before .before .before .before .before .before .before .before .before .before .loop .inv .0 in
+    let test = turns.plain-test L W e plain (c .before .before .before .before .before .before .before .if1 .left) in
+    let B = c .before .before .before .before .b .given .0 .0 in
+    let f = sym (c .before .before .before .before .before .before .first-byte .ensures) ∙ c .before .before .before .before .b .given .1 in
+    ap answer (sym (inv ∙ turns.stop-one L W e short M (test .0) B (test .1) f (passes-as W B (test .0) (test .1) (sym (c .if3 .left) ∙ c .before .word-passes .ensures))))
+
+pub flat-spec : {M : Type 1} → statement M
+flat-spec =
+    tie.close
+    (tie.spec
+    Inv-loop
+    μ-loop
+    loop-holds
+    first-word-requires
+    enum-known-w
+    enum-told
+    returns
+    sub-ns
+    part-ns-start
+    part-ns-end
+    cast-n
+    returns-2
+    sub-m
+    part-m-start
+    part-m-end
+    loop-less
+    loop-again
+    first-byte-requires
+    enum-known-b
+    enum-told-2
+    returns-3
+    sub-m-2
+    part-m-start-2
+    part-m-end-2
+    word-passes-requires
+    loop-less-2
+    loop-again-2
+    returns-4)

@@ -1,0 +1,162 @@
+// Translated from boreal's boreal/src/matcher/validator/simple.rs (MIT OR Apache-2.0), commit 7010b5e967; see NOTICE.
+// The forward check: the first choice, short jumps before long, that fits at the window's start.
+// Nodes of fixed length are a loop; only jump lengths and tails after a branch recurse. Parts are made
+// anew (`&m[0..]`) where they are handed on: a slice that is passed as it came is copied through memory.
+ghost use mathlib.Core.Path.{_≡_};
+ghost use mathlib.Core.Bool.{true};
+ghost use mathlib.Core.Logic.{_⊎_};
+ghost use mathlib.Core.List.{_∷_};
+ghost use Rattle.meaning.specs.Programs.{range, alt, _▹_};
+ghost use Rattle.meaning.specs.Rows.{forward};
+ghost use Rattle.meaning.specs.Words.{kindOf, prog, branchesOf, Sound, SoundBranches, plainWords};
+ghost use Rattle.steps.specs.Steps.{answer};
+use nodes::NextWord;
+use nodes::first_word;
+use steps::Found;
+use steps::NextByte;
+use steps::first_byte;
+use steps::tests_byte;
+use steps::word_passes;
+
+// A branch, which holds nodes of fixed length only: what it leaves of mem.
+fn flat(branch: &[u32], mem: &[u8]) -> Found
+    requires { ⌜ plainWords (now branch) ≡ true ⌝ }
+    ensures { λ r. ⌜ r ≡ answer (forward (prog (now (branch .entry))) (now (mem .entry))) ⌝ }
+{
+    let mut ns = branch;
+    let mut m = mem;
+    loop {
+        let NextWord::Word(w) = first_word(ns) else {
+            return Found::Left(m.len());
+        };
+        ns = &ns[1..];
+        if w % 256 == 3 {
+            let n = (w / 256 % 256) as usize;
+            if m.len() < n {
+                return Found::Nothing;
+            }
+            m = &m[n..];
+        } else {
+            let NextByte::Next(b) = first_byte(m) else {
+                return Found::Nothing;
+            };
+            m = &m[1..];
+            if word_passes(w, b) {} else {
+                return Found::Nothing;
+            }
+        }
+    }
+}
+
+// What the first choice leaves of mem.
+pub fn check(nodes: &[u32], mem: &[u8]) -> Found
+    requires { ⌜ Sound (now nodes) ⌝ }
+    ensures { λ r. ⌜ r ≡ answer (forward (prog (now (nodes .entry))) (now (mem .entry))) ⌝ }
+{
+    let mut ns = nodes;
+    let mut m = mem;
+    loop {
+        let NextWord::Word(w) = first_word(ns) else {
+            return Found::Left(m.len());
+        };
+        ns = &ns[1..];
+        if tests_byte(w) {
+            let NextByte::Next(b) = first_byte(m) else {
+                return Found::Nothing;
+            };
+            m = &m[1..];
+            if word_passes(w, b) {} else {
+                return Found::Nothing;
+            }
+        } else {
+            if w % 256 == 3 {
+                let n = (w / 256 % 256) as usize;
+                if m.len() < n {
+                    return Found::Nothing;
+                }
+                m = &m[n..];
+            } else {
+                return choices(w, &ns[0..], &m[0..]);
+            }
+        }
+    }
+}
+
+// A range, or alternatives with the range that directly follows them, before the rest.
+fn choices(w: u32, rest: &[u32], mem: &[u8]) -> Found
+    requires { ⌜ Sound (w ∷ now rest) × ((kindOf w ≡ 4) ⊎ (kindOf w ≡ 6)) ⌝ }
+    ensures { λ r. ⌜ r ≡ answer (forward (prog (w ∷ now (rest .entry))) (now (mem .entry))) ⌝ }
+{
+    if w % 256 == 4 {
+        let from = (w / 256 % 256) as u8;
+        let to = (w / 65536 % 256) as u8;
+        return jumps(&rest[0..], &mem[0..], from, to);
+    }
+    let count = (w / 256 % 65536) as usize;
+    let after = &rest[count..];
+    if let NextWord::Word(x) = first_word(after) {
+        if x % 256 == 4 {
+            let from = (x / 256 % 256) as u8;
+            let to = (x / 65536 % 256) as u8;
+            return branches(&rest[..count], &after[1..], &mem[0..], from, to);
+        }
+    }
+    branches(&rest[..count], &after[0..], &mem[0..], 0, 0)
+}
+
+// A range before the rest: the shortest length for which the rest fits.
+fn jumps(rest: &[u32], mem: &[u8], from: u8, to: u8) -> Found
+    requires { ⌜ Sound (now rest) ⌝ }
+    ensures { λ r. ⌜ r ≡ answer (forward (range from to ▹ prog (now (rest .entry))) (now (mem .entry))) ⌝ }
+{
+    let last = to as usize;
+    let mut n = from as usize;
+    let end = loop {
+        if last < n {
+            break Found::Nothing;
+        }
+        if mem.len() < n {
+            break Found::Nothing;
+        }
+        let got = check(rest, &mem[n..]);
+        if let Found::Left(left) = got {
+            break Found::Left(left);
+        }
+        n += 1;
+    };
+    end
+}
+
+// Alternatives, a range and the rest: the first branch and then the shortest length for which the rest fits.
+fn branches(alts: &[u32], rest: &[u32], mem: &[u8], from: u8, to: u8) -> Found
+    requires { ⌜ SoundBranches (now alts) × Sound (now rest) ⌝ }
+    ensures { λ r. ⌜ r ≡ answer (forward (alt (branchesOf (now (alts .entry))) ▹ range from to ▹ prog (now (rest .entry))) (now (mem .entry))) ⌝ }
+{
+    let last = to as usize;
+    let mut bs = alts;
+    let found = 'branches: loop {
+        let NextWord::Word(w) = first_word(bs) else {
+            break 'branches Found::Nothing;
+        };
+        bs = &bs[1..];
+        let size = (w / 256 % 256) as usize;
+        let got = flat(&bs[..size], mem);
+        if let Found::Left(left) = got {
+            let used = mem.len() - left;
+            let tail = &mem[used..];
+            let mut n = from as usize;
+            while n <= last {
+                if tail.len() < n {
+                    break;
+                }
+                let got = check(&rest[0..], &tail[n..]);
+                if let Found::Left(end) = got {
+                    break 'branches Found::Left(end);
+                }
+                n += 1;
+            }
+        }
+        bs = &bs[size..];
+    };
+    found
+}

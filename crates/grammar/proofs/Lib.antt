@@ -1,0 +1,12 @@
+-- What is read is spelled, and what is spelled within the limits is read; and a text has one spelling.
+pub mod Standing
+pub mod DigitLaws
+pub mod BoundLaws
+pub mod PiecesSpelled
+pub mod ListsSpelled
+pub mod TextSpelled
+pub mod Fronts
+pub mod PiecesRead
+pub mod ListsRead
+pub mod TextRead
+pub mod OneSpelling

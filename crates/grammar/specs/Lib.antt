@@ -1,0 +1,2 @@
+-- 01's 'Reading the text' as a grammar: which byte strings spell which tokens.
+pub mod Spelling

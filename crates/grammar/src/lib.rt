@@ -1,0 +1,1 @@
+// How a text is spelled. It holds no function: the grammar stands in specs/, and proofs/ shows that reading follows it.

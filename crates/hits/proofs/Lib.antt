@@ -1,0 +1,2 @@
+-- The laws of the benchmark's loops.
+pub mod HitLaws

@@ -1,0 +1,2 @@
+-- What the benchmark's functions give.
+pub mod Hits

@@ -1,0 +1,37 @@
+-- The listing of a text. Assumes nothing: these are definitions.
+use mathlib.Core.Bool.{cond, _&&_}
+use mathlib.Core.List.{List}
+use Prim.Native.Nat.{ℕ}
+use lib.Dec.{leb}
+use lib.ListN.{length}
+use Rattle.base.specs.declared.Refusal.the-variants.{NoRoom}
+use Rattle.base.specs.Refusals.{numberOf}
+use Rattle.reading.specs.Lists.{Outcome as Read, accepted, rejected, reading}
+use Rattle.compiling.specs.Compile.{Compiled, compiled as programs, refused as uncompiled, compile}
+use Rattle.picking.specs.Choice.{Picked as Choice, picked as chosen, unpicked as unchosen, pick}
+use Rattle.printing.specs.Lines.{joined, Picked, picked, unpicked, Outcome, compiled, refused, listing}
+
+-- how many bytes and how many lengths the listing program lends for literals
+abbrev pub lentBytes : ℕ
+lentBytes = 32768
+
+abbrev pub lentLengths : ℕ
+lentLengths = 256
+
+-- the literals, if there is room for them
+unfoldable pub withRoom : Choice → Picked
+withRoom (chosen rank ls) = cond (leb (length ls) lentLengths && leb (length (joined ls)) lentBytes) (picked rank ls) (unpicked (numberOf NoRoom))
+withRoom (unchosen r) = unpicked (numberOf r)
+
+-- both programs with what was picked, or why there are none: the place of such a refusal is 0
+unfoldable pub withPrograms : Compiled → Picked → Outcome
+withPrograms (programs f r) p = compiled f r p
+withPrograms (uncompiled r) p = refused (numberOf r) 0
+
+unfoldable pub outcome : Read → Outcome
+outcome (accepted end ts) = withPrograms (compile ts) (withRoom (pick ts))
+outcome (rejected r place) = refused (numberOf r) place
+
+-- what the listing program writes for a text
+unfoldable pub listingOf : List ℕ → List ℕ
+listingOf text = listing (outcome (reading text))

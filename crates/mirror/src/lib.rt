@@ -1,0 +1,103 @@
+// The mirror of a sound program: its items and each branch's contents in reverse, its branches in their order.
+use base::Refusal;
+use base::zero_words;
+use nodes::NextWord;
+use nodes::first_word;
+use sound::Inside;
+use sound::branch_inside;
+use sound::is_sound;
+use sound::item_inside;
+ghost use mathlib.Core.Path.{_≡_};
+ghost use mathlib.Core.List.{reverse};
+ghost use Prim.Native.Nat.{_≤_};
+ghost use lib.ListN.{length};
+ghost use Rattle.meaning.specs.Words.{Sound, SoundBranches, mirrorBranches, mirrorWords};
+ghost use Rattle.mirror.specs.MirrorDoor.{said, mirrorSays, mirrorLeaves};
+
+// The count of words that were written, or why none were.
+pub enum MirrorAnswer {
+    Mirrored(usize),
+    Refused(Refusal),
+}
+
+fn reverse_into(src: &[u32], dst: &mut [u32])
+    requires { ⌜ length (now dst) ≡ length (now src) ⌝ }
+    ensures { λ _. ⌜ now (dst .exit) ≡ reverse (now (src .entry)) ⌝ }
+{
+    let n = src.len();
+    let mut i = 0;
+    while i < n {
+        let to = n - 1 - i;
+        dst[to] = src[i];
+        i += 1;
+    }
+}
+
+// Branches go to their own places, from the front on.
+fn mirror_branches(alts: &[u32], out: &mut [u32])
+    requires { ⌜ SoundBranches (now alts) × (length (now out) ≡ length (now alts)) × (length (now alts) ≤ 512) ⌝ }
+    ensures { λ _. ⌜ now (out .exit) ≡ mirrorBranches (length (now (alts .entry))) (now (alts .entry)) ⌝ }
+{
+    let n = alts.len();
+    let mut bs = alts;
+    loop {
+        let NextWord::Word(w) = first_word(bs) else {
+            return;
+        };
+        let Inside::Words(k) = branch_inside(w) else {
+            return;
+        };
+        let whole = 1 + k as usize;
+        let left = bs.len();
+        let to = n - left;
+        out[to] = w;
+        let start = to + 1;
+        let end = to + whole;
+        reverse_into(&bs[1..whole], &mut out[start..end]);
+        bs = &bs[whole..];
+    }
+}
+
+// Items go to the opposite places, from the back on.
+fn mirror_words(words: &[u32], out: &mut [u32])
+    requires { ⌜ Sound (now words) × (length (now out) ≡ length (now words)) × (length (now words) ≤ 512) ⌝ }
+    ensures { λ _. ⌜ now (out .exit) ≡ mirrorWords (now (words .entry)) ⌝ }
+{
+    let mut ns = words;
+    loop {
+        let NextWord::Word(w) = first_word(ns) else {
+            return;
+        };
+        let Inside::Words(k) = item_inside(w) else {
+            return;
+        };
+        let whole = 1 + k as usize;
+        let left = ns.len();
+        let to = left - whole;
+        out[to] = w;
+        let start = to + 1;
+        mirror_branches(&ns[1..whole], &mut out[start..left]);
+        ns = &ns[whole..];
+    }
+}
+
+// The door.
+pub fn mirror(words: &[u32], pool: &mut [u32]) -> MirrorAnswer
+    ensures { λ r. ⌜ (said r ≡ mirrorSays (now (words .entry)) (now (pool .entry))) × (now (pool .exit) ≡ mirrorLeaves (now (words .entry)) (now (pool .entry))) ⌝ }
+{
+    if pool.len() < 512 {
+        return MirrorAnswer::Refused(Refusal::NoRoom);
+    }
+    if 512 < words.len() {
+        zero_words(pool, 0, 512);
+        return MirrorAnswer::Refused(Refusal::TooManyNodes);
+    }
+    if !is_sound(words) {
+        zero_words(pool, 0, 512);
+        return MirrorAnswer::Refused(Refusal::Unsound);
+    }
+    let n = words.len();
+    mirror_words(words, &mut pool[0..n]);
+    zero_words(pool, n, 512);
+    MirrorAnswer::Mirrored(n)
+}

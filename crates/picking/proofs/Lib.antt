@@ -1,0 +1,4 @@
+-- The laws of the choice.
+pub mod Samples
+pub mod MatchLaws
+pub mod NumberLaws

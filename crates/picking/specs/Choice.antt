@@ -1,0 +1,147 @@
+-- Ranks, and the choice of a slice. Assumes nothing: these are definitions.
+use mathlib.Core.Bool.{Bool, true, false, cond, _&&_, _||_}
+use mathlib.Core.Option.{Option, none, some}
+use mathlib.Core.List.{List, [], _∷_}
+use Prim.Native.Nat.{ℕ, _-_, min}
+use lib.Dec.{eqb, leb, ltb}
+use lib.ListN.{length}
+use Rattle.meaning.specs.Tokens.{Token, Tokens, Byte, NotByte, MaskedByte, NotMaskedByte, Jump, Alternatives, nothing, _then_, _⊕_}
+use Rattle.base.specs.declared.Refusal.{Refusal}
+use Rattle.base.specs.declared.Refusal.the-variants.{TooManyLiterals, NotPlain}
+use Rattle.atoms.specs.Score.{literalScore}
+use Rattle.picking.specs.Literals.{literals, combinations}
+use Rattle.picking.specs.Runs.{plain, runs, parts, isLiteral, Slice, slice, slices}
+
+-- the least score of some literals
+unfoldable pub lowest : List (List ℕ) → ℕ → ℕ
+lowest [] n = n
+lowest (l ∷ ls) n = lowest ls (min n (literalScore l))
+
+unfoldable pub leastScore : List (List ℕ) → ℕ
+leastScore [] = 0
+leastScore (l ∷ ls) = lowest ls (literalScore l)
+
+-- less 10 above 1 combination, 20 above 16, 40 from 100
+unfoldable pub penalty : ℕ → ℕ
+penalty n = cond (leb 100 n) 40 (cond (ltb 16 n) 20 (cond (ltb 1 n) 10 0))
+
+-- a slice's rank; or it is skipped; or it has too many literals, which is refused with 17
+pub data Ranked : Type 0 where
+  ranked : ℕ → Ranked
+  skipped : Ranked
+  excessive : Ranked
+
+-- the rank is the least score less the penalty, not below 0
+unfoldable pub score : Tokens → ℕ
+score ts = leastScore (literals ts) - penalty (combinations ts)
+
+-- literals that exceed 256 are refused with 17
+unfoldable pub counted : Bool → Tokens → Ranked
+counted true ts = excessive
+counted false ts = ranked (score ts)
+
+-- above 256 combinations a slice is skipped
+unfoldable pub combined : Bool → Tokens → Ranked
+combined true ts = skipped
+combined false ts = counted (ltb 256 (length (literals ts))) ts
+
+unfoldable pub rank : Tokens → Ranked
+rank ts = combined (ltb 256 (combinations ts)) ts
+
+-- what is chosen: nothing so far, a rank and the tokens whose literals are taken, or 17
+pub data Choice : Type 0 where
+  unranked : Choice
+  chosen : ℕ → Tokens → Choice
+  tooMany : Choice
+
+-- a slice with the literal parts on either side
+unfoldable pub widened : Slice → Tokens
+widened (slice prior own next) = prior ⊕ (own ⊕ next)
+
+-- the first highest slice wins and then takes in literal parts on either side, keeping its rank
+unfoldable pub against : Choice → Slice → Ranked → Choice
+against unranked s (ranked n) = chosen n (widened s)
+against unranked s skipped = unranked
+against unranked s excessive = tooMany
+against (chosen m ts) s (ranked n) = cond (ltb m n) (chosen n (widened s)) (chosen m ts)
+against (chosen m ts) s skipped = chosen m ts
+against (chosen m ts) s excessive = tooMany
+against tooMany s r = tooMany
+
+unfoldable pub rankOf : Slice → Ranked
+rankOf (slice prior own next) = rank own
+
+unfoldable pub best : Choice → List Slice → Choice
+best c [] = c
+best c (s ∷ ss) = best (against c s (rankOf s)) ss
+
+-- the bytes of a literal part
+unfoldable pub byteOf : Token → ℕ
+byteOf (Byte v) = v
+byteOf (NotByte v) = 0
+byteOf (MaskedByte v m) = 0
+byteOf (NotMaskedByte v m) = 0
+byteOf (Jump from to) = 0
+byteOf (Alternatives ls) = 0
+
+unfoldable pub bytesOf : Tokens → List ℕ
+bytesOf nothing = []
+bytesOf (t then ts) = byteOf t ∷ bytesOf ts
+
+-- the first literal part that scores at least 80
+unfoldable pub strong : List Tokens → Option Tokens
+strong [] = none
+strong (p ∷ ps) = cond (isLiteral p && leb 80 (literalScore (bytesOf p))) (some p) (strong ps)
+
+-- it wins alone; otherwise the best slice does
+unfoldable pub aloneOr : Option Tokens → Choice → Choice
+aloneOr (some p) c = chosen (literalScore (bytesOf p)) p
+aloneOr none c = c
+
+-- what is chosen in a run
+unfoldable pub inRun : Tokens → Choice
+inRun run = aloneOr (strong (parts run)) (best unranked (slices (parts run) nothing))
+
+-- the length of the shortest of some literals
+unfoldable pub lowestLength : List (List ℕ) → ℕ → ℕ
+lowestLength [] n = n
+lowestLength (l ∷ ls) n = lowestLength ls (min n (length l))
+
+unfoldable pub shortestLiteral : List (List ℕ) → ℕ
+shortestLiteral [] = 0
+shortestLiteral (l ∷ ls) = lowestLength ls (length l)
+
+-- a higher rank, then a longer shortest literal
+unfoldable pub beats : ℕ → Tokens → ℕ → Tokens → Bool
+beats n us m ts = ltb m n || (eqb m n && ltb (shortestLiteral (literals ts)) (shortestLiteral (literals us)))
+
+-- between runs: the one that beats the other, else the earlier
+unfoldable pub between : Choice → Choice → Choice
+between unranked c = c
+between (chosen m ts) unranked = chosen m ts
+between (chosen m ts) (chosen n us) = cond (beats n us m ts) (chosen n us) (chosen m ts)
+between (chosen m ts) tooMany = tooMany
+between tooMany c = tooMany
+
+unfoldable pub among : Choice → List Tokens → Choice
+among c [] = c
+among c (r ∷ rs) = among (between c (inRun r)) rs
+
+-- the choice for a pattern whose alternatives are plain
+unfoldable pub choice : Tokens → Choice
+choice ts = among unranked (runs ts)
+
+-- the rank and the literals, or a refusal
+pub data Picked : Type 0 where
+  picked : ℕ → List (List ℕ) → Picked
+  unpicked : Refusal → Picked
+
+-- nothing ranked: no literals, rank 0
+unfoldable pub taking : Choice → Picked
+taking unranked = picked 0 []
+taking (chosen n ts) = picked n (literals ts)
+taking tooMany = unpicked TooManyLiterals
+
+-- 19, then 17
+unfoldable pub pick : Tokens → Picked
+pick ts = cond (plain ts) (taking (choice ts)) (unpicked NotPlain)

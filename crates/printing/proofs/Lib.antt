@@ -1,0 +1,4 @@
+pub mod LaidLaws
+pub mod NumberLaws
+pub mod LineLaws
+pub mod ListingLaws

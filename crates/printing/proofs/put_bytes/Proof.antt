@@ -1,0 +1,68 @@
+-- What is written so far is what the elements before `i` give. Assumes nothing.
+use mathlib.Core.Path.{_≡_, sym, ap, _∙_}
+use mathlib.Core.List.{[], _∷_}
+use Prim.Native.Nat.{_+_, _-_, _≤_}
+use lib.ListN.{length, take}
+use lib.Seq.{take-all}
+use Rattle.printing.specs.Laid.{Put, each}
+use Rattle.printing.proofs.LaidLaws.{put-none, put-same, put-each, put-length, each-none, each-itself}
+use native.Mathlib.Omega.{arith}
+use borrow.Author.Needs.{needs}
+use Rattle.printing.proofs.put_bytes.Statement.{statement}
+use Rattle.printing.proofs.put_bytes.Tie as tie
+
+abbrev Inv-loop : tie.InvT-loop
+Inv-loop out₀ at s k₀ i₀ out k i = (i ≤ length s) × (k ≡ at + i) × Put out₀ at (each (λ b. b ∷ []) (take i s)) k out
+
+abbrev μ-loop : tie.MeasureT-loop
+μ-loop out₀ at s k₀ i₀ out k i = length s - i
+
+loop-holds : tie.Need-loop-holds Inv-loop μ-loop
+loop-holds c =
+    let a = c .before .before .args in
+    (omega arith, omega arith, put-same (each (λ b. b ∷ []) []) (put-none (a .out .now) (a .at)) (sym (each-none (λ b. b ∷ []))))
+
+shared-slice-read-put-byte : tie.Need-shared-slice-read-put-byte Inv-loop μ-loop
+shared-slice-read-put-byte c = search needs
+
+put-byte-requires : tie.Need-put-byte-requires Inv-loop μ-loop
+put-byte-requires c κs = search needs
+
+add-i : tie.Need-add-i Inv-loop μ-loop
+add-i c = search needs
+
+loop-less : tie.Need-loop-less Inv-loop μ-loop
+loop-less c = search needs
+
+loop-again : tie.Need-loop-again Inv-loop μ-loop
+loop-again c =
+    let l = c .before .before .before .before .before .before .loop in
+    let s = c .before .before .before .before .before .before .before .before .before .args .s .now in
+    let w = c .before .before .put-byte .ensures in
+    let m = w .next in
+    (omega arith, omega arith, put-each (λ b. b ∷ []) s (l .i) (c .before .before .before .before .before .loop-test .taken) (l .inv .2) w)
+
+same-length : tie.Need-same-length Inv-loop μ-loop
+same-length c = put-length (c .before .loop .inv .2)
+
+returns : tie.Need-returns Inv-loop μ-loop
+returns c =
+    let l = c .before .loop in
+    let s = c .before .before .before .before .args .s .now in
+    let e : take (l .i) s ≡ s = take-all (l .i) s (c .loop-test .left) in
+    put-same s (l .inv .2) (ap (each (λ b. b ∷ [])) e ∙ each-itself s)
+
+pub put-bytes-spec : {M : Type 1} → statement M
+put-bytes-spec =
+    tie.close
+    (tie.spec
+    Inv-loop
+    μ-loop
+    loop-holds
+    shared-slice-read-put-byte
+    put-byte-requires
+    add-i
+    loop-less
+    loop-again
+    same-length
+    returns)

@@ -1,0 +1,70 @@
+-- What is written so far is what the elements before `i` give. Assumes nothing.
+use mathlib.Core.Path.{_≡_, sym, ap}
+use mathlib.Core.List.{[]}
+use Prim.Native.Nat.{_+_, _*_, _-_, _≤_}
+use lib.ListN.{length, take}
+use lib.Seq.{take-all}
+use Rattle.printing.specs.Laid.{Put, each}
+use Rattle.printing.specs.Numbers.{hexOf}
+use Rattle.printing.proofs.LaidLaws.{put-none, put-same, put-each, put-length, each-none}
+use native.Mathlib.Omega.{arith}
+use borrow.Author.Needs.{needs}
+use Rattle.printing.proofs.put_hexes.Statement.{statement}
+use Rattle.printing.proofs.put_hexes.Tie as tie
+
+abbrev Inv-loop : tie.InvT-loop
+Inv-loop out₀ at s k₀ i₀ out k i = (i ≤ length s) × (k ≡ at + 2 * i) × Put out₀ at (each hexOf (take i s)) k out
+
+abbrev μ-loop : tie.MeasureT-loop
+μ-loop out₀ at s k₀ i₀ out k i = length s - i
+
+loop-holds : tie.Need-loop-holds Inv-loop μ-loop
+loop-holds c =
+    let a = c .before .before .args in
+    (omega arith, omega arith, put-same (each hexOf []) (put-none (a .out .now) (a .at)) (sym (each-none hexOf)))
+
+shared-slice-read-put-hex : tie.Need-shared-slice-read-put-hex Inv-loop μ-loop
+shared-slice-read-put-hex c = search needs
+
+put-hex-requires : tie.Need-put-hex-requires Inv-loop μ-loop
+put-hex-requires c κs = search needs
+
+add-i : tie.Need-add-i Inv-loop μ-loop
+add-i c = search needs
+
+loop-less : tie.Need-loop-less Inv-loop μ-loop
+loop-less c = search needs
+
+loop-again : tie.Need-loop-again Inv-loop μ-loop
+unfolding hexOf
+loop-again c =
+    let l = c .before .before .before .before .before .before .loop in
+    let s = c .before .before .before .before .before .before .before .before .before .args .s .now in
+    let w = c .before .before .put-hex .ensures in
+    let m = w .next in
+    (omega arith, omega arith, put-each hexOf s (l .i) (c .before .before .before .before .before .loop-test .taken) (l .inv .2) w)
+
+same-length : tie.Need-same-length Inv-loop μ-loop
+same-length c = put-length (c .before .loop .inv .2)
+
+returns : tie.Need-returns Inv-loop μ-loop
+returns c =
+    let l = c .before .loop in
+    let s = c .before .before .before .before .args .s .now in
+    let e : take (l .i) s ≡ s = take-all (l .i) s (c .loop-test .left) in
+    put-same (each hexOf s) (l .inv .2) (ap (each hexOf) e)
+
+pub put-hexes-spec : {M : Type 1} → statement M
+put-hexes-spec =
+    tie.close
+    (tie.spec
+    Inv-loop
+    μ-loop
+    loop-holds
+    shared-slice-read-put-hex
+    put-hex-requires
+    add-i
+    loop-less
+    loop-again
+    same-length
+    returns)

@@ -1,0 +1,34 @@
+-- One writer after another. Assumes nothing.
+use Rattle.printing.specs.Lines.{numbersLine}
+use Rattle.printing.proofs.LaidLaws.{put-three}
+use Rattle.printing.proofs.NumberLaws.{decimal-length}
+use native.Mathlib.Omega.{arith}
+use borrow.Author.Needs.{needs}
+use Rattle.printing.proofs.put_numbers_line.Statement.{statement}
+use Rattle.printing.proofs.put_numbers_line.Tie as tie
+
+put-bytes-requires : tie.Need-put-bytes-requires
+put-bytes-requires c κs = search needs
+
+put-decimal-requires : tie.Need-put-decimal-requires
+put-decimal-requires c κs = search needs
+
+put-number-line-requires : tie.Need-put-number-line-requires
+put-number-line-requires c κs =
+    let n = c .before .before .before .before .before .before .before .before .before .before .before .before .args .n in
+    let l = decimal-length 19 n (omega arith) in
+    let m = c .before .before .before .before .before .before .before .put-bytes .ensures .next in
+    let k = c .before .before .before .put-decimal .ensures .next in
+    omega arith
+
+same-length : tie.Need-same-length
+same-length c = search needs
+
+returns : tie.Need-returns
+unfolding numbersLine
+returns c = put-three (c .before .before .before .before .before .before .before .before .before .before .put-bytes .ensures) (c .before .before .before .before .before .before .put-decimal .ensures) (c .before .before .put-number-line .ensures)
+
+pub put-numbers-line-spec : {M : Type 1} → statement M
+put-numbers-line-spec =
+    tie.close
+    (tie.spec put-bytes-requires put-decimal-requires put-number-line-requires same-length returns)

@@ -1,0 +1,13 @@
+-- Each way is a case of the definition. Assumes nothing.
+use borrow.Author.Tests.{le-leb, lt-leb}
+use Rattle.printing.proofs.room_for.Statement.{statement}
+use Rattle.printing.proofs.room_for.Tie as tie
+
+returns : tie.Need-returns
+returns c = rw (le-leb (c .before .args .length) (c .before .args .room) (c .if1 .taken))
+
+returns-2 : tie.Need-returns-2
+returns-2 c = rw (lt-leb (c .before .args .length) (c .before .args .room) (c .if1 .left))
+
+pub room-for-spec : {M : Type 1} → statement M
+room-for-spec = tie.close (tie.spec returns returns-2)

@@ -1,0 +1,6 @@
+pub mod Text
+pub mod Laid
+pub mod Numbers
+pub mod Lines
+pub mod Listed
+pub mod Samples

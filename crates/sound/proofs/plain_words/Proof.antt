@@ -1,0 +1,94 @@
+-- The answer for all words is the answer for those that are left. Assumes nothing.
+use mathlib.Core.Path.{_≡_, refl, sym, _∙_}
+use lib.ListN.{length}
+use borrow.Author.Tests.{not-true, not-false}
+use Rattle.meaning.specs.Words.{plainWords}
+use Rattle.nodes.proofs.WordHeads as heads
+use Rattle.sound.proofs.SoundSteps as law
+use native.Mathlib.Omega.{arith}
+use borrow.Author.Needs.{needs}
+use Rattle.sound.proofs.plain_words.Statement.{statement}
+use Rattle.sound.proofs.plain_words.Tie as tie
+
+abbrev Inv-loop : tie.InvT-loop
+Inv-loop words ws₀ ws = plainWords ws ≡ plainWords words
+
+abbrev μ-loop : tie.MeasureT-loop
+μ-loop words ws₀ ws = length ws
+
+loop-holds : tie.Need-loop-holds Inv-loop μ-loop
+loop-holds c = refl
+
+first-word-requires : tie.Need-first-word-requires Inv-loop μ-loop
+first-word-requires c κs = search needs
+
+enum-known-w : tie.Need-enum-known-w Inv-loop μ-loop
+enum-known-w c = search needs
+
+enum-told : tie.Need-enum-told Inv-loop μ-loop
+enum-told c = search needs
+
+returns : tie.Need-returns Inv-loop μ-loop
+returns c =
+    let l = c .before .before .before .loop in
+    law.plain-done (l .ws .now) (sym (c .before .before .first-word .ensures) ∙ c .enum-told .given .1) ∙ l .inv
+
+plain-word-requires : tie.Need-plain-word-requires Inv-loop μ-loop
+plain-word-requires c κs = search needs
+
+returns-2 : tie.Need-returns-2 Inv-loop μ-loop
+returns-2 c =
+    let l = c .before .before .before .before .before .before .loop in
+    let w = c .before .before .before .w .given in
+    let first = sym (c .before .before .before .before .before .first-word .ensures) ∙ w .1 in
+    law.plain-other (l .ws .now) (w .0 .0) first (sym (c .before .plain-word .ensures) ∙ not-true _ (c .if1 .taken)) ∙ l .inv
+
+sub-ws : tie.Need-sub-ws Inv-loop μ-loop
+sub-ws c =
+    let l = c .before .before .before .before .before .before .loop in
+    let w = c .before .before .before .w .given in
+    let first = sym (c .before .before .before .before .before .first-word .ensures) ∙ w .1 in
+    heads.word-pos (l .ws .now) (w .0 .0) first
+
+part-ws-start : tie.Need-part-ws-start Inv-loop μ-loop
+part-ws-start c =
+    let l = c .before .before .before .before .before .before .loop in
+    let w = c .before .before .before .w .given in
+    let first = sym (c .before .before .before .before .before .first-word .ensures) ∙ w .1 in
+    heads.word-pos (l .ws .now) (w .0 .0) first
+
+part-ws-end : tie.Need-part-ws-end Inv-loop μ-loop
+part-ws-end c = search needs
+
+loop-less : tie.Need-loop-less Inv-loop μ-loop
+loop-less c =
+    let l = c .before .before .before .before .before .before .before .loop in
+    let w = c .before .before .before .before .w .given in
+    let first = sym (c .before .before .before .before .before .before .first-word .ensures) ∙ w .1 in
+    omega (arith, heads.word-pos (l .ws .now) (w .0 .0) first, heads.length-from 1 (l .ws .now))
+
+loop-again : tie.Need-loop-again Inv-loop μ-loop
+loop-again c =
+    let l = c .before .before .before .before .before .before .before .loop in
+    let w = c .before .before .before .before .w .given in
+    let first = sym (c .before .before .before .before .before .before .first-word .ensures) ∙ w .1 in
+    law.plain-next (l .ws .now) (w .0 .0) first (sym (c .before .before .plain-word .ensures) ∙ not-false _ (c .before .if1 .left)) ∙ l .inv
+
+pub plain-words-spec : {M : Type 1} → statement M
+plain-words-spec =
+    tie.close
+    (tie.spec
+    Inv-loop
+    μ-loop
+    loop-holds
+    first-word-requires
+    enum-known-w
+    enum-told
+    returns
+    plain-word-requires
+    returns-2
+    sub-ws
+    part-ws-start
+    part-ws-end
+    loop-less
+    loop-again)

@@ -1,0 +1,6 @@
+-- The laws of entries, counts and writing.
+pub mod StepLaws
+pub mod ClassLaws
+pub mod PlainLaws
+pub mod PartLaws
+pub mod TallyLaws

@@ -1,0 +1,83 @@
+use Prim.Native.Nat.{ℕ}
+use mathlib.Core.List.{List}
+use Rattle.spelling.proofs.PartLaws as part
+use Rattle.spelling.specs.Words.{flatIn}
+use Rattle.picking.specs.Literals.{plainList}
+use lib.ListN.{length, getD, take, drop}
+use mathlib.Core.Path.{_≡_, refl, sym, ap, _∙_, subst}
+use Rattle.spelling.proofs.PlainLaws as law
+use native.Mathlib.Omega.{arith}
+use borrow.Author.Needs.{needs}
+use Rattle.spelling.proofs.plain_list.Statement.{statement}
+use Rattle.spelling.proofs.plain_list.Tie as tie
+use Rattle.spelling.proofs.plain_list.Reads as reads
+use Rattle.spelling.proofs.plain_list.Lts as lts
+use Rattle.spelling.proofs.plain_entry.Reads as plain-entry-reads
+
+abbrev Inv-loop : tie.InvT-loop
+Inv-loop ws rest₀ rest = plainList (flatIn ws) ≡ plainList (flatIn rest)
+
+abbrev μ-loop : tie.MeasureT-loop
+μ-loop ws rest₀ rest = length rest
+
+-- src/lib.rt:122:5
+loop-holds : tie.Need-loop-holds Inv-loop μ-loop
+loop-holds c = search needs
+
+-- src/lib.rt:123:25
+shared-slice-read-plain-entry : tie.Need-shared-slice-read-plain-entry Inv-loop μ-loop
+shared-slice-read-plain-entry c = search needs
+
+-- src/lib.rt:123:34
+shared-slice-read-plain-entry-2 : tie.Need-shared-slice-read-plain-entry-2 Inv-loop μ-loop
+shared-slice-read-plain-entry-2 c = search needs
+
+-- src/lib.rt:123:13
+plain-entry-requires : tie.Need-plain-entry-requires Inv-loop μ-loop
+plain-entry-requires c κs = search needs
+
+-- src/lib.rt:124:13
+returns : tie.Need-returns Inv-loop μ-loop
+returns c = sym (c .before .before .before .before .before .loop .inv ∙ law.list-stop (c .before .before .before .before .before .loop .rest .now) (c .before .before .before .before .loop-test .taken) (sym (c .before .plain-entry .ensures) ∙ part.not-true _ (c .if1 .taken)))
+
+-- src/lib.rt:126:16
+sub-rest : tie.Need-sub-rest Inv-loop μ-loop
+sub-rest c = search needs
+
+-- src/lib.rt:126:16
+part-rest-start : tie.Need-part-rest-start Inv-loop μ-loop
+part-rest-start c = search needs
+
+-- src/lib.rt:126:16
+part-rest-end : tie.Need-part-rest-end Inv-loop μ-loop
+part-rest-end c = search needs
+
+-- src/lib.rt:122:5
+loop-less : tie.Need-loop-less Inv-loop μ-loop
+loop-less c = part.part-less 4 (c .before .before .before .before .before .before .loop .rest .now) (omega arith) (c .before .before .before .before .before .loop-test .taken)
+
+-- src/lib.rt:122:5
+loop-again : tie.Need-loop-again Inv-loop μ-loop
+loop-again c = c .before .before .before .before .before .before .loop .inv ∙ law.list-more (c .before .before .before .before .before .before .loop .rest .now) (c .before .before .before .before .before .loop-test .taken) (sym (c .before .before .plain-entry .ensures) ∙ part.not-false _ (c .before .if1 .left)) ∙ ap (λ (l : List ℕ). plainList (flatIn l)) (sym (part.part-all 4 (c .before .before .before .before .before .before .loop .rest .now)))
+
+-- src/lib.rt:118:1
+returns-2 : tie.Need-returns-2 Inv-loop μ-loop
+returns-2 c = sym (c .before .loop .inv ∙ law.list-end (c .before .loop .rest .now) (omega (arith, c .loop-test .left)))
+
+pub plain-list-spec : {M : Type 1} → statement M
+plain-list-spec =
+    tie.close
+    (tie.spec
+    Inv-loop
+    μ-loop
+    loop-holds
+    shared-slice-read-plain-entry
+    shared-slice-read-plain-entry-2
+    plain-entry-requires
+    returns
+    sub-rest
+    part-rest-start
+    part-rest-end
+    loop-less
+    loop-again
+    returns-2)

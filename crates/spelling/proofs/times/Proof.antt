@@ -1,0 +1,23 @@
+use native.Mathlib.Nat.{mul-le-mul}
+use native.Mathlib.Omega.{arith}
+use borrow.Author.Needs.{needs}
+use Rattle.spelling.proofs.times.Statement.{statement}
+use Rattle.spelling.proofs.times.Tie as tie
+use Rattle.spelling.proofs.times.Reads as reads
+use Rattle.spelling.proofs.times.Lts as lts
+use Rattle.spelling.proofs.smaller.Reads as smaller-reads
+
+-- src/lib.rt:176:18
+mul-smaller : tie.Need-mul-smaller
+mul-smaller c = omega (arith, mul-le-mul (c .pre .0) (c .pre .1))
+
+-- src/lib.rt:176:5
+smaller-requires : tie.Need-smaller-requires
+smaller-requires c κs = search needs
+
+-- src/lib.rt:172:1
+returns : tie.Need-returns
+returns c = search needs
+
+pub times-spec : {M : Type 1} → statement M
+times-spec = tie.close (tie.spec mul-smaller smaller-requires returns)

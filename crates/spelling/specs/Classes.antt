@@ -1,0 +1,18 @@
+-- The test of a class. Assumes nothing: this is a definition.
+use mathlib.Core.Bool.{Bool, false, not}
+use Prim.Native.Nat.{ℕ, _/_, _%_}
+use lib.Dec.{eqb}
+use Rattle.meaning.specs.Tokens.{left, right, all, Token, Byte, NotByte, MaskedByte, NotMaskedByte, Jump, Alternatives}
+
+-- what a byte passes to be a member
+unfoldable pub passes : Token → ℕ → Bool
+passes (Byte v) b = false
+passes (NotByte v) b = not (eqb b v)
+passes (MaskedByte v left) b = eqb (b % 16) v
+passes (MaskedByte v right) b = eqb (b / 16) v
+passes (MaskedByte v all) b = false
+passes (NotMaskedByte v left) b = not (eqb (b % 16) v)
+passes (NotMaskedByte v right) b = not (eqb (b / 16) v)
+passes (NotMaskedByte v all) b = false
+passes (Jump from to) b = false
+passes (Alternatives ls) b = false

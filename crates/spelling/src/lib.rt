@@ -1,0 +1,292 @@
+// What the literals of token entries are: how many, how long, and number k of them.
+ghost use mathlib.Core.Path.{_≡_};
+ghost use mathlib.Core.Bool.{Bool};
+ghost use Prim.Native.Nat.{_+_, _*_, _-_, _≤_, _<_, _%_, min};
+ghost use lib.ListN.{length, getD, take, drop};
+ghost use Rattle.meaning.specs.Tokens.{MaskedByte, NotMaskedByte};
+ghost use Rattle.bitmap.specs.Bitmap.{Holds, membersFrom};
+ghost use Rattle.picking.specs.Literals.{taken, isPlain, plainList, plainLists, combinationsOf, combinations, combinationsIn, lengthOf, lengthIn, shortest};
+ghost use Rattle.picking.specs.Runs.{plain};
+ghost use Rattle.picking.specs.Numbers.{countOf, count, countIn};
+ghost use Rattle.spelling.specs.Words.{maskIn, entryToken, firstEntry, flatIn, ends, inside, listsIn, tokenIn, width, tokensIn};
+ghost use Rattle.spelling.specs.Classes.{passes};
+ghost use Rattle.spelling.specs.Tallies.{Tallied};
+use bitmap::Bitmap;
+use bitmap::Member;
+
+// The bytes with the half that a mask leaves to be compared.
+fn half_of(x: u8, mask: u32) -> Bitmap
+    ensures { λ r. ⌜ Holds r (passes (MaskedByte (x % 16) (maskIn mask))) ⌝ }
+{
+    match mask {
+        0 => Bitmap::low_half(x),
+        1 => Bitmap::high_half(x),
+        _ => Bitmap::new(),
+    }
+}
+
+// All other bytes; none for `~??`, which is never read.
+fn other_half_of(x: u8, mask: u32) -> Bitmap
+    ensures { λ r. ⌜ Holds r (passes (NotMaskedByte (x % 16) (maskIn mask))) ⌝ }
+{
+    match mask {
+        0 => Bitmap::low_half(x).invert(),
+        1 => Bitmap::high_half(x).invert(),
+        _ => Bitmap::new(),
+    }
+}
+
+// The bytes that an entry of a class takes; none for any other.
+pub fn class_of(kind: u32, value: u32, mask: u32) -> Bitmap
+    ensures { λ r. ⌜ Holds r (passes (entryToken kind value mask)) ⌝ }
+{
+    let x = (value % 256) as u8;
+    match kind {
+        1 => Bitmap::all_but(x),
+        2 => half_of(x, mask),
+        3 => other_half_of(x, mask),
+        _ => Bitmap::new(),
+    }
+}
+
+// Where the words within an entry of alternatives or a list mark end.
+pub fn end_of(ws: &[u32]) -> usize
+    requires { ⌜ 4 ≤ length (now ws) ⌝ }
+    ensures { λ r. ⌜ r ≡ ends (now (ws .entry)) ⌝ }
+{
+    let e = 4 + 4 * (ws[2] as usize);
+    if ws.len() < e { ws.len() } else { e }
+}
+
+// The words of the token at the front.
+pub fn width_of(ws: &[u32]) -> usize
+    requires { ⌜ 4 ≤ length (now ws) ⌝ }
+    ensures { λ r. ⌜ r ≡ width (now (ws .entry)) ⌝ }
+{
+    if ws[0] == 5 { end_of(ws) } else { 4 }
+}
+
+// Member number j of a set of bytes.
+pub fn member_at(set: Bitmap, j: usize) -> u8
+    ensures { λ r. ⌜ r ≡ getD (membersFrom set 0) j 0 ⌝ }
+{
+    let mut from: usize = 0;
+    let mut left = j;
+    loop {
+        let Member::At(b) = set.next(from) else {
+            return 0;
+        };
+        if left == 0 {
+            return b;
+        }
+        left -= 1;
+        from = b as usize + 1;
+    }
+}
+
+// How many bytes an entry takes.
+pub fn taken_count(kind: u32, value: u32, mask: u32) -> usize
+    ensures { λ r. ⌜ (r ≡ length (taken (entryToken kind value mask))) × (r ≤ 256) ⌝ }
+{
+    if kind == 0 {
+        return 1;
+    }
+    let n = class_of(kind, value, mask).count();
+    n as usize
+}
+
+// Byte number j of those that an entry takes.
+pub fn taken_at(kind: u32, value: u32, mask: u32, j: usize) -> u8
+    requires { ⌜ j < length (taken (entryToken kind value mask)) ⌝ }
+    ensures { λ r. ⌜ r ≡ getD (taken (entryToken kind value mask)) j 0 ⌝ }
+{
+    if kind == 0 {
+        return (value % 256) as u8;
+    }
+    member_at(class_of(kind, value, mask), j)
+}
+
+fn plain_entry(kind: u32, mask: u32) -> bool
+    ensures { λ r. ⌜ r ≡ isPlain (entryToken kind 0 mask) ⌝ }
+{
+    match kind {
+        0 | 1 => true,
+        2 | 3 => mask < 2,
+        _ => false,
+    }
+}
+
+fn plain_list(ws: &[u32]) -> bool
+    ensures { λ r. ⌜ r ≡ plainList (flatIn (now (ws .entry))) ⌝ }
+{
+    let mut rest = ws;
+    while 4 <= rest.len() {
+        if !plain_entry(rest[0], rest[2]) {
+            return false;
+        }
+        rest = &rest[4..];
+    }
+    true
+}
+
+fn plain_lists(ws: &[u32]) -> bool
+    ensures { λ r. ⌜ r ≡ plainLists (listsIn (now (ws .entry))) ⌝ }
+{
+    let mut rest = ws;
+    while 4 <= rest.len() {
+        let e = end_of(rest);
+        if !plain_list(&rest[4..e]) {
+            return false;
+        }
+        rest = &rest[e..];
+    }
+    true
+}
+
+// All alternatives hold only bytes and classes.
+pub fn is_plain(ws: &[u32]) -> bool
+    ensures { λ r. ⌜ r ≡ plain (tokensIn (now (ws .entry))) ⌝ }
+{
+    let mut rest = ws;
+    while 4 <= rest.len() {
+        let e = width_of(rest);
+        if rest[0] == 5 {
+            if !plain_lists(&rest[4..e]) {
+                return false;
+            }
+        }
+        rest = &rest[e..];
+    }
+    true
+}
+
+// Counts above 256 are all one to the picker, so they stop at 257.
+const TOP: usize = 257;
+
+fn smaller(a: usize, b: usize) -> usize
+    ensures { λ r. ⌜ r ≡ min a b ⌝ }
+{
+    if a < b { a } else { b }
+}
+
+fn times(a: usize, b: usize) -> usize
+    requires { ⌜ (a ≤ 257) × (b ≤ 257) ⌝ }
+    ensures { λ r. ⌜ r ≡ min 257 (a * b) ⌝ }
+{
+    smaller(TOP, a * b)
+}
+
+fn count_list(ws: &[u32]) -> usize
+    ensures { λ r. ⌜ r ≡ min 257 (count (flatIn (now (ws .entry)))) ⌝ }
+{
+    let mut rest = ws;
+    let mut n = 1;
+    while 4 <= rest.len() {
+        let c = taken_count(rest[0], rest[1], rest[2]);
+        n = times(n, c);
+        rest = &rest[4..];
+    }
+    n
+}
+
+// How many literals, and how many combinations by 01's count, each up to 257.
+pub struct Tally {
+    pub literals: usize,
+    pub combinations: usize,
+}
+
+fn tally_lists(ws: &[u32]) -> Tally
+    ensures { λ r. ⌜ Tallied r (countIn (listsIn (now (ws .entry)))) (combinationsIn (listsIn (now (ws .entry)))) ⌝ }
+{
+    let mut rest = ws;
+    let mut literals = 0;
+    let mut combinations = 1;
+    while 4 <= rest.len() {
+        let e = end_of(rest);
+        let n = count_list(&rest[4..e]);
+        literals = smaller(TOP, literals + n);
+        combinations = times(combinations, n);
+        rest = &rest[e..];
+    }
+    Tally {
+        literals,
+        combinations,
+    }
+}
+
+fn tally_token(ws: &[u32]) -> Tally
+    requires { ⌜ 4 ≤ length (now ws) ⌝ }
+    ensures { λ r. ⌜ Tallied r (countOf (tokenIn (now (ws .entry)))) (combinationsOf (tokenIn (now (ws .entry)))) ⌝ }
+{
+    if ws[0] == 5 {
+        let e = end_of(ws);
+        return tally_lists(&ws[4..e]);
+    }
+    let n = taken_count(ws[0], ws[1], ws[2]);
+    Tally {
+        literals: n,
+        combinations: n,
+    }
+}
+
+pub fn tally_tokens(ws: &[u32]) -> Tally
+    ensures { λ r. ⌜ Tallied r (count (tokensIn (now (ws .entry)))) (combinations (tokensIn (now (ws .entry)))) ⌝ }
+{
+    let mut rest = ws;
+    let mut literals = 1;
+    let mut combinations = 1;
+    while 4 <= rest.len() {
+        let t = tally_token(rest);
+        literals = times(literals, t.literals);
+        combinations = times(combinations, t.combinations);
+        let e = width_of(rest);
+        rest = &rest[e..];
+    }
+    Tally {
+        literals,
+        combinations,
+    }
+}
+
+// The length of the shortest list.
+fn shortest_of(ws: &[u32]) -> usize
+    ensures { λ r. ⌜ (r ≡ shortest (listsIn (now (ws .entry)))) × (r ≤ length (now (ws .entry))) ⌝ }
+{
+    if ws.len() < 4 {
+        return 0;
+    }
+    let first = end_of(ws);
+    let mut n = (first - 4) / 4;
+    let mut rest = &ws[first..];
+    while 4 <= rest.len() {
+        let e = end_of(rest);
+        n = smaller(n, (e - 4) / 4);
+        rest = &rest[e..];
+    }
+    n
+}
+
+fn length_token(ws: &[u32]) -> usize
+    requires { ⌜ 4 ≤ length (now ws) ⌝ }
+    ensures { λ r. ⌜ (r ≡ lengthOf (tokenIn (now (ws .entry)))) × (r + 3 ≤ width (now (ws .entry))) ⌝ }
+{
+    if ws[0] == 5 {
+        let e = end_of(ws);
+        return shortest_of(&ws[4..e]);
+    }
+    1
+}
+
+// The length of the shortest literal.
+pub fn length_of(ws: &[u32]) -> usize
+    ensures { λ r. ⌜ (r ≡ lengthIn (tokensIn (now (ws .entry)))) × (r ≤ length (now (ws .entry))) ⌝ }
+{
+    let mut rest = ws;
+    let mut n = 0;
+    while 4 <= rest.len() {
+        n += length_token(rest);
+        let e = width_of(rest);
+        rest = &rest[e..];
+    }
+    n
+}

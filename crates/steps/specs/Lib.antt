@@ -1,0 +1,2 @@
+-- What the steps of a check answer.
+pub mod Steps

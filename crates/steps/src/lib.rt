@@ -1,0 +1,73 @@
+// Translated from boreal's boreal/src/matcher/validator/simple.rs (MIT OR Apache-2.0), commit 7010b5e967; see NOTICE.
+// What both checks do at one word and one byte.
+ghost use mathlib.Core.Path.{_≡_};
+ghost use mathlib.Core.List.{reverse};
+ghost use Rattle.meaning.specs.Words.{shape};
+ghost use Rattle.steps.specs.Steps.{firstByte, isTest, passShape};
+
+// What a check finds: how many bytes of the window it leaves.
+pub enum Found {
+    Left(usize),
+    Nothing,
+}
+
+pub enum NextByte {
+    Next(u8),
+    NoByte,
+}
+
+pub fn first_byte(s: &[u8]) -> NextByte
+    ensures { λ r. ⌜ r ≡ firstByte (now (s .entry)) ⌝ }
+{
+    if 0 < s.len() {
+        NextByte::Next(s[0])
+    } else {
+        NextByte::NoByte
+    }
+}
+
+pub fn last_byte(s: &[u8]) -> NextByte
+    ensures { λ r. ⌜ r ≡ firstByte (reverse (now (s .entry))) ⌝ }
+{
+    let n = s.len();
+    if 0 < n {
+        let at = n - 1;
+        NextByte::Next(s[at])
+    } else {
+        NextByte::NoByte
+    }
+}
+
+// Whether a word asks something of one byte. Byte stands first here and below: most nodes are bytes.
+pub fn tests_byte(w: u32) -> bool
+    ensures { λ r. ⌜ r ≡ isTest (shape w) ⌝ }
+{
+    let k = w % 256;
+    if k == 0 {
+        return true;
+    }
+    match k {
+        1 => true,
+        2 => true,
+        5 => true,
+        _ => false,
+    }
+}
+
+// Whether a byte passes the test that a word says.
+pub fn word_passes(w: u32, c: u8) -> bool
+    ensures { λ r. ⌜ r ≡ passShape (shape w) c ⌝ }
+{
+    let a = (w / 256 % 256) as u8;
+    let b = (w / 65536 % 256) as u8;
+    let k = w % 256;
+    if k == 0 {
+        return c == a;
+    }
+    match k {
+        1 => (c & b) == a,
+        2 => (c & b) != a,
+        5 => c != 10,
+        _ => false,
+    }
+}

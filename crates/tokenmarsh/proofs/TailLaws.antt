@@ -1,0 +1,46 @@
+-- The part that tm_tail names holds what the second forward door hands back. Assumes nothing.
+use mathlib.Core.Path.{_≡_, refl, sym, ap, _∙_}
+use mathlib.Core.Option.{Option, none, some}
+use mathlib.Core.List.{List}
+use Prim.Native.Nat.{ℕ, _-_, _≤_}
+use native.Mathlib.Omega.{arith}
+use lib.ListN.{length}
+use Rattle.meaning.specs.Rows.{forward}
+use Rattle.meaning.specs.Words.{prog}
+use Rattle.checkdoors.specs.Doors.{Outcome, found, noMatch, refused, window, refusal, unless, endAt, forwardSays, leftSays}
+use Rattle.checkdoors.proofs.DoorLaws.{fine, forward-refused, left-refused}
+use Rattle.checkdoors.proofs.Theorems.{left-tail, left-nothing}
+use Rattle.tokenmarsh.specs.Results.{tailAt, bytesOf}
+
+-- the end that is found is not after the window's
+found-within : (x : Option ℕ) (e n : ℕ) (y : Option (List ℕ)) → unless x (endAt e y) ≡ found n → n ≤ e
+found-within none e n none h = let z : _≡_ {A = ℕ} 0 1 = cc in absurd (omega arith)
+found-within none e n (some v) h = let z : e - length v ≡ n = cc in omega arith
+found-within (some k) e n y h = let z : _≡_ {A = ℕ} 0 1 = cc in absurd (omega arith)
+
+pub forward-within : (ws hay : List ℕ) (s e n : ℕ) → forwardSays ws hay s e ≡ found n → n ≤ e
+unfolding forwardSays
+forward-within ws hay s e n h = found-within (refusal ws (length hay) s e) e n (forward (prog ws) (window hay s e)) h
+
+-- a check that may run is not refused
+not-refused : (x : Option ℕ) (e n : ℕ) (y : Option (List ℕ)) → none ≡ x → unless x (endAt e y) ≡ refused n → ⊥
+not-refused none e n none g h = let z : _≡_ {A = ℕ} 0 1 = cc in omega arith
+not-refused none e n (some v) g h = let z : _≡_ {A = ℕ} 0 1 = cc in omega arith
+not-refused (some k) e n y g h = let z : _≡_ {A = ℕ} 0 1 = cc in omega arith
+
+module _ (ws hay : List ℕ) (s e : ℕ) where
+  abbrev Left : Outcome → Type 0
+  Left o = bytesOf (tailAt e o) hay ≡ leftSays ws hay s e
+
+  answered : none ≡ refusal ws (length hay) s e → (o : Outcome) → forwardSays ws hay s e ≡ o → Left o
+  unfolding forwardSays
+  answered h (found n) g = let f = fine ws (length hay) s e h in sym (left-tail ws hay s e (f .tested) (f .ordered) (f .inside) n g)
+  answered h noMatch g = let f = fine ws (length hay) s e h in sym (left-nothing ws hay s e (f .tested) (f .ordered) (f .inside) g)
+  answered h (refused n) g = absurd (not-refused (refusal ws (length hay) s e) e n (forward (prog ws) (window hay s e)) h g)
+
+  either : (x : Option ℕ) → x ≡ refusal ws (length hay) s e → Left (forwardSays ws hay s e)
+  either none h = answered h (forwardSays ws hay s e) refl
+  either (some k) h = ap (λ (o : Outcome). bytesOf (tailAt e o) hay) (sym (forward-refused ws hay s e k h)) ∙ left-refused ws hay s e k h
+
+  pub tail-is-left : bytesOf (tailAt e (forwardSays ws hay s e)) hay ≡ leftSays ws hay s e
+  tail-is-left = either (refusal ws (length hay) s e) refl

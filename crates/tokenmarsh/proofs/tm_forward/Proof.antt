@@ -1,0 +1,18 @@
+-- The struct says what the door answers. Assumes nothing.
+use mathlib.Core.Path.{_∙_}
+use native.Mathlib.Omega.{arith}
+use borrow.Author.Needs.{needs}
+use Rattle.tokenmarsh.proofs.tm_forward.Statement.{statement}
+use Rattle.tokenmarsh.proofs.tm_forward.Tie as tie
+
+forward-requires : tie.Need-forward-requires
+forward-requires c κs = search needs
+
+told-requires : tie.Need-told-requires
+told-requires c κs = search needs
+
+returns : tie.Need-returns
+returns c = c .told .ensures ∙ c .before .forward .ensures
+
+pub tm-forward-spec : {M : Type 1} → statement M
+tm-forward-spec = tie.close (tie.spec forward-requires told-requires returns)

@@ -1,0 +1,18 @@
+-- The struct says what the door answers. Assumes nothing.
+use mathlib.Core.Path.{_∙_}
+use native.Mathlib.Omega.{arith}
+use borrow.Author.Needs.{needs}
+use Rattle.tokenmarsh.proofs.tm_reverse.Statement.{statement}
+use Rattle.tokenmarsh.proofs.tm_reverse.Tie as tie
+
+reverse-requires : tie.Need-reverse-requires
+reverse-requires c κs = search needs
+
+told-requires : tie.Need-told-requires
+told-requires c κs = search needs
+
+returns : tie.Need-returns
+returns c = c .told .ensures ∙ c .before .reverse .ensures
+
+pub tm-reverse-spec : {M : Type 1} → statement M
+tm-reverse-spec = tie.close (tie.spec reverse-requires told-requires returns)

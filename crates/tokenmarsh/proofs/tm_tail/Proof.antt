@@ -1,0 +1,46 @@
+-- The part begins where the match ends; nothing is left after no match and after a refusal. Assumes nothing.
+use mathlib.Core.Path.{_≡_, sym, ap, _∙_}
+use Rattle.checkdoors.specs.Doors.{said}
+use Rattle.tokenmarsh.specs.Results.{tailAt}
+use Rattle.tokenmarsh.proofs.TailLaws.{forward-within}
+use native.Mathlib.Omega.{arith}
+use borrow.Author.Needs.{needs}
+use Rattle.tokenmarsh.proofs.tm_tail.Statement.{statement}
+use Rattle.tokenmarsh.proofs.tm_tail.Tie as tie
+
+forward-requires : tie.Need-forward-requires
+forward-requires c κs = search needs
+
+enum-known-r : tie.Need-enum-known-r
+enum-known-r c = search needs
+
+sub-left : tie.Need-sub-left
+sub-left c = let a = c .before .before .before .before .before .before .args in forward-within (a .program .now) (a .haystack .now) (a .start) (a .end) (c .before .r .given .0 .0) (sym (c .before .before .before .forward .ensures) ∙ ap said (c .before .r .given .1))
+
+enum-told : tie.Need-enum-told
+enum-told c = search needs
+
+enum-told-2 : tie.Need-enum-told-2
+enum-told-2 c = search needs
+
+returns : tie.Need-returns
+returns c = ap (tailAt _) (sym (ap said (c .before .r .given .1)) ∙ c .before .before .before .forward .ensures)
+
+returns-2 : tie.Need-returns-2
+returns-2 c = ap (tailAt _) (sym (ap said (c .enum-told .given .1)) ∙ c .before .before .forward .ensures)
+
+returns-3 : tie.Need-returns-3
+returns-3 c = ap (tailAt _) (sym (ap said (c .enum-told2 .given .1)) ∙ c .before .before .forward .ensures)
+
+pub tm-tail-spec : {M : Type 1} → statement M
+tm-tail-spec =
+    tie.close
+    (tie.spec
+    forward-requires
+    enum-known-r
+    sub-left
+    enum-told
+    enum-told-2
+    returns
+    returns-2
+    returns-3)

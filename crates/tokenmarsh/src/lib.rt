@@ -1,0 +1,155 @@
+// The doors as C functions: include/tokenmarsh.h documents them. An answer is a struct by value, whose `refusal` is 0 where there is none.
+use checkdoors::Answer;
+use mirror::MirrorAnswer;
+use readdoor::ReadAnswer;
+ghost use mathlib.Core.Path.{_≡_};
+ghost use mathlib.Core.Bool.{cond};
+ghost use Rattle.meaning.specs.Words.{sound};
+ghost use Rattle.mirror.specs.MirrorDoor.{mirrorSays, mirrorLeaves};
+ghost use Rattle.checkdoors.specs.Doors.{forwardSays, reverseSays};
+ghost use Rattle.readdoor.specs.Door.{readSays, readLeaves};
+ghost use Rattle.tokenmarsh.specs.Results.{readSaid, mirrorSaid, checkSaid, checkTells, tailSaid, tailAt};
+
+#[repr(C)]
+pub struct ReadResult {
+    pub refusal: u32,
+    pub place: u64,
+    pub reached: u64,
+    pub words: u64,
+}
+
+#[no_mangle]
+pub extern "C" fn tm_read(text: &[u8], pool: &mut [u32]) -> ReadResult
+    ensures { λ r. ⌜ (readSaid r ≡ readSays (now (text .entry)) (now (pool .entry))) × (now (pool .exit) ≡ readLeaves (now (text .entry)) (now (pool .entry))) ⌝ }
+{
+    let r = readdoor::read(text, pool);
+    match r {
+        ReadAnswer::Read { end, words } => ReadResult {
+            refusal: 0,
+            place: 0,
+            reached: end as u64,
+            words: words as u64,
+        },
+        ReadAnswer::Refused(why, place) => ReadResult {
+            refusal: why.number(),
+            place: place as u64,
+            reached: 0,
+            words: 0,
+        },
+    }
+}
+
+#[repr(C)]
+pub struct MirrorResult {
+    pub refusal: u32,
+    pub words: u64,
+}
+
+#[no_mangle]
+pub extern "C" fn tm_sound(program: &[u32]) -> u32
+    ensures { λ r. ⌜ r ≡ cond (sound (now (program .entry))) 1 0 ⌝ }
+{
+    if sound::is_sound(program) { 1 } else { 0 }
+}
+
+#[no_mangle]
+pub extern "C" fn tm_mirror(program: &[u32], pool: &mut [u32]) -> MirrorResult
+    ensures { λ r. ⌜ (mirrorSaid r ≡ mirrorSays (now (program .entry)) (now (pool .entry))) × (now (pool .exit) ≡ mirrorLeaves (now (program .entry)) (now (pool .entry))) ⌝ }
+{
+    let r = mirror::mirror(program, pool);
+    match r {
+        MirrorAnswer::Mirrored(n) => MirrorResult {
+            refusal: 0,
+            words: n as u64,
+        },
+        MirrorAnswer::Refused(why) => MirrorResult {
+            refusal: why.number(),
+            words: 0,
+        },
+    }
+}
+
+#[repr(C)]
+pub struct CheckResult {
+    pub refusal: u32,
+    pub found: u32,
+    pub offset: u64,
+}
+
+// A check's answer as a struct: what has no meaning is 0.
+fn told(r: Answer) -> CheckResult
+    ensures { λ s. ⌜ checkTells r s ⌝ }
+{
+    match r {
+        Answer::At(n) => CheckResult {
+            refusal: 0,
+            found: 1,
+            offset: n as u64,
+        },
+        Answer::NoMatch => CheckResult {
+            refusal: 0,
+            found: 0,
+            offset: 0,
+        },
+        Answer::Refused(why) => CheckResult {
+            refusal: why.number(),
+            found: 0,
+            offset: 0,
+        },
+    }
+}
+
+#[no_mangle]
+pub extern "C" fn tm_forward(
+    program: &[u32],
+    haystack: &[u8],
+    start: usize,
+    end: usize,
+) -> CheckResult
+    ensures { λ r. ⌜ checkSaid r ≡ forwardSays (now (program .entry)) (now (haystack .entry)) start end ⌝ }
+{
+    told(checkdoors::forward(program, haystack, start, end))
+}
+
+#[no_mangle]
+pub extern "C" fn tm_reverse(
+    program: &[u32],
+    haystack: &[u8],
+    start: usize,
+    end: usize,
+) -> CheckResult
+    ensures { λ r. ⌜ checkSaid r ≡ reverseSays (now (program .entry)) (now (haystack .entry)) start end ⌝ }
+{
+    told(checkdoors::reverse(program, haystack, start, end))
+}
+
+#[repr(C)]
+pub struct TailResult {
+    pub offset: u64,
+    pub length: u64,
+}
+
+// The part of the haystack that the second forward door hands back: C has no slice to return.
+#[no_mangle]
+pub extern "C" fn tm_tail(program: &[u32], haystack: &[u8], start: usize, end: usize) -> TailResult
+    ensures { λ r. ⌜ tailSaid r ≡ tailAt end (forwardSays (now (program .entry)) (now (haystack .entry)) start end) ⌝ }
+{
+    let r = checkdoors::forward(program, haystack, start, end);
+    match r {
+        Answer::At(n) => {
+            let left = end - n;
+            TailResult {
+                offset: n as u64,
+                length: left as u64,
+            }
+        }
+        Answer::NoMatch => TailResult {
+            offset: 0,
+            length: 0,
+        },
+        Answer::Refused(_) => TailResult {
+            offset: 0,
+            length: 0,
+        },
+    }
+}
