@@ -28,6 +28,11 @@ unfoldable pub withPrograms : Compiled → Picked → Outcome
 withPrograms (programs f r) p = compiled f r p
 withPrograms (uncompiled r) p = refused (numberOf r) 0
 
+-- of a text that was read, or was not
+unfoldable pub pickedOf : Read → Picked
+pickedOf (accepted end ts) = withRoom (pick ts)
+pickedOf (rejected r place) = unpicked (numberOf r)
+
 unfoldable pub outcome : Read → Outcome
 outcome (accepted end ts) = withPrograms (compile ts) (withRoom (pick ts))
 outcome (rejected r place) = refused (numberOf r) place

@@ -1,10 +1,16 @@
 -- Laws of a whole listing: how long it can be, and the literals out of the picker's buffers. Assumes nothing.
 use mathlib.Core.Path.{_≡_, refl, ap, _∙_}
+use mathlib.Core.Bool.{Bool, true, false}
 use mathlib.Core.List.{List, [], _∷_, _++_, map, append-assoc}
 use Prim.Native.Nat.{ℕ, suc, _+_, _*_, _^_, _≤_, _<_}
 use native.Mathlib.Omega.{arith}
+use lib.Dec.{leb}
+use borrow.Author.Tests.{leb-true}
 use lib.ListN.{length, take, drop, length-append}
 use lib.Seq.{take-append-seam, drop-append-seam}
+use Rattle.printing.specs.declared.Listed.{Listed}
+use Rattle.printing.specs.declared.Listed.the-variants.{Wrote, NoRoom}
+use Rattle.printing.specs.Listed.{listedOf}
 use Rattle.printing.specs.Text.{ascii}
 use Rattle.printing.specs.Laid.{each}
 use Rattle.printing.specs.Lines.{numberLine, nodeLine, numbersLine, programLines, literalLine, literalLines, literalsLines, joined, cut, Picked, picked, unpicked, pickedLines, literalsRefusedLine, refusedLine, programsLines, compiled, refused, listing}
@@ -56,17 +62,31 @@ length-picked (unpicked n) h =
     let l : length (numberLine (ascii "literals refused ") n) ≤ 17 + 10 + 1 = length-number (ascii "literals refused ") 9 n h in
     omega arith
 
--- so 81,920 bytes have room for every listing
-pub listing-fits : (f r : List ℕ) (p : Picked) → length f ≤ 512 → length r ≤ 512 → Small p → length (listing (compiled f r p)) ≤ 81920
-unfolding listing programsLines
-listing-fits f r p a b s =
+pub programs-fit : (f r : List ℕ) → length f ≤ 512 → length r ≤ 512 → length (programsLines f r) ≤ 14360
+unfolding programsLines
+programs-fit f r a b =
     let x : length (programLines (ascii "forward ") f) ≤ 8 + 3 + 1 + 14 * length f = length-program (ascii "forward ") f 2 (omega arith) in
     let y : length (programLines (ascii "reverse ") r) ≤ 8 + 3 + 1 + 14 * length r = length-program (ascii "reverse ") r 2 (omega arith) in
+    rw (length-append (programLines (ascii "forward ") f) (programLines (ascii "reverse ") r)) (omega arith)
+
+-- so 81,920 bytes have room for every listing
+pub listing-fits : (f r : List ℕ) (p : Picked) → length f ≤ 512 → length r ≤ 512 → Small p → length (listing (compiled f r p)) ≤ 81920
+unfolding listing
+listing-fits f r p a b s =
+    let x : length (programsLines f r) ≤ 14360 = programs-fit f r a b in
     let z : length (pickedLines p) ≤ 29 + 256 + 65536 = length-picked p s in
-    rw (length-append (programLines (ascii "forward ") f ++ programLines (ascii "reverse ") r) (pickedLines p), length-append (programLines (ascii "forward ") f) (programLines (ascii "reverse ") r)) (omega arith)
+    rw (length-append (programsLines f r) (pickedLines p)) (omega arith)
 
 pub refused-fits : (n place : ℕ) → n < 10 ^ 10 → place < 10 ^ 20 → length (listing (refused n place)) ≤ 81920
 unfolding listing refusedLine
 refused-fits n place h k =
     let l : length (numbersLine (ascii "refused ") n (ascii " at ") place) ≤ 8 + 10 + 4 + 20 + 1 = length-numbers (ascii "refused ") (ascii " at ") 9 19 n place h k in
     omega arith
+
+-- what was written fits
+pub wrote-fits : (m room n : ℕ) (r : Listed) → r ≡ listedOf m room → r ≡ Wrote n → n ≤ room
+wrote-fits m room n r e h = go (leb m room) refl
+  where
+    go : (t : Bool) → leb m room ≡ t → n ≤ room
+    go true g = let k : m ≤ room = leb-true m room g in let x : r ≡ Wrote m = rw g at e in let z : m ≡ n = cc in omega arith
+    go false g = let x : r ≡ NoRoom m = rw g at e in let z : _≡_ {A = ℕ} 0 1 = cc in absurd (omega arith)
