@@ -1,14 +1,16 @@
 // The doors as C functions: include/tokenmarsh.h documents them. An answer is a struct by value, whose `refusal` is 0 where there is none.
 use checkdoors::Answer;
+use compiledoor::CompileAnswer;
 use mirror::MirrorAnswer;
 use readdoor::ReadAnswer;
 ghost use mathlib.Core.Path.{_≡_};
 ghost use mathlib.Core.Bool.{cond};
 ghost use Rattle.meaning.specs.Words.{sound};
 ghost use Rattle.mirror.specs.MirrorDoor.{mirrorSays, mirrorLeaves};
+ghost use Rattle.compiledoor.specs.Door.{compileSays, forwardLeaves, reverseLeaves};
 ghost use Rattle.checkdoors.specs.Doors.{forwardSays, reverseSays};
 ghost use Rattle.readdoor.specs.Door.{readSays, readLeaves};
-ghost use Rattle.tokenmarsh.specs.Results.{readSaid, mirrorSaid, checkSaid, checkTells, tailSaid, tailAt};
+ghost use Rattle.tokenmarsh.specs.Results.{readSaid, compileSaid, mirrorSaid, checkSaid, checkTells, tailSaid, tailAt};
 
 #[repr(C)]
 pub struct ReadResult {
@@ -35,6 +37,37 @@ pub extern "C" fn tm_read(text: &[u8], pool: &mut [u32]) -> ReadResult
             place: place as u64,
             reached: 0,
             words: 0,
+        },
+    }
+}
+
+#[repr(C)]
+pub struct CompileResult {
+    pub refusal: u32,
+    pub place: u64,
+    pub forward: u64,
+    pub reverse: u64,
+}
+
+#[no_mangle]
+pub extern "C" fn tm_compile(text: &[u8], forward: &mut [u32], reverse: &mut [u32]) -> CompileResult
+    ensures { λ r. ⌜ (compileSaid r ≡ compileSays (now (text .entry)) (now (forward .entry)) (now (reverse .entry)))
+        × (now (forward .exit) ≡ forwardLeaves (now (text .entry)) (now (forward .entry)) (now (reverse .entry)))
+        × (now (reverse .exit) ≡ reverseLeaves (now (text .entry)) (now (forward .entry)) (now (reverse .entry))) ⌝ }
+{
+    let r = compiledoor::compile(text, forward, reverse);
+    match r {
+        CompileAnswer::Compiled(f, b) => CompileResult {
+            refusal: 0,
+            place: 0,
+            forward: f as u64,
+            reverse: b as u64,
+        },
+        CompileAnswer::Refused(why, place) => CompileResult {
+            refusal: why.number(),
+            place: place as u64,
+            forward: 0,
+            reverse: 0,
         },
     }
 }
