@@ -77,7 +77,7 @@ module _ (t p : List ℕ) where
   unfolding readSays readLeaves
   door-small h = (simp (lt-leb 4096 (length p) h), simp (lt-leb 4096 (length p) h))
 
-  says-at : 4096 ≤ length p → (x : Outcome) → reading t ≡ x → (outcomeSays x ≡ readSays t p) × (outcomeLeaves x p ≡ readLeaves t p)
+  pub says-at : 4096 ≤ length p → (x : Outcome) → reading t ≡ x → (outcomeSays x ≡ readSays t p) × (outcomeLeaves x p ≡ readLeaves t p)
   unfolding readSays readLeaves
   says-at h x e = (simp (le-leb 4096 (length p) h, e), simp (le-leb 4096 (length p) h, e))
 

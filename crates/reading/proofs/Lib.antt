@@ -9,4 +9,5 @@ pub mod Kept
 pub mod Decoded
 pub mod InToken
 pub mod GivenLaws
+pub mod Places
 pub mod Samples

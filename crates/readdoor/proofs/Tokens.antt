@@ -1,0 +1,21 @@
+-- After success the used words decode to the tokens that the text spells. Assumes nothing.
+use Prim.Native.Nat.{ℕ, _≤_}
+use mathlib.Core.Path.{_≡_, refl, sym, ap, _∙_}
+use mathlib.Core.List.{List, _++_}
+use lib.ListN.{length, take}
+use lib.Seq.{take-at}
+use Rattle.base.specs.Pools.{filled}
+use Rattle.meaning.specs.Tokens.{Tokens}
+use Rattle.meaning.specs.Entries.{entries}
+use Rattle.reading.specs.Lists.{accepted, reading}
+use Rattle.reading.proofs.Decoded.{decode, decode-entries}
+use Rattle.readdoor.specs.Door.{outcomeLeaves, readLeaves}
+use Rattle.readdoor.proofs.DoorLaws.{says-at}
+
+front : (size : ℕ) (ws p : List ℕ) → take (length ws) (filled size ws p) ≡ ws
+unfolding filled
+front size ws p = take-at ws _ (length ws) refl
+
+pub read-tokens : (t p : List ℕ) (e : ℕ) (ts : Tokens) → 4096 ≤ length p → reading t ≡ accepted e ts → decode (take (length (entries ts)) (readLeaves t p)) ≡ ts
+unfolding outcomeLeaves
+read-tokens t p e ts h q = ap (λ (x : List ℕ). decode (take (length (entries ts)) x)) (sym (says-at t p h (accepted e ts) q .1)) ∙ ap decode (front 4096 (entries ts) p) ∙ decode-entries ts
