@@ -10,3 +10,4 @@ pub mod PiecesRead
 pub mod ListsRead
 pub mod TextRead
 pub mod OneSpelling
+pub mod Alike
