@@ -1,3 +1,4 @@
+// Translated from boreal's boreal/src/matcher/validator/simple.rs (MIT OR Apache-2.0), commit 7010b5e967; see NOTICE.
 // The doors of the two checks: any words, any haystack and any window numbers are answered.
 use base::Refusal;
 use sound::is_sound;
