@@ -6,7 +6,7 @@ use Prim.Native.Nat.{ℕ, zero, suc, _+_, _-_, _*_, _/_, _%_, _≤_, _<_}
 use native.Mathlib.Omega.{arith}
 use lib.Dec.{eqb}
 use lib.ListN.{length, getD, take, drop, set, length-append, length-drop, take-append-drop}
-use lib.Seq.{length-take-le}
+use lib.Seq.{length-take-le, take-at, drop-at, drop-drop}
 use borrow.Author.Tests.{eqb-true, eq-eqb, ne-eqb}
 use borrow.Rule.Slice.PartMut.{putMid}
 use Rattle.meaning.specs.Programs.{Item, Prog, Branches, one, jump, range, alt, end, _▹_, _⧺_}
@@ -141,3 +141,29 @@ entry-at-single ws at = entry-single _ _ _
 pub entry-piece-is : (ws : List ℕ) (at : ℕ) (piece : Piece) → piece ≡ pieceOf (entryItem (getD ws at 0) (getD ws (at + 1) 0) (getD ws (at + 2) 0)) → piece ≡ pieceOf (entryAt ws at)
 unfolding entryAt
 entry-piece-is ws at piece e = e
+
+-- a buffer that holds a program's words holds them with the item's
+module _ (p : Prog) (o out : List ℕ) (n : ℕ) (last : Last) (h : Holds p o out n last) where
+  alt-holds : (bs : Branches) → n ≤ length o → Holds (add p (alt bs)) o (take n out ++ (wordsFor (alt bs) ++ drop (n + length (wordsFor (alt bs))) out)) (n + length (wordsFor (alt bs))) Fixed
+  unfolding jumpOf growing
+  alt-holds bs r =
+      let e : add p (alt bs) ≡ p ⧺ (alt bs ▹ end) = add-appends p (alt bs) refl in
+      let lit = wordsFor (alt bs) in
+      let ws : wordsOf (add p (alt bs)) ≡ wordsOf p ++ lit = ap wordsOf e ∙ words-snoc p (alt bs) in
+      let t : take n out ≡ wordsOf p = ap (take n) (h .front) ∙ take-at (wordsOf p) (drop n o) n (sym (h .count)) in
+      let d : drop (n + length lit) out ≡ drop (n + length lit) o = sym (drop-drop (length lit) n out) ∙ ap (drop (length lit)) (ap (drop n) (h .front) ∙ drop-at (wordsOf p) (drop n o) n (sym (h .count))) ∙ drop-drop (length lit) n o in
+      record {
+        count = ap (λ (k : ℕ). k + length lit) (h .count) ∙ sym (ap length ws ∙ length-append (wordsOf p) lit);
+        tail = sym (ap lastOf e ∙ last-snoc p (alt bs));
+        front =
+            ap₂ (λ (x : List ℕ) (y : List ℕ). x ++ (lit ++ y)) t d
+            ∙ sym (append-assoc (wordsOf p) lit (drop (n + length lit) o))
+            ∙ ap (λ (x : List ℕ). x ++ drop (n + length lit) o) (sym ws);
+      }
+
+  pub item-holds : (i : Item) → n < length out → n ≤ length o → Holds (add p i) o (itemOut out n last i) (itemCount n last i) (itemLast last i)
+  unfolding itemOut itemCount itemLast
+  item-holds (one t) r q = put-holds p o out n last h (one t) tt r
+  item-holds (jump m) r q = put-holds p o out n last h (jump m) tt r
+  item-holds (range a b) r q = put-holds p o out n last h (range a b) tt r
+  item-holds (alt bs) r q = alt-holds bs q

@@ -41,7 +41,7 @@ unfolding listProgram
 list-few b ws = added-few (listItem b ws) (list-single b ws) (length ws / 4)
 
 -- tokens of one entry each
-plain-long : (t : Token) → plainToken t ≡ true → length (entriesOf t) ≡ 4
+pub plain-long : (t : Token) → plainToken t ≡ true → length (entriesOf t) ≡ 4
 unfolding entries plainToken
 plain-long (Byte v) h = refl
 plain-long (NotByte v) h = refl
@@ -70,7 +70,7 @@ front-long : (ts : Tokens) (ls : Lists) → plainTokens ts ≡ true → length (
 unfolding listEntries
 front-long ts ls h = omega (arith, length-append (entries ts) (listEntries ls), plain-entries ts h)
 
-front-rest : (ts : Tokens) (ls : Lists) → plainTokens ts ≡ true → drop (4 + 4 * tokenCount ts) (listEntries (ts or ls)) ≡ listEntries ls
+pub front-rest : (ts : Tokens) (ls : Lists) → plainTokens ts ≡ true → drop (4 + 4 * tokenCount ts) (listEntries (ts or ls)) ≡ listEntries ls
 unfolding listEntries
 front-rest ts ls h =
     let e = entry 6 (tokenCount ts) (entriesIn (entries ts)) 0 in

@@ -5,3 +5,6 @@ pub mod ListLaws
 pub mod LentLaws
 pub mod BranchLaws
 pub mod AltLaws
+pub mod OrderLaws
+pub mod LinkLaws
+pub mod TokensLaws

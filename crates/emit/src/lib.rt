@@ -13,8 +13,8 @@ ghost use Rattle.emit.specs.declared.Last.the-variants.{Grows};
 ghost use Rattle.emit.specs.declared.Piece.the-variants.{Gap};
 ghost use Rattle.emit.specs.Items.{entryItem, maskItem, notMaskItem, jumpItem, pieceOf, Behind, putCount, putLast, putOut, placeOf};
 ghost use Rattle.compiling.specs.Compiling.{branchLimit};
-ghost use Rattle.compiling.specs.Compile.{shortIn, shortOf};
-ghost use Rattle.emit.specs.Lists.{listProgram, branchesAt, Listed, altAt, tokenAt, itemCount, itemLast, itemOut, sizeAt, Stands};
+ghost use Rattle.compiling.specs.Compile.{shortIn, shortOf, short};
+ghost use Rattle.emit.specs.Lists.{listProgram, branchesAt, Listed, altAt, tokenAt, itemCount, itemLast, itemOut, sizeAt, Stands, tokensProgram, Outlined};
 use nodes::ByteTest;
 use nodes::Node;
 use nodes::node_word;
@@ -291,4 +291,31 @@ fn either(a: bool, b: bool) -> bool
         return true;
     }
     b
+}
+
+// The tokens of the outer list, which start at `starts`: their words at the front of `out`, and their number.
+pub fn add_tokens(tokens: &[u32], starts: &[u16], backwards: bool, out: &mut [u32]) -> Branched
+    requires { ⌜ Outlined (now tokens) (now starts) × (length (now tokens) ≤ 4096) × (length (now tokens) ≤ 4 * length (now out)) ⌝ }
+    ensures { λ r. ⌜ (r .count ≡ nodes (tokensProgram backwards (now (tokens .entry)) (now (starts .entry))))
+        × (r .long ≡ not (short (tokensProgram backwards (now (tokens .entry)) (now (starts .entry)))))
+        × (now (out .exit) ≡ wordsOf (tokensProgram backwards (now (tokens .entry)) (now (starts .entry))) ++ drop (r .count) (now (out .entry))) ⌝ }
+{
+    let count = starts.len();
+    let mut n = 0;
+    let mut last = Last::Fixed;
+    let mut long = false;
+    let mut k = 0;
+    while k < count {
+        let i = place(backwards, count, k);
+        let at = starts[i] as usize;
+        let step = add_token(tokens, at, backwards, out, n, last, long);
+        n = step.count;
+        last = step.last;
+        long = step.long;
+        k += 1;
+    }
+    Branched {
+        count: n,
+        long: long,
+    }
 }

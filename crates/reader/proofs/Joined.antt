@@ -2,7 +2,6 @@
 use Prim.Native.Nat.{ℕ, suc, _+_, _*_, _≤_}
 use mathlib.Core.Path.{_≡_, refl, sym, ap, _∙_}
 use mathlib.Core.Bool.{Bool, true, false, cond, _||_, _&&_}
-use mathlib.Core.Option.{Option, none, some}
 use mathlib.Core.List.{List, [], _++_, append-assoc, append-nil}
 use native.Mathlib.Omega.{arith}
 use native.Mathlib.Numerals.{add-one}
@@ -10,9 +9,10 @@ use borrow.Author.Tests.{le-leb}
 use lib.Dec.{eqb, leb, eqb·suc-zero}
 use lib.ListN.{length, length-append}
 use Rattle.base.specs.declared.Refusal.{Refusal}
-use Rattle.meaning.specs.Tokens.{Token, Tokens, Lists, Byte, NotByte, MaskedByte, NotMaskedByte, Jump, Alternatives, nothing, _then_, neither, _or_}
+use Rattle.meaning.specs.Tokens.{Token, Tokens, Lists, nothing, _then_, neither, _or_}
 use Rattle.meaning.specs.Entries.{entry, entriesIn, entriesOf, entries, listEntries, tokenCount, listCount}
 use Rattle.reading.specs.Lists.{Parsed, read, missing, stopped, before, beside, isJump, begins, endsIn, ends, atBound}
+use Rattle.reading.proofs.Decoded.{words-of}
 use Rattle.reader.specs.Says.{firstOf}
 
 infixl 55 _and_
@@ -74,16 +74,6 @@ at-bound (t then nothing) = go (isJump t)
     go true = refl
     go false = refl
 at-bound (t then (u then ts)) = rw (le-leb 2 (suc (suc (tokenCount ts))) (omega arith))
-
-words-of : (t : Token) → 1 ≤ length (entriesOf t)
-unfolding entriesOf
-words-of (Byte v) = omega arith
-words-of (NotByte v) = omega arith
-words-of (MaskedByte v m) = omega arith
-words-of (NotMaskedByte v m) = omega arith
-words-of (Jump from none) = omega arith
-words-of (Jump from (some to)) = omega arith
-words-of (Alternatives ls) = omega arith
 
 pub count-le : (ts : Tokens) → tokenCount ts ≤ length (entries ts)
 unfolding tokenCount entries

@@ -5,4 +5,8 @@ pub mod PieceBounds
 pub mod ListBounds
 pub mod ListSteps
 pub mod TextLaws
+pub mod Kept
+pub mod Decoded
+pub mod InToken
+pub mod GivenLaws
 pub mod Samples

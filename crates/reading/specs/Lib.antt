@@ -2,3 +2,4 @@
 pub mod Blanks
 pub mod Pieces
 pub mod Lists
+pub mod Given

@@ -68,7 +68,7 @@ ends (tok then ts) = endsIn tok ts
 unfoldable pub atBound : Tokens → Bool
 atBound ts = begins ts || (leb 2 (tokenCount ts) && ends ts)
 
--- a list has a token, and no jump at its bounds: else it is refused at its first byte
+-- a list without a token is missing, and who needs it says where; one with a jump at its bounds is refused at its first byte
 unfoldable pub listOf : ℕ → Parsed Tokens → Parsed Tokens
 listOf at (read nothing e count) = missing
 listOf at (read (tok then ts) e count) = cond (atBound (tok then ts)) (stopped JumpAtBound at) (read (tok then ts) e count)
@@ -90,7 +90,8 @@ thenLists t miss missing more = stopped Unexpected miss
 thenLists t miss (stopped r p) more = stopped r p
 
 -- One token, as many as there are, a list, lists up to the closing bracket. The outer list has level 1, and a ninth is refused where it
--- would begin. The first number bounds the depth of calls: four times the bytes left, and four, is enough.
+-- would begin. The first number bounds the depth of calls: four times the bytes left, and four, is enough, and
+-- proofs/ListSteps.antt has what follows for `token`, `more`, `list` and `lists` below, where it is gone.
 unfoldable mutual
   pub tokenF : ℕ → List ℕ → ℕ → ℕ → ℕ → Parsed Token
   tokenF zero t level count at = missing

@@ -10,7 +10,8 @@ use Rattle.base.specs.declared.Refusal.the-variants.{Unexpected, NumberTooBig, 
 use Rattle.meaning.specs.Tokens.{Mask, left, right, all, Token, Byte, NotByte, MaskedByte, NotMaskedByte, Jump}
 use Rattle.reading.specs.Blanks.{here, skip}
 
--- what a small reader answers: what it found, the offset where that stopped and the one after the blanks there;
+-- what a small reader answers: what it found, the offset where that stopped (nothing here needs it yet: an editor that underlines
+-- a fault will) and the one after the blanks there;
 -- nothing of its kind; or a refusal and its place
 pub data Seen (A : Type 0) : Type 0 where
   found : A → ℕ → ℕ → Seen A

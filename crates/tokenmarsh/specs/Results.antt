@@ -5,14 +5,19 @@ use mathlib.Core.List.{List}
 use Prim.Native.Nat.{ℕ, _-_}
 use lib.Dec.{eqb}
 use lib.ListN.{take, drop}
+use Rattle.readdoor.specs.Door as readdoor
 use Rattle.mirror.specs.MirrorDoor.{Said, mirrored, refused}
 use Rattle.checkdoors.specs.Doors as doors
 use Rattle.checkdoors.specs.declared.Answer.{Answer}
+use Rattle.tokenmarsh.specs.declared.ReadResult.{ReadResult}
 use Rattle.tokenmarsh.specs.declared.MirrorResult.{MirrorResult}
 use Rattle.tokenmarsh.specs.declared.CheckResult.{CheckResult}
 use Rattle.tokenmarsh.specs.declared.TailResult.{TailResult}
 
 -- a refusal unless its number is 0
+abbrev pub readSaid : ReadResult → readdoor.Said
+readSaid r = cond (eqb (r .refusal) 0) (readdoor.gives (r .reached) (r .words)) (readdoor.refuses (r .refusal) (r .place))
+
 abbrev pub mirrorSaid : MirrorResult → Said
 mirrorSaid r = cond (eqb (r .refusal) 0) (mirrored (r .words)) (refused (r .refusal) 0)
 

@@ -1,12 +1,43 @@
 // The doors as C functions: include/tokenmarsh.h documents them. An answer is a struct by value, whose `refusal` is 0 where there is none.
 use checkdoors::Answer;
 use mirror::MirrorAnswer;
+use readdoor::ReadAnswer;
 ghost use mathlib.Core.Path.{_≡_};
 ghost use mathlib.Core.Bool.{cond};
 ghost use Rattle.meaning.specs.Words.{sound};
 ghost use Rattle.mirror.specs.MirrorDoor.{mirrorSays, mirrorLeaves};
 ghost use Rattle.checkdoors.specs.Doors.{forwardSays, reverseSays};
-ghost use Rattle.tokenmarsh.specs.Results.{mirrorSaid, checkSaid, checkTells, tailSaid, tailAt};
+ghost use Rattle.readdoor.specs.Door.{readSays, readLeaves};
+ghost use Rattle.tokenmarsh.specs.Results.{readSaid, mirrorSaid, checkSaid, checkTells, tailSaid, tailAt};
+
+#[repr(C)]
+pub struct ReadResult {
+    pub refusal: u32,
+    pub place: u64,
+    pub reached: u64,
+    pub words: u64,
+}
+
+#[no_mangle]
+pub extern "C" fn tm_read(text: &[u8], pool: &mut [u32]) -> ReadResult
+    ensures { λ r. ⌜ (readSaid r ≡ readSays (now (text .entry)) (now (pool .entry))) × (now (pool .exit) ≡ readLeaves (now (text .entry)) (now (pool .entry))) ⌝ }
+{
+    let r = readdoor::read(text, pool);
+    match r {
+        ReadAnswer::Read { end, words } => ReadResult {
+            refusal: 0,
+            place: 0,
+            reached: end as u64,
+            words: words as u64,
+        },
+        ReadAnswer::Refused(why, place) => ReadResult {
+            refusal: why.number(),
+            place: place as u64,
+            reached: 0,
+            words: 0,
+        },
+    }
+}
 
 #[repr(C)]
 pub struct MirrorResult {

@@ -1,0 +1,239 @@
+/* Calls every door with buffers of every length around its need, between guards, on random and damaged inputs. Nothing outside a lent buffer may
+ * change, and every answer must be one that the header names. Prints the count of calls by answer; exits 1 at the first fault.
+ *
+ *     fuzz SEED ROUNDS
+ */
+#include <inttypes.h>
+#include <stdio.h>
+#include <stdlib.h>
+#include <string.h>
+
+#include "tokenmarsh.h"
+
+static uint64_t state;
+static uint64_t answers[20];
+
+static uint32_t below(uint32_t n)
+{
+    state ^= state << 13;
+    state ^= state >> 7;
+    state ^= state << 17;
+    return n == 0 ? 0 : (uint32_t)((state >> 11) % n);
+}
+
+static void fault(const char *what)
+{
+    printf("fault: %s\n", what);
+    exit(1);
+}
+
+static void answered(uint32_t refusal, const char *door, uint64_t allowed)
+{
+    if (refusal > 19 || (refusal != 0 && !(allowed >> refusal & 1)))
+        fault(door);
+    answers[refusal]++;
+}
+
+/* A buffer of n bytes between two guards of 64. */
+enum { GUARD = 64 };
+
+typedef struct {
+    uint8_t *all, *lent;
+    size_t n;
+} guarded;
+
+static guarded lend(size_t n)
+{
+    guarded g = {malloc(n + 2 * GUARD), NULL, n};
+    memset(g.all, 0xA5, n + 2 * GUARD);
+    g.lent = g.all + GUARD;
+    return g;
+}
+
+static void back(guarded g, const char *door)
+{
+    for (size_t i = 0; i < GUARD; i++)
+        if (g.all[i] != 0xA5 || g.lent[g.n + i] != 0xA5)
+            fault(door);
+    free(g.all);
+}
+
+/* The words from `from` on are as lent. */
+static void same(guarded g, size_t from, const char *door)
+{
+    for (size_t i = from; i < g.n; i++)
+        if (g.lent[i] != 0xA5)
+            fault(door);
+}
+
+static void zero(guarded g, size_t from, size_t to, const char *door)
+{
+    for (size_t i = from; i < to; i++)
+        if (g.lent[i] != 0)
+            fault(door);
+}
+
+static const char *const pieces[] = {"{", "}", "(", ")", "|", "[", "]", "-", "~", "?", " ", "\n", "00", "4F", "a?", "?b", "??", "[2]", "[1-3]", "[4-]", "[0-255]", "(41|42 43)",
+                                     "( 41 [2] | ~42 )", "[4294967296]", "\xff"};
+
+/* Mostly a pattern, sometimes one with faults. */
+static size_t text(uint8_t *t)
+{
+    size_t n = 0;
+    uint32_t tokens = below(40), wild = below(4) == 0 ? 1 : 0;
+    if (below(64) != 0)
+        t[n++] = '{';
+    for (uint32_t i = 0; i < tokens; i++) {
+        const char *p = wild ? pieces[below(sizeof pieces / sizeof *pieces)] : pieces[10 + below(13)];
+        memcpy(t + n, p, strlen(p));
+        n += strlen(p);
+        if (below(2))
+            t[n++] = ' ';
+    }
+    if (below(16) != 0)
+        t[n++] = '}';
+    if (below(64) == 0)
+        while (n < 4090 + below(12))
+            t[n++] = ' ';
+    return n;
+}
+
+static const uint64_t TEXT = 0xFFE; /* 1 to 11 */
+
+static size_t around(size_t need)
+{
+    switch (below(4)) {
+    case 0: return below((uint32_t)need + 2);
+    case 1: return need - 1;
+    case 2: return need;
+    default: return need + 1;
+    }
+}
+
+static void reading(const uint8_t *t, size_t n)
+{
+    guarded pool = lend(4 * around(TM_TOKEN_POOL));
+    tm_read_result r = tm_read(t, n, (uint32_t *)pool.lent, pool.n / 4);
+    answered(r.refusal, "tm_read", TEXT | 1u << 18);
+    if ((pool.n / 4 < TM_TOKEN_POOL) != (r.refusal == 18))
+        fault("tm_read: 18");
+    if (r.refusal == 18)
+        same(pool, 0, "tm_read: 18 changed the pool");
+    else {
+        zero(pool, 4 * r.words, 4 * TM_TOKEN_POOL, "tm_read: words not zeroed");
+        same(pool, 4 * TM_TOKEN_POOL, "tm_read: words beyond changed");
+        if (r.refusal == 0 && (r.words > 4092 || r.reached > n))
+            fault("tm_read: bounds");
+        if (r.refusal != 0 && (r.words != 0 || r.place > n))
+            fault("tm_read: place");
+    }
+    back(pool, "tm_read: guard");
+}
+
+static void compiling(const uint8_t *t, size_t n, uint32_t *program, size_t *words)
+{
+    guarded f = lend(4 * around(TM_NODE_POOL)), b = lend(4 * around(TM_NODE_POOL));
+    tm_compile_result r = tm_compile(t, n, (uint32_t *)f.lent, f.n / 4, (uint32_t *)b.lent, b.n / 4);
+    answered(r.refusal, "tm_compile", TEXT | 1u << 12 | 1u << 13 | 1u << 14 | 1u << 18);
+    if ((f.n / 4 < TM_NODE_POOL || b.n / 4 < TM_NODE_POOL) != (r.refusal == 18))
+        fault("tm_compile: 18");
+    if (r.refusal == 18) {
+        same(f, 0, "tm_compile: 18 changed a pool");
+        same(b, 0, "tm_compile: 18 changed a pool");
+    } else {
+        zero(f, 4 * r.forward, 4 * TM_NODE_POOL, "tm_compile: words not zeroed");
+        zero(b, 4 * r.reverse, 4 * TM_NODE_POOL, "tm_compile: words not zeroed");
+        same(f, 4 * TM_NODE_POOL, "tm_compile: words beyond changed");
+        same(b, 4 * TM_NODE_POOL, "tm_compile: words beyond changed");
+        if (r.refusal == 0) {
+            if (!tm_sound((uint32_t *)f.lent, r.forward) || !tm_sound((uint32_t *)b.lent, r.reverse))
+                fault("tm_compile: unsound");
+            memcpy(program, f.lent, 4 * r.forward);
+            *words = r.forward;
+        }
+    }
+    back(f, "tm_compile: guard");
+    back(b, "tm_compile: guard");
+}
+
+static void picking(const uint8_t *t, size_t n)
+{
+    guarded bytes = lend(below(4) ? 131072 : below(600)), lengths = lend(2 * (below(4) ? 256 : below(40)));
+    tm_literals_result r = tm_literals(t, n, bytes.lent, bytes.n, (uint16_t *)lengths.lent, lengths.n / 2);
+    answered(r.refusal, "tm_literals", TEXT | 1u << 17 | 1u << 18 | 1u << 19);
+    size_t total = 0;
+    for (size_t i = 0; r.refusal == 0 && i < r.count; i++)
+        total += ((uint16_t *)lengths.lent)[i];
+    same(bytes, r.refusal == 0 ? total : 0, "tm_literals: bytes changed");
+    same(lengths, r.refusal == 0 ? 2 * r.count : 0, "tm_literals: lengths changed");
+    if (r.refusal == 0 && (r.rank > 80 || r.count > 256 || total > bytes.n))
+        fault("tm_literals: bounds");
+    back(bytes, "tm_literals: guard");
+    back(lengths, "tm_literals: guard");
+}
+
+static void checking(const uint32_t *program, size_t words)
+{
+    guarded hay = lend(below(64));
+    for (size_t i = 0; i < hay.n; i++)
+        hay.lent[i] = (uint8_t)(below(2) ? 0x41 + below(3) : below(256));
+    size_t start = below((uint32_t)hay.n + 2), end = below(16) ? start + below((uint32_t)(hay.n + 2)) : below(2) ? SIZE_MAX : 0;
+    tm_check_result f = tm_forward(program, words, hay.lent, hay.n, start, end), b = tm_reverse(program, words, hay.lent, hay.n, start, end);
+    tm_tail_result tail = tm_tail(program, words, hay.lent, hay.n, start, end);
+    answered(f.refusal, "tm_forward", 1u << 13 | 1u << 15 | 1u << 16);
+    answered(b.refusal, "tm_reverse", 1u << 13 | 1u << 15 | 1u << 16);
+    if (f.refusal != b.refusal || ((start > end || end > hay.n) != (f.refusal == 16)))
+        fault("checks: 16");
+    if ((f.found && (f.offset < start || f.offset > end)) || (b.found && (b.offset < start || b.offset > end)))
+        fault("checks: outside the window");
+    if (f.found ? tail.offset != f.offset || tail.length != end - f.offset : tail.length != 0)
+        fault("tm_tail");
+    back(hay, "checks: guard");
+}
+
+static void mirroring(const uint32_t *program, size_t words)
+{
+    guarded pool = lend(4 * around(TM_NODE_POOL));
+    tm_mirror_result r = tm_mirror(program, words, (uint32_t *)pool.lent, pool.n / 4);
+    answered(r.refusal, "tm_mirror", 1u << 13 | 1u << 15 | 1u << 18);
+    if ((pool.n / 4 < TM_NODE_POOL) != (r.refusal == 18))
+        fault("tm_mirror: 18");
+    if (r.refusal == 18)
+        same(pool, 0, "tm_mirror: 18 changed the pool");
+    else {
+        zero(pool, 4 * r.words, 4 * TM_NODE_POOL, "tm_mirror: words not zeroed");
+        same(pool, 4 * TM_NODE_POOL, "tm_mirror: words beyond changed");
+        if (r.refusal == 0 && (r.words != words || !tm_sound((uint32_t *)pool.lent, r.words)))
+            fault("tm_mirror: not a mirror");
+    }
+    back(pool, "tm_mirror: guard");
+}
+
+int main(int argc, char **argv)
+{
+    static uint8_t t[8192];
+    static uint32_t program[600];
+    size_t words = 0;
+    unsigned long rounds = argc > 2 ? strtoul(argv[2], NULL, 10) : 10000;
+
+    state = argc > 1 ? strtoull(argv[1], NULL, 10) * 2 + 1 : 1;
+    for (unsigned long i = 0; i < rounds; i++) {
+        size_t n = text(t);
+        reading(t, n);
+        compiling(t, n, program, &words);
+        picking(t, n);
+        checking(program, words);
+        mirroring(program, words);
+        /* a damaged program, and now and then one that is too long */
+        if (words > 0)
+            program[below((uint32_t)words)] ^= 1u << below(32);
+        checking(program, below(50) ? words : 600);
+        mirroring(program, below(50) ? words : 600);
+    }
+    printf("rounds %lu, calls by answer:", rounds);
+    for (int k = 0; k < 20; k++)
+        if (answers[k])
+            printf(" %d: %" PRIu64, k, answers[k]);
+    printf("\nno fault\n");
+    return 0;
+}

@@ -1,0 +1,153 @@
+-- From what was read to what the door says. Assumes nothing.
+use mathlib.Core.Path.{_≡_, refl, sym, ap, ap₂, _∙_, subst}
+use mathlib.Core.Bool.{Bool, true, false, cond, _&&_}
+use mathlib.Core.Option.{none, some}
+use mathlib.Core.List.{List, [], _∷_, _++_}
+use Prim.Native.Nat.{ℕ, _+_, _-_, _≤_, _<_}
+use native.Mathlib.Omega.{arith}
+use lib.Dec.{leb}
+use lib.ListN.{length, take, drop, replicate}
+use lib.Seq.{take-at}
+use borrow.Author.Tests.{le-leb, lt-leb}
+use Rattle.base.specs.declared.Refusal.{Refusal}
+use Rattle.base.specs.declared.Refusal.the-variants.{NoRoom}
+use Rattle.base.specs.Refusals.{numberOf}
+use Rattle.base.specs.Pools.{filled, cleared}
+use Rattle.base.proofs.RefusalLaws.{number-one}
+use Rattle.meaning.specs.Tokens.{Mask, Token, Tokens, Lists, Byte, NotByte, MaskedByte, NotMaskedByte, Jump, Alternatives, nothing, _then_, neither, _or_}
+use Rattle.meaning.specs.Values.{SpelledOne, Spelled, SpelledFirst, SpelledMore}
+use Rattle.meaning.specs.Entries.{entries}
+use Rattle.reading.specs.Lists.{Outcome, accepted, rejected, reading}
+use Rattle.reading.proofs.PieceLaws.{never}
+use Rattle.reading.proofs.TextLaws.{accepted-words}
+use Rattle.reading.proofs.Kept.{Keeps, accepted-keeps}
+use Rattle.readdoor.specs.declared.ReadAnswer.{ReadAnswer}
+use Rattle.readdoor.specs.declared.ReadAnswer.the-variants as reads
+use Rattle.readdoor.specs.Door as read
+use Rattle.compiling.specs.Compile.{Compiled, compiled, refused, compile}
+use Rattle.compiling.proofs.TokenSpans.{any-spelled}
+use Rattle.compiler.specs.declared.Made.{Made}
+use Rattle.compiler.specs.declared.Made.the-variants as made
+use Rattle.compiler.specs.Made.{Makes}
+use Rattle.compiler.specs.Walks.{Entered}
+use Rattle.compiledoor.specs.Door.{Said, gives, refuses, said, madeSays, compiledSays, outcomeSays, compiledForward, compiledReverse, outcomeForward, outcomeReverse, room, compileSays, forwardLeaves, reverseLeaves, TextMakes}
+
+-- what a text spells
+spelled-keeps : Keeps SpelledOne Spelled SpelledFirst
+unfolding Spelled
+spelled-keeps = record {
+  byte = λ v h. h;
+  not-byte = λ v h. h;
+  masked-byte = λ v m h. h;
+  not-masked = λ v m h. h;
+  open-jump = λ from. tt;
+  jump = λ from to h. h;
+  alternatives = λ ls h. h;
+  empty = tt;
+  next = λ tok ts a b. (a, b);
+  last-list = λ ts a. (a, tt);
+  next-list = λ ts ls a b. (a, any-spelled ls b);
+}
+
+pub accepted-spelled : (t : List ℕ) (e : ℕ) (ts : Tokens) → reading t ≡ accepted e ts → Spelled ts
+accepted-spelled t e ts h = accepted-keeps SpelledOne Spelled SpelledFirst spelled-keeps t e ts h
+
+-- what was read stands in the pool
+pub record Got (t q : List ℕ) (e u : ℕ) : Type 0 where
+  pub tokens : Tokens
+  pub outcome : reading t ≡ accepted e tokens
+  pub spelled : Spelled tokens
+  pub words : take (u - 0) (drop 0 q) ≡ entries tokens
+  pub fits : u ≤ 4096
+  pub whole : Entered (take (u - 0) (drop 0 q))
+
+module _ (t p q : List ℕ) (r : ReadAnswer) (a : read.said r ≡ read.readSays t p) (b : q ≡ read.readLeaves t p) (l : 4096 ≤ length p) where
+  says-it : read.said r ≡ read.outcomeSays (reading t)
+  unfolding read.readSays
+  says-it = a ∙ rw (le-leb 4096 (length p) l)
+
+  leaves-it : q ≡ read.outcomeLeaves (reading t) p
+  unfolding read.readLeaves
+  leaves-it = b ∙ rw (le-leb 4096 (length p) l)
+
+  got-from : (e u : ℕ) → r ≡ reads.Read e u → (x : Outcome) → reading t ≡ x → Got t q e u
+  unfolding read.outcomeSays read.outcomeLeaves filled
+  got-from e u f (accepted e′ ts) g =
+      let s : read.gives e u ≡ read.gives e′ (length (entries ts)) = sym (ap read.said f) ∙ says-it ∙ ap read.outcomeSays g in
+      let ee : e ≡ e′ = cc in
+      let eu : u ≡ length (entries ts) = cc in
+      let h : reading t ≡ accepted e ts = g ∙ ap (λ (x : ℕ). accepted x ts) (sym ee) in
+      let m : length (entries ts) ≤ 4092 = accepted-words t e ts h in
+      let z : u - 0 ≡ u = omega arith in
+      let w : take (u - 0) (drop 0 q) ≡ entries ts =
+      ap₂ take z (leaves-it ∙ ap (λ (x : Outcome). read.outcomeLeaves x p) g) ∙ take-at (entries ts) (replicate (4096 - length (entries ts)) 0 ++ drop 4096 p) u (sym eu) in
+      let s′ : Spelled ts = accepted-spelled t e ts h in
+      record {
+        tokens = ts;
+        outcome = h;
+        spelled = s′;
+        words = w;
+        fits = omega arith;
+        whole = record { tokens = ts; entered = w; spelled = s′; short = omega (arith, ap length w) };
+      }
+  got-from e u f (rejected x y) g =
+      let s : read.gives e u ≡ read.refuses (numberOf x) y = sym (ap read.said f) ∙ says-it ∙ ap read.outcomeSays g in
+      never (cc)
+
+  pub got : (e u : ℕ) → r ≡ reads.Read e u → Got t q e u
+  got e u f = got-from e u f (reading t) refl
+
+  refused-from : (c : Refusal) (y : ℕ) → r ≡ reads.Refused c y → (x : Outcome) → reading t ≡ x → reading t ≡ rejected c y
+  unfolding read.outcomeSays
+  refused-from c y f (accepted e ts) g =
+      let s : read.refuses (numberOf c) y ≡ read.gives e (length (entries ts)) = sym (ap read.said f) ∙ says-it ∙ ap read.outcomeSays g in
+      never (cc)
+  refused-from c y f (rejected x z) g =
+      let s : read.refuses (numberOf c) y ≡ read.refuses (numberOf x) z = sym (ap read.said f) ∙ says-it ∙ ap read.outcomeSays g in
+      let n : numberOf c ≡ numberOf x = cc in
+      let m : y ≡ z = cc in
+      g ∙ ap₂ rejected (sym (number-one c x n)) (sym m)
+
+  pub got-refused : (c : Refusal) (y : ℕ) → r ≡ reads.Refused c y → reading t ≡ rejected c y
+  got-refused c y f = refused-from c y f (reading t) refl
+
+-- compiled
+made-text : (c : Compiled) (m : Made) (p p′ q q′ : List ℕ) → Makes c m p p′ q q′ → (madeSays m ≡ compiledSays c) × (p′ ≡ compiledForward c p) × (q′ ≡ compiledReverse c q)
+unfolding compiledSays compiledForward compiledReverse
+made-text (compiled f r) m p p′ q q′ (e, x, y) = (ap madeSays e, x, y)
+made-text (refused z) m p p′ q q′ (e, x, y) = (ap madeSays e, x, y)
+
+pub text-compiled : (t : List ℕ) (e : ℕ) (ts : Tokens) (m : Made) (s : Said) (p p′ q q′ : List ℕ) → reading t ≡ accepted e ts → s ≡ madeSays m → Makes (compile ts) m p p′ q q′ → TextMakes (reading t) s p p′ q q′
+unfolding outcomeSays outcomeForward outcomeReverse
+text-compiled t e ts m s p p′ q q′ g f h =
+    let k = made-text (compile ts) m p p′ q q′ h in
+    rw g (f ∙ k .0, k .1, k .2)
+
+pub text-refused : (t : List ℕ) (c : Refusal) (y : ℕ) (p p′ q q′ : List ℕ) → reading t ≡ rejected c y → p′ ≡ cleared 512 p → q′ ≡ cleared 512 q → TextMakes (reading t) (refuses (numberOf c) y) p p′ q q′
+unfolding outcomeSays outcomeForward outcomeReverse
+text-refused t c y p p′ q q′ g a b = rw g (refl, a, b)
+
+-- the door
+abbrev pub Door : List ℕ → Said → List ℕ → List ℕ → List ℕ → List ℕ → Type 0
+Door t s p p′ q q′ = (s ≡ compileSays t p q) × (p′ ≡ forwardLeaves t p q) × (q′ ≡ reverseLeaves t p q)
+
+pub door-small : (t p q : List ℕ) → room p q ≡ false → Door t (refuses 18 0) p p q q
+unfolding compileSays forwardLeaves reverseLeaves
+door-small t p q e = rw e (refl, refl, refl)
+
+pub door-text : (t : List ℕ) (s : Said) (p p′ q q′ : List ℕ) → room p q ≡ true → TextMakes (reading t) s p p′ q q′ → Door t s p p′ q q′
+unfolding compileSays forwardLeaves reverseLeaves
+door-text t s p p′ q q′ e h = rw e h
+
+pub small-first : (p q : List ℕ) → length p < 512 → room p q ≡ false
+small-first p q h = rw (lt-leb 512 (length p) h)
+
+pub small-second : (p q : List ℕ) → length q < 512 → room p q ≡ false
+small-second p q h = rw (lt-leb 512 (length q) h) (go (leb 512 (length p)))
+  where
+    go : (x : Bool) → (x && false) ≡ false
+    go true = refl
+    go false = refl
+
+pub both-fit : (p q : List ℕ) → 512 ≤ length p → 512 ≤ length q → room p q ≡ true
+both-fit p q a b = rw (le-leb 512 (length p) a, le-leb 512 (length q) b)

@@ -1,0 +1,63 @@
+// The door by which any bytes are compiled as a pattern: its programs, forwards and in reverse.
+use base::Refusal;
+use compiler::Made;
+use compiler::clear;
+use compiler::compile_tokens;
+use readdoor::ReadAnswer;
+use readdoor::read;
+ghost use mathlib.Core.Path.{_≡_};
+ghost use Prim.Native.Nat.{ℕ, _≤_};
+ghost use lib.ListN.{length};
+ghost use Rattle.reading.specs.Lists.{reading};
+ghost use Rattle.compiledoor.specs.Door.{said, madeSays, TextMakes, compileSays, forwardLeaves, reverseLeaves};
+
+// The words of each program, or a refusal and its place.
+pub enum CompileAnswer {
+    Compiled(usize, usize),
+    Refused(Refusal, usize),
+}
+
+// Tokens that read well are refused at place 0.
+fn answer_of(made: Made) -> CompileAnswer
+    ensures { λ r. ⌜ said r ≡ madeSays made ⌝ }
+{
+    match made {
+        Made::Programs(f, r) => CompileAnswer::Compiled(f, r),
+        Made::Refused(code) => CompileAnswer::Refused(code, 0),
+    }
+}
+
+// With both pools long enough. The tokens are read into 4,096 words of the stack.
+fn compile_text(text: &[u8], forward: &mut [u32], reverse: &mut [u32]) -> CompileAnswer
+    requires { ⌜ (512 ≤ length (now forward)) × (512 ≤ length (now reverse)) ⌝ }
+    ensures { λ r. ⌜ TextMakes (reading (now (text .entry))) (said r)
+        (now (forward .entry)) (now (forward .exit)) (now (reverse .entry)) (now (reverse .exit)) ⌝ }
+{
+    let mut tokens = [0u32; 4096];
+    let r = read(text, &mut tokens);
+    match r {
+        ReadAnswer::Read { end: _, words } => {
+            let made = compile_tokens(&tokens[0..words], forward, reverse);
+            answer_of(made)
+        }
+        ReadAnswer::Refused(code, place) => {
+            clear(forward, reverse);
+            CompileAnswer::Refused(code, place)
+        }
+    }
+}
+
+// Compiles a text into the first 512 words of each pool.
+pub fn compile(text: &[u8], forward: &mut [u32], reverse: &mut [u32]) -> CompileAnswer
+    ensures { λ r. ⌜ (said r ≡ compileSays (now (text .entry)) (now (forward .entry)) (now (reverse .entry)))
+        × (now (forward .exit) ≡ forwardLeaves (now (text .entry)) (now (forward .entry)) (now (reverse .entry)))
+        × (now (reverse .exit) ≡ reverseLeaves (now (text .entry)) (now (forward .entry)) (now (reverse .entry))) ⌝ }
+{
+    if forward.len() < 512 {
+        return CompileAnswer::Refused(Refusal::NoRoom, 0);
+    }
+    if reverse.len() < 512 {
+        return CompileAnswer::Refused(Refusal::NoRoom, 0);
+    }
+    compile_text(text, forward, reverse)
+}

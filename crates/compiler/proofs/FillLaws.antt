@@ -1,0 +1,65 @@
+-- Words copied into a pool, and what compiling leaves there. Assumes nothing.
+use mathlib.Core.Path.{_≡_, refl, sym, ap, ap₂, _∙_, subst}
+use mathlib.Core.Bool.{Bool, true, false, cond, not, _&&_, _||_}
+use mathlib.Core.List.{List, [], _∷_, _++_, append-assoc}
+use Prim.Native.Nat.{ℕ, suc, _+_, _-_, _≤_, _<_}
+use native.Mathlib.Omega.{arith}
+use native.Mathlib.Numerals.{add-one}
+use lib.Dec.{leb}
+use lib.ListN.{length, getD, take, drop, set, length-append, length-drop}
+use lib.Seq.{length-take-le, take-suc, drop-cons, set-at, drop-drop}
+use borrow.Author.Tests.{le-leb, lt-leb}
+use Rattle.base.specs.declared.Refusal.the-variants.{TooManyNodes, BranchTooLong}
+use Rattle.base.specs.Pools.{zeroed, filled, cleared}
+use Rattle.base.proofs.PoolLaws.{zeroed-filled}
+use Rattle.compiling.specs.Compile.{Compiled, compiled, refused}
+use Rattle.compiler.specs.declared.Made.{Made}
+use Rattle.compiler.specs.declared.Made.the-variants.{Programs, Refused}
+use Rattle.compiler.specs.Made.{Makes, limited}
+
+-- one word more
+pub copied-more : (w o pool : List ℕ) (i : ℕ) → i < length w → i < length o → pool ≡ take i w ++ drop i o → set pool i (getD w i 0) ≡ take (i + 1) w ++ drop (i + 1) o
+copied-more w o pool i l m e =
+    ap (λ (x : List ℕ). set x i (getD w i 0)) (e ∙ ap (λ (x : List ℕ). take i w ++ x) (drop-cons o i 0 m))
+    ∙ set-at (take i w) (getD o i 0) (drop (suc i) o) (getD w i 0) i (length-take-le i w (omega arith))
+    ∙ sym (append-assoc (take i w) (getD w i 0 ∷ []) (drop (suc i) o))
+    ∙ ap (λ (x : List ℕ). x ++ drop (suc i) o) (sym (take-suc w i 0 l))
+    ∙ ap (λ (k : ℕ). take k w ++ drop k o) (sym (add-one i))
+
+pub copied-length : (w o pool : List ℕ) (n : ℕ) → n ≤ length w → n ≤ length o → pool ≡ take n w ++ drop n o → length pool ≡ length o
+copied-length w o pool n l m e = ap length e ∙ length-append (take n w) (drop n o) ∙ (omega (arith, length-take-le n w l, length-drop n o))
+
+pub copied-filled : (w o pool : List ℕ) (n : ℕ) → n ≤ length w → n ≤ 512 → pool ≡ take n w ++ drop n o → zeroed n 512 pool ≡ filled 512 (take n w) o
+copied-filled w o pool n l m e =
+    let k : length (take n w) ≡ n = length-take-le n w l in
+    let d : 512 - length (take n w) ≡ 512 - n = ap (λ (x : ℕ). 512 - x) k in
+    let s : n + (512 - n) ≡ 512 = omega arith in
+    ap₂ (λ (x : ℕ) (y : List ℕ). zeroed x 512 y) (sym k) e
+    ∙ zeroed-filled 512 (take n w) (drop n o) o (omega arith) (ap (λ (x : ℕ). drop x (drop n o)) d ∙ drop-drop (512 - n) n o ∙ ap (λ (x : ℕ). drop x o) s)
+
+-- 14, 13, or both programs
+module _ (n m : ℕ) (f r p p′ q q′ : List ℕ) (long : Bool) where
+  abbrev tests : Compiled
+  tests = limited (not long) (leb n 512 && leb m 512) f r
+
+  pub made-long : long ≡ true → p′ ≡ cleared 512 p → q′ ≡ cleared 512 q → Makes tests (Refused BranchTooLong) p p′ q q′
+  unfolding limited
+  made-long e x y = rw e (refl, x, y)
+
+  pub made-many : long ≡ false → (leb n 512 && leb m 512) ≡ false → p′ ≡ cleared 512 p → q′ ≡ cleared 512 q → Makes tests (Refused TooManyNodes) p p′ q q′
+  unfolding limited
+  made-many e g x y = rw (e, g) (refl, x, y)
+
+  pub made-both : long ≡ false → n ≤ 512 → m ≤ 512 → length f ≡ n → length r ≡ m → p′ ≡ filled 512 f p → q′ ≡ filled 512 r q → Makes tests (Programs n m) p p′ q q′
+  unfolding limited
+  made-both e a b k l x y = rw (e, le-leb n 512 a, le-leb m 512 b) (ap₂ Programs (sym k) (sym l), x, y)
+
+pub first-many : (n m : ℕ) → 512 < n → (leb n 512 && leb m 512) ≡ false
+first-many n m h = rw (lt-leb n 512 h)
+
+pub second-many : (n m : ℕ) → 512 < m → (leb n 512 && leb m 512) ≡ false
+second-many n m h = rw (lt-leb m 512 h) (go (leb n 512))
+  where
+    go : (t : Bool) → (t && false) ≡ false
+    go true = refl
+    go false = refl

@@ -1,0 +1,22 @@
+use Rattle.compiler.specs.Walks.{jumpNear}
+use borrow.Author.Tests.{ne-eqb}
+use mathlib.Core.Path.{_≡_, refl, sym, ap, _∙_}
+use native.Mathlib.Omega.{arith}
+use borrow.Author.Needs.{needs}
+use Rattle.compiler.proofs.jump_near.Statement.{statement}
+use Rattle.compiler.proofs.jump_near.Tie as tie
+use Rattle.compiler.proofs.jump_near.Reads as reads
+use Rattle.compiler.proofs.jump_near.Lts as lts
+
+-- src/lib.rt:17:9
+returns : tie.Need-returns
+unfolding jumpNear
+returns c = rw (c .if1 .taken)
+
+-- src/lib.rt:13:1
+returns-2 : tie.Need-returns-2
+unfolding jumpNear
+returns-2 c = rw (ne-eqb _ _ (c .if1 .left))
+
+pub jump-near-spec : {M : Type 1} → statement M
+jump-near-spec = tie.close (tie.spec returns returns-2)

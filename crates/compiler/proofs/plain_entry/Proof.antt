@@ -1,0 +1,32 @@
+use Rattle.compiler.specs.Walks.{plainEntry}
+use borrow.Author.Tests.{ne-eqb}
+use mathlib.Core.Path.{_≡_, refl, sym, ap, _∙_}
+use native.Mathlib.Omega.{arith}
+use borrow.Author.Needs.{needs}
+use Rattle.compiler.proofs.plain_entry.Statement.{statement}
+use Rattle.compiler.proofs.plain_entry.Tie as tie
+use Rattle.compiler.proofs.plain_entry.Reads as reads
+use Rattle.compiler.proofs.plain_entry.Lts as lts
+use Rattle.compiler.proofs.jump_near.Reads as jump-near-reads
+
+-- src/lib.rt:27:12
+jump-near-requires : tie.Need-jump-near-requires
+jump-near-requires c κs = search needs
+
+-- src/lib.rt:28:13
+returns : tie.Need-returns
+unfolding plainEntry
+returns c = rw (c .before .before .if1 .taken, sym (sym (c .if2 .taken) ∙ c .before .jump-near .ensures))
+
+-- src/lib.rt:30:9
+returns-2 : tie.Need-returns-2
+unfolding plainEntry
+returns-2 c = rw (c .before .before .if1 .taken, sym (sym (c .if2 .left) ∙ c .before .jump-near .ensures))
+
+-- src/lib.rt:23:1
+returns-3 : tie.Need-returns-3
+unfolding plainEntry
+returns-3 c = rw (ne-eqb _ _ (c .if1 .left))
+
+pub plain-entry-spec : {M : Type 1} → statement M
+plain-entry-spec = tie.close (tie.spec jump-near-requires returns returns-2 returns-3)

@@ -1,0 +1,20 @@
+-- What compiling tokens answers, and what it leaves in the two pools. Assumes nothing: these are definitions.
+use mathlib.Core.Path.{_≡_}
+use mathlib.Core.Bool.{Bool, cond}
+use mathlib.Core.List.{List}
+use Prim.Native.Nat.{ℕ}
+use lib.ListN.{length}
+use Rattle.base.specs.declared.Refusal.the-variants.{TooManyNodes, BranchTooLong}
+use Rattle.base.specs.Pools.{filled, cleared}
+use Rattle.compiling.specs.Compile.{Compiled, compiled, refused}
+use Rattle.compiler.specs.declared.Made.{Made}
+use Rattle.compiler.specs.declared.Made.the-variants.{Programs, Refused}
+
+-- the programs' words fill the first 512 words of their pools; a refusal zeroes those
+abbrev pub Makes : Compiled → Made → List ℕ → List ℕ → List ℕ → List ℕ → Type 0
+Makes (compiled f r) made p p′ q q′ = (made ≡ Programs (length f) (length r)) × (p′ ≡ filled 512 f p) × (q′ ≡ filled 512 r q)
+Makes (refused x) made p p′ q q′ = (made ≡ Refused x) × (p′ ≡ cleared 512 p) × (q′ ≡ cleared 512 q)
+
+-- once the tokens are simple: 14, then 13
+unfoldable pub limited : Bool → Bool → List ℕ → List ℕ → Compiled
+limited short few f r = cond short (cond few (compiled f r) (refused TooManyNodes)) (refused BranchTooLong)

@@ -1,0 +1,1 @@
+// The desk's samples, as one claim over the definitions. It holds no function.
