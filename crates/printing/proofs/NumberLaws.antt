@@ -7,8 +7,8 @@ use native.Mathlib.Omega.{arith}
 use native.Mathlib.Nat.{pow-suc}
 use lib.Dec.{ltb}
 use borrow.Author.Tests.{ltb-true, ltb-false, lt-ltb, le-ltb}
-use lib.ListN.{length, getD, length-append, List·getD-append}
-use lib.Seq.{getD-at}
+use lib.ListN.{length, take, getD, length-append, List·getD-append}
+use lib.Seq.{getD-at, getD-take, take-suc, take-all, length-take-le}
 use Rattle.printing.specs.Laid.{each}
 use Rattle.printing.specs.Numbers.{digit, hexOf, digitsIn, decimalOf, valueAfter, Decimal}
 
@@ -126,3 +126,55 @@ digits-right (suc f) n h = go (ltb n 10) refl (λ l. digits-right f (n / 10) (om
 pub decimal-right : (n : ℕ) → Decimal n (decimalOf n)
 unfolding decimalOf
 decimal-right n = digits-right (suc n) n (omega arith)
+
+-- And no other digits do.
+value-grows : (a : ℕ) (ds : List ℕ) → a ≤ valueAfter a ds
+unfolding valueAfter
+value-grows a [] = omega arith
+value-grows a (d ∷ ds) = let l : 10 * a + (d - 48) ≤ valueAfter (10 * a + (d - 48)) ds = value-grows (10 * a + (d - 48)) ds in omega arith
+
+value-first : (ds : List ℕ) → 49 ≤ getD ds 0 48 → 1 ≤ valueAfter 0 ds
+unfolding valueAfter
+value-first [] h = absurd (omega arith)
+value-first (d ∷ ds) h = let l : 10 * 0 + (d - 48) ≤ valueAfter (10 * 0 + (d - 48)) ds = value-grows (10 * 0 + (d - 48)) ds in omega arith
+
+-- all but the last of two or more digits are the digits of what they say
+shorter-right : (k n : ℕ) (ds : List ℕ) → length ds ≡ suc (suc k) → Decimal n ds → Decimal (valueAfter 0 (take (suc k) ds)) (take (suc k) ds)
+shorter-right k n ds l a =
+    let e : length (take (suc k) ds) ≡ suc k = length-take-le (suc k) ds (omega arith) in record {
+      says = refl;
+      digits = λ i h. (let b : i < suc k = omega arith in rw (getD-take (suc k) ds i 48 b) (a .digits i (omega arith)));
+      nonempty = omega arith;
+      front = λ h. (let z : 0 < suc k = omega arith in rw (getD-take (suc k) ds 0 48 z) (a .front (omega arith)));
+    }
+
+-- the digits are those before the last, and the last
+last-digit : (k : ℕ) (ds : List ℕ) → length ds ≡ suc k → ds ≡ take k ds ++ (getD ds k 48 ∷ [])
+last-digit k ds l = sym (take-all (suc k) ds (omega arith)) ∙ take-suc ds k 48 (omega arith)
+
+last-value : (k n : ℕ) (ds : List ℕ) → length ds ≡ suc k → Decimal n ds → n ≡ 10 * valueAfter 0 (take k ds) + (getD ds k 48 - 48)
+last-value k n ds l a = sym (a .says) ∙ ap (valueAfter 0) (last-digit k ds l) ∙ value-last 0 (take k ds) (getD ds k 48)
+
+only : (k n : ℕ) (ds : List ℕ) → length ds ≡ suc k → Decimal n ds → ds ≡ decimalOf n
+unfolding valueAfter
+only zero n ds l a =
+    let d : (48 ≤ getD ds 0 48) × (getD ds 0 48 ≤ 57) = a .digits 0 (omega arith) in
+    let v : n ≡ 10 * 0 + (getD ds 0 48 - 48) = last-value 0 n ds l a in
+    let b : n < 10 = omega arith in
+    let e : getD ds 0 48 ≡ digit n = (let f : digit n ≡ 48 + n = digit-ten n b in omega arith) in
+    last-digit 0 ds l ∙ ap (λ (x : ℕ). x ∷ []) e ∙ sym (decimal-one n b)
+only (suc k) n ds l a =
+    let d : (48 ≤ getD ds (suc k) 48) × (getD ds (suc k) 48 ≤ 57) = a .digits (suc k) (omega arith) in
+    let v : n ≡ 10 * valueAfter 0 (take (suc k) ds) + (getD ds (suc k) 48 - 48) = last-value (suc k) n ds l a in
+    let z : 0 < suc k = omega arith in
+    let p : 1 ≤ valueAfter 0 (take (suc k) ds) = value-first (take (suc k) ds) (rw (getD-take (suc k) ds 0 48 z) (a .front (omega arith))) in
+    let q : n / 10 ≡ valueAfter 0 (take (suc k) ds) = omega arith in
+    let e : getD ds (suc k) 48 ≡ digit (n % 10) = (let f : digit (n % 10) ≡ 48 + n % 10 = digit-ten (n % 10) (omega arith) in omega arith) in
+    let i : take (suc k) ds ≡ decimalOf (valueAfter 0 (take (suc k) ds)) = only k (valueAfter 0 (take (suc k) ds)) (take (suc k) ds) (length-take-le (suc k) ds (omega arith)) (shorter-right k n ds l a) in
+    last-digit (suc k) ds l
+    ∙ ap (λ (x : List ℕ). x ++ (getD ds (suc k) 48 ∷ [])) (i ∙ ap decimalOf (sym q))
+    ∙ ap (λ (x : ℕ). decimalOf (n / 10) ++ (x ∷ [])) e
+    ∙ sym (decimal-more n (omega arith))
+
+pub decimal-only : (n : ℕ) (ds : List ℕ) → Decimal n ds → ds ≡ decimalOf n
+decimal-only n ds a = let l : length ds ≡ suc (length ds - 1) = (let p : 1 ≤ length ds = a .nonempty in omega arith) in only (length ds - 1) n ds l a

@@ -19,7 +19,7 @@ unfoldable pub digitsIn : ℕ → ℕ → List ℕ
 digitsIn zero n = []
 digitsIn (suc f) n = cond (ltb n 10) (digit n ∷ []) (digitsIn f (n / 10) ++ (digit (n % 10) ∷ []))
 
--- in full (proofs/NumberLaws.antt, `decimal-right`: it is Decimal)
+-- in full (proofs/NumberLaws.antt, `decimal-right` and `decimal-only`: it is Decimal, and nothing else is)
 unfoldable pub decimalOf : ℕ → List ℕ
 decimalOf n = digitsIn (suc n) n
 
