@@ -83,12 +83,21 @@ static size_t text(uint8_t *t)
     uint32_t tokens = below(40), wild = below(4) == 0 ? 1 : 0;
     if (below(64) != 0)
         t[n++] = '{';
+    /* a byte at either bound, where a jump may not stand */
+    if (!wild) {
+        memcpy(t + n, "41", 2);
+        n += 2;
+    }
     for (uint32_t i = 0; i < tokens; i++) {
         const char *p = wild ? pieces[below(sizeof pieces / sizeof *pieces)] : pieces[10 + below(13)];
         memcpy(t + n, p, strlen(p));
         n += strlen(p);
         if (below(2))
             t[n++] = ' ';
+    }
+    if (!wild) {
+        memcpy(t + n, "42", 2);
+        n += 2;
     }
     if (below(16) != 0)
         t[n++] = '}';
