@@ -4,3 +4,5 @@ pub mod ClassLaws
 pub mod PlainLaws
 pub mod PartLaws
 pub mod TallyLaws
+pub mod SpellLaws
+pub mod WriteLaws
