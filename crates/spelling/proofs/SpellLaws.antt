@@ -18,6 +18,7 @@ use Rattle.spelling.specs.Words.{maskIn, entryToken, firstEntry, flatIn,
 use Rattle.spelling.proofs.StepLaws.{flat-end, flat-step, lists-end, lists-step, tokens-end, tokens-step, by-entries}
 use Rattle.spelling.proofs.PlainLaws.{token-alternatives, token-entry}
 use Rattle.spelling.specs.Tallies.{Numerable}
+use Rattle.spelling.proofs.ClassLaws.{byte-taken}
 use Rattle.spelling.proofs.TallyLaws.{entry-cases, entry-count, flat-length, token-count-entry, token-count-inside}
 
 -- ---- lists
@@ -279,3 +280,34 @@ module _ (ws : List ℕ) (h : 4 ≤ length ws) (p : ℕ) (num : Numerable p (cou
 
   pub c-le : c ≤ 257
   c-le = omega arith
+
+-- a byte is the same for every number
+pub byte-any : (ws : List ℕ) → getD ws 0 0 ≡ 0 → (p q r : ℕ) → pieceOf (tokenIn ws) p q ≡ pieceOf (tokenIn ws) p r
+byte-any ws e p q r =
+    let f : getD ws 0 0 ≡ 5 → ⊥ = λ g. omega arith in
+    let one : length (taken (firstEntry ws)) ≡ 1 = ap length (byte-taken (getD ws 0 0) (getD ws 1 0) (getD ws 2 0) e) in
+    let a : (x : ℕ) → x % length (taken (firstEntry ws)) ≡ 0 = λ x. ap (λ (n : ℕ). x % n) one ∙ mod-one x in
+    piece-entry ws f p q ∙ ap (λ (x : ℕ). getD (taken (firstEntry ws)) x 0 ∷ []) (a q ∙ sym (a r)) ∙ sym (piece-entry ws f p r)
+
+pub token-some : (ws : List ℕ) → 4 ≤ length ws → (p : ℕ) → Numerable p (count (tokensIn ws)) → 0 < countOf (tokenIn ws)
+token-some ws h p num =
+    let R = count (tokensIn (drop (width ws) ws)) in
+    let e : p * (countOf (tokenIn ws) * R) ≡ p * count (tokensIn ws) = ap (λ (x : ℕ). p * x) (sym (tokens-count ws h)) in
+    let f = factor-le p (countOf (tokenIn ws) * R) (p * count (tokensIn ws)) e (num .some) in
+    factor-le (countOf (tokenIn ws)) R (countOf (tokenIn ws) * R) refl (f .1) .0
+
+pub entry-some : (ws : List ℕ) → (getD ws 0 0 ≡ 5 → ⊥) → (n : ℕ) → n ≡ length (taken (firstEntry ws)) → 0 < countOf (tokenIn ws) → 0 < n
+entry-some ws f n e h = let a = token-count-entry ws f in omega arith
+
+pub one-numerable : (n k : ℕ) → k < n → n ≤ 256 → Numerable 1 n
+one-numerable n k h l = let e : 1 * n ≡ n = one-mul n in record { some = (omega arith); few = (omega arith) }
+
+-- a piece of one byte
+pub entry-room : (ws : List ℕ) → (getD ws 0 0 ≡ 5 → ⊥) → (p q room : ℕ) → length (pieceOf (tokenIn ws) p q) ≤ room → 0 < room
+entry-room ws f p q room l = let e : length (pieceOf (tokenIn ws) p q) ≡ 1 = ap length (piece-entry ws f p q) in omega arith
+
+pub number-fits : (ws : List ℕ) (q n : ℕ) → n ≡ length (taken (firstEntry ws)) → 0 < n → q % n < length (taken (firstEntry ws))
+number-fits ws q n e z = let l : q % n < n = mod-lt q z in omega arith
+
+pub piece-is-byte : (ws : List ℕ) → (getD ws 0 0 ≡ 5 → ⊥) → (p q n b : ℕ) → n ≡ length (taken (firstEntry ws)) → b ≡ getD (taken (firstEntry ws)) (q % n) 0 → pieceOf (tokenIn ws) p q ≡ b ∷ []
+piece-is-byte ws f p q n b e g = piece-entry ws f p q ∙ ap (λ (x : ℕ). getD (taken (firstEntry ws)) (q % x) 0 ∷ []) (sym e) ∙ ap (λ (x : ℕ). x ∷ []) (sym g)

@@ -104,3 +104,10 @@ room-piece literal piece left i was is h l =
     let e = half-length literal (piece ++ left) i was is h l in
     let a : length (take (length is - i) (drop i is)) ≡ length is - i = ap length (take-all (length is - i) (drop i is) (rw length-drop (omega arith))) ∙ length-drop i is in
     (omega arith, omega arith)
+
+pub none-written : (literal was is : List ℕ) → literal ≡ [] → is ≡ was → Written 0 literal was is
+none-written literal was is e f = record { long = ap length (sym e); content = f ∙ ap (λ (l : List ℕ). l ++ drop (length l) was) (sym e) }
+
+pub one-written : (b : ℕ) (was : List ℕ) → 0 < length was → Written 1 (b ∷ []) was (set was 0 b)
+one-written b [] h = absurd (omega arith)
+one-written b (x ∷ was) h = record { long = refl; content = refl }

@@ -3,6 +3,8 @@ use mathlib.Core.Path.{_≡_}
 use mathlib.Core.List.{List, _++_}
 use Prim.Native.Nat.{ℕ, _*_, _≤_, _<_, min}
 use lib.ListN.{length, drop}
+use Rattle.meaning.specs.Tokens.{Token}
+use Rattle.picking.specs.Numbers.{countOf, pieceOf}
 use Rattle.spelling.specs.declared.Tally.{Tally}
 
 -- so many literals and combinations, or 257 where there are more
@@ -19,3 +21,11 @@ pub record Numerable (p n : ℕ) : Type 0 where
 pub record Written (r : ℕ) (literal was is : List ℕ) : Type 0 where
   pub long : r ≡ length literal
   pub content : is ≡ literal ++ drop (length literal) was
+
+-- what a writer of one token's piece needs
+pub record Pieced (p : ℕ) (t : Token) (q words room : ℕ) : Type 0 where
+  pub entry : 4 ≤ words
+  pub prefixes : p ≤ 256
+  pub some : 0 < countOf t
+  pub few : countOf t ≤ 256
+  pub fits : length (pieceOf t p q) ≤ room

@@ -10,7 +10,7 @@ ghost use Rattle.picking.specs.Runs.{plain};
 ghost use Rattle.picking.specs.Numbers.{countOf, count, countIn, prefixIn, prefixOf, prefixed, pieceOf, pieceIn, ending, literalAt};
 ghost use Rattle.spelling.specs.Words.{maskIn, entryToken, firstEntry, flatIn, ends, inside, listsIn, tokenIn, width, tokensIn};
 ghost use Rattle.spelling.specs.Classes.{passes};
-ghost use Rattle.spelling.specs.Tallies.{Tallied, Numerable, Written};
+ghost use Rattle.spelling.specs.Tallies.{Tallied, Numerable, Written, Pieced};
 use bitmap::Bitmap;
 use bitmap::Member;
 
@@ -357,6 +357,74 @@ fn write_list(ws: &[u32], k: usize, dst: &mut [u8]) -> usize
         dst[i] = b;
         i += 1;
         rest = &rest[4..];
+    }
+    i
+}
+
+// Writes what literal number q of some lists has after its prefix.
+fn write_branch(ls: &[u32], p: usize, q: usize, dst: &mut [u8]) -> usize
+    requires { ⌜ (p ≤ 256) × (countIn (listsIn (now ls)) ≤ 256) × (length (pieceIn (listsIn (now ls)) p q) ≤ length (now dst)) ⌝ }
+    ensures { λ r. ⌜ Written r (pieceIn (listsIn (now (ls .entry))) p q) (now (dst .entry)) (now (dst .exit)) ⌝ }
+{
+    let mut rest = ls;
+    let mut left = q;
+    while 4 <= rest.len() {
+        let e = end_of(rest);
+        let n = count_list(&rest[4..e]);
+        let block = p * n;
+        if left < block {
+            return write_list(&rest[4..e], left % n, dst);
+        }
+        left -= block;
+        rest = &rest[e..];
+    }
+    0
+}
+
+// The same of the token at the front.
+fn write_piece(ws: &[u32], p: usize, q: usize, dst: &mut [u8]) -> usize
+    requires { ⌜ Pieced p (tokenIn (now ws)) q (length (now ws)) (length (now dst)) ⌝ }
+    ensures { λ r. ⌜ Written r (pieceOf (tokenIn (now (ws .entry))) p q) (now (dst .entry)) (now (dst .exit)) ⌝ }
+{
+    if ws[0] == 5 {
+        let e = end_of(ws);
+        return write_branch(&ws[4..e], p, q, dst);
+    }
+    let n = taken_count(ws[0], ws[1], ws[2]);
+    let b = taken_at(ws[0], ws[1], ws[2], q % n);
+    dst[0] = b;
+    1
+}
+
+// The number of the prefix, token at the front and all, with which literal number k begins. A byte is the same for every number.
+fn number_of(ws: &[u32], p: usize, k: usize) -> usize
+    requires { ⌜ (4 ≤ length (now ws)) × Numerable p (count (tokensIn (now ws))) ⌝ }
+    ensures { λ r. ⌜ pieceOf (tokenIn (now (ws .entry))) p r ≡ pieceOf (tokenIn (now (ws .entry))) p (prefixed (tokensIn (drop (width (now (ws .entry))) (now (ws .entry)))) (p * countOf (tokenIn (now (ws .entry)))) k) ⌝ }
+{
+    if ws[0] == 0 {
+        return 0;
+    }
+    let t = tally_token(ws);
+    let e = width_of(ws);
+    prefixed_by(&ws[e..], p * t.literals, k)
+}
+
+// Writes literal number k of tokens.
+pub fn write_literal(ws: &[u32], k: usize, dst: &mut [u8]) -> usize
+    requires { ⌜ (k < count (tokensIn (now ws))) × (count (tokensIn (now ws)) ≤ 256) × (length (literalAt (tokensIn (now ws)) k) ≤ length (now dst)) ⌝ }
+    ensures { λ r. ⌜ Written r (literalAt (tokensIn (now (ws .entry))) k) (now (dst .entry)) (now (dst .exit)) ⌝ }
+{
+    let mut rest = ws;
+    let mut p = 1;
+    let mut i = 0;
+    while 4 <= rest.len() {
+        let t = tally_token(rest);
+        let q = number_of(rest, p, k);
+        let n = write_piece(rest, p, q, &mut dst[i..]);
+        i += n;
+        p = p * t.literals;
+        let e = width_of(rest);
+        rest = &rest[e..];
     }
     i
 }
