@@ -1,0 +1,16 @@
+-- Each way out gives what the definition gives there. Assumes nothing.
+use borrow.Author.Tests.{eq-eqb, ne-eqb}
+use Rattle.meaning.specs.Tokens.{left}
+use native.Mathlib.Omega.{arith}
+use borrow.Author.Needs.{needs}
+use Rattle.digits.proofs.both_are.Statement.{statement}
+use Rattle.digits.proofs.both_are.Tie as tie
+
+returns : tie.Need-returns
+returns c = rw (ne-eqb (c .before .args .a) (c .before .args .v) (c .if1 .taken))
+
+returns-2 : tie.Need-returns-2
+returns-2 c = rw (eq-eqb (c .before .args .a) (c .before .args .v) (c .if1 .left))
+
+pub both-are-spec : {M : Type 1} → statement M
+both-are-spec = tie.close (tie.spec returns returns-2)

@@ -1,0 +1,86 @@
+-- Each way out gives what the definition gives there. Assumes nothing.
+use mathlib.Core.Path.{sym, ap, _∙_}
+use Prim.Native.Nat.{ℕ, _+_, _*_}
+use lib.ListN.{getD}
+use Rattle.reading.specs.Pieces.{found, digit}
+use Rattle.reading.proofs.PieceLaws.{here-in, digit-small}
+use Rattle.digits.specs.Answers.{valueOf}
+use Rattle.reading.proofs.PieceSteps.{byte-none, byte-half, byte-both}
+use Rattle.reading.specs.Pieces.{whole}
+use native.Mathlib.Omega.{arith}
+use borrow.Author.Needs.{needs}
+use Rattle.digits.proofs.byte.Statement.{statement}
+use Rattle.digits.proofs.byte.Tie as tie
+
+peek-requires : tie.Need-peek-requires
+peek-requires c κs = search needs
+
+hex-digit-requires : tie.Need-hex-digit-requires
+hex-digit-requires c κs = search needs
+
+enum-known-high : tie.Need-enum-known-high
+enum-known-high c = search needs
+
+enum-told : tie.Need-enum-told
+enum-told c = search needs
+
+returns : tie.Need-returns
+returns c = sym (byte-none (c .before .before .before .before .before .args .text .now) (c .before .before .before .before .before .args .at) (ap digit (sym (c .before .before .before .peek .ensures)) ∙ sym (c .before .before .hex-digit .ensures) ∙ ap valueOf (c .enum-told .given .1)))
+
+add-peek : tie.Need-add-peek
+add-peek c = omega (arith, here-in (c .before .before .before .before .before .before .args .text .now) (c .before .before .before .before .before .before .args .at) ((digit-small (getD (c .before .before .before .before .before .before .args .text .now) (c .before .before .before .before .before .before .args .at) 0) (c .before .high .given .0 .0) (ap digit (sym (c .before .before .before .before .peek .ensures)) ∙ sym (c .before .before .before .hex-digit .ensures) ∙ ap valueOf (c .before .high .given .1))) .1))
+
+peek-requires-2 : tie.Need-peek-requires-2
+peek-requires-2 c κs = search needs
+
+hex-digit-requires-2 : tie.Need-hex-digit-requires-2
+hex-digit-requires-2 c κs = search needs
+
+enum-known-low : tie.Need-enum-known-low
+enum-known-low c = search needs
+
+enum-told-2 : tie.Need-enum-told-2
+enum-told-2 c = search needs
+
+returns-2 : tie.Need-returns-2
+returns-2 c = sym (byte-half (c .before .before .before .before .before .before .before .before .before .before .args .text .now) (c .before .before .before .before .before .before .before .before .before .before .args .at) (ap digit (sym (c .before .before .before .before .before .before .before .before .peek .ensures)) ∙ sym (c .before .before .before .before .before .before .before .hex-digit .ensures) ∙ ap valueOf (c .before .before .before .before .before .high .given .1)) (ap digit (sym (c .before .before .before .peek2 .ensures)) ∙ sym (c .before .before .hex-digit2 .ensures) ∙ ap valueOf (c .enum-told2 .given .1)))
+
+mul-t6 : tie.Need-mul-t6
+mul-t6 c = omega (arith, digit-small (getD (c .before .before .before .before .before .before .before .before .before .before .before .args .text .now) (c .before .before .before .before .before .before .before .before .before .before .before .args .at) 0) (c .before .before .before .before .before .before .high .given .0 .0) (ap digit (sym (c .before .before .before .before .before .before .before .before .before .peek .ensures)) ∙ sym (c .before .before .before .before .before .before .before .before .hex-digit .ensures) ∙ ap valueOf (c .before .before .before .before .before .before .high .given .1)))
+
+add-t9 : tie.Need-add-t9
+add-t9 c = omega (arith, digit-small (getD (c .before .before .before .before .before .before .before .before .before .before .before .args .text .now) (c .before .before .before .before .before .before .before .before .before .before .before .args .at) 0) (c .before .before .before .before .before .before .high .given .0 .0) (ap digit (sym (c .before .before .before .before .before .before .before .before .before .peek .ensures)) ∙ sym (c .before .before .before .before .before .before .before .before .hex-digit .ensures) ∙ ap valueOf (c .before .before .before .before .before .before .high .given .1)), digit-small (getD (c .before .before .before .before .before .before .before .before .before .before .before .args .text .now) ((c .before .before .before .before .before .before .before .before .before .before .before .args .at) + 1) 0) (c .before .low .given .0 .0) (ap digit (sym (c .before .before .before .before .peek2 .ensures)) ∙ sym (c .before .before .before .hex-digit2 .ensures) ∙ ap valueOf (c .before .low .given .1)))
+
+add-t8 : tie.Need-add-t8
+add-t8 c = omega (arith, here-in (c .before .before .before .before .before .before .before .before .before .before .before .args .text .now) ((c .before .before .before .before .before .before .before .before .before .before .before .args .at) + 1) ((digit-small (getD (c .before .before .before .before .before .before .before .before .before .before .before .args .text .now) ((c .before .before .before .before .before .before .before .before .before .before .before .args .at) + 1) 0) (c .before .low .given .0 .0) (ap digit (sym (c .before .before .before .before .peek2 .ensures)) ∙ sym (c .before .before .before .hex-digit2 .ensures) ∙ ap valueOf (c .before .low .given .1))) .1))
+
+add-skip-blanks : tie.Need-add-skip-blanks
+add-skip-blanks c = omega (arith, here-in (c .before .before .before .before .before .before .before .before .before .before .before .args .text .now) ((c .before .before .before .before .before .before .before .before .before .before .before .args .at) + 1) ((digit-small (getD (c .before .before .before .before .before .before .before .before .before .before .before .args .text .now) ((c .before .before .before .before .before .before .before .before .before .before .before .args .at) + 1) 0) (c .before .low .given .0 .0) (ap digit (sym (c .before .before .before .before .peek2 .ensures)) ∙ sym (c .before .before .before .hex-digit2 .ensures) ∙ ap valueOf (c .before .low .given .1))) .1))
+
+skip-blanks-requires : tie.Need-skip-blanks-requires
+skip-blanks-requires c κs = search needs
+
+returns-3 : tie.Need-returns-3
+returns-3 c = ap (λ (e : ℕ). found (whole (16 * (c .before .before .before .before .before .before .before .high .given .0 .0) + c .before .before .low .given .0 .0)) ((c .before .before .before .before .before .before .before .before .before .before .before .before .args .at) + 2) e) (c .skip-blanks .ensures) ∙ sym (byte-both (c .before .before .before .before .before .before .before .before .before .before .before .before .args .text .now) (c .before .before .before .before .before .before .before .before .before .before .before .before .args .at) (ap digit (sym (c .before .before .before .before .before .before .before .before .before .before .peek .ensures)) ∙ sym (c .before .before .before .before .before .before .before .before .before .hex-digit .ensures) ∙ ap valueOf (c .before .before .before .before .before .before .before .high .given .1)) (ap digit (sym (c .before .before .before .before .before .peek2 .ensures)) ∙ sym (c .before .before .before .before .hex-digit2 .ensures) ∙ ap valueOf (c .before .before .low .given .1)))
+
+pub byte-spec : {M : Type 1} → statement M
+byte-spec =
+    tie.close
+    (tie.spec
+    peek-requires
+    hex-digit-requires
+    enum-known-high
+    enum-told
+    returns
+    add-peek
+    peek-requires-2
+    hex-digit-requires-2
+    enum-known-low
+    enum-told-2
+    returns-2
+    mul-t6
+    add-t9
+    add-t8
+    add-skip-blanks
+    skip-blanks-requires
+    returns-3)

@@ -1,0 +1,45 @@
+-- Each way out gives what the definition gives there. Assumes nothing.
+use mathlib.Core.Path.{sym, ap, _∙_}
+use Rattle.digits.specs.Answers.{spelled}
+use Rattle.reading.proofs.PieceSteps.{hex-byte, hex-masked}
+use native.Mathlib.Omega.{arith}
+use borrow.Author.Needs.{needs}
+use Rattle.digits.proofs.hex_byte.Statement.{statement}
+use Rattle.digits.proofs.hex_byte.Tie as tie
+
+byte-requires : tie.Need-byte-requires
+byte-requires c κs = search needs
+
+enum-told : tie.Need-enum-told
+enum-told c = search needs
+
+masked-byte-requires : tie.Need-masked-byte-requires
+masked-byte-requires c κs = search needs
+
+enum-known-b : tie.Need-enum-known-b
+enum-known-b c = search needs
+
+enum-known-b-2 : tie.Need-enum-known-b-2
+enum-known-b-2 c = search needs
+
+returns : tie.Need-returns
+returns c = c .masked-byte .ensures ∙ sym (hex-masked (c .before .before .before .before .before .args .text .now) (c .before .before .before .before .before .args .at) (sym (c .before .before .before .byte .ensures) ∙ ap spelled (c .before .enum-told .given .1)))
+
+returns-2 : tie.Need-returns-2
+returns-2 c = sym (hex-byte (c .before .before .before .before .before .args .text .now) (c .before .before .before .before .before .args .at) (sym (c .before .before .before .byte .ensures) ∙ ap spelled (c .before .b .given .1)))
+
+returns-3 : tie.Need-returns-3
+returns-3 c = sym (hex-byte (c .before .before .before .before .before .args .text .now) (c .before .before .before .before .before .args .at) (sym (c .before .before .before .byte .ensures) ∙ ap spelled (c .before .b2 .given .1)))
+
+pub hex-byte-spec : {M : Type 1} → statement M
+hex-byte-spec =
+    tie.close
+    (tie.spec
+    byte-requires
+    enum-told
+    masked-byte-requires
+    enum-known-b
+    enum-known-b-2
+    returns
+    returns-2
+    returns-3)

@@ -1,0 +1,19 @@
+-- Each way out gives what the definition gives there. Assumes nothing.
+use borrow.Author.Tests.{le-leb, lt-leb}
+use Rattle.reading.specs.Pieces.{within}
+use Rattle.meaning.specs.Tokens.{left}
+use native.Mathlib.Omega.{arith}
+use borrow.Author.Needs.{needs}
+use Rattle.digits.proofs.in_range.Statement.{statement}
+use Rattle.digits.proofs.in_range.Tie as tie
+
+returns : tie.Need-returns
+unfolding within
+returns c = rw (lt-leb (c .before .args .low) (c .before .args .c) (c .if1 .taken))
+
+returns-2 : tie.Need-returns-2
+unfolding within
+returns-2 c = rw (le-leb (c .before .args .low) (c .before .args .c) (c .if1 .left))
+
+pub in-range-spec : {M : Type 1} → statement M
+in-range-spec = tie.close (tie.spec returns returns-2)

@@ -1,0 +1,27 @@
+-- Each way out gives what the definition gives there. Assumes nothing.
+use borrow.Author.Tests.{ne-eqb}
+use Rattle.reading.specs.Blanks.{blank}
+use Rattle.meaning.specs.Tokens.{left}
+use native.Mathlib.Omega.{arith}
+use borrow.Author.Needs.{needs}
+use Rattle.digits.proofs.is_blank.Statement.{statement}
+use Rattle.digits.proofs.is_blank.Tie as tie
+
+returns : tie.Need-returns
+unfolding blank
+returns c = rw (c .if1 .taken)
+
+returns-2 : tie.Need-returns-2
+unfolding blank
+returns-2 c = rw (c .if2 .taken)
+
+returns-3 : tie.Need-returns-3
+unfolding blank
+returns-3 c = rw (c .if3 .taken)
+
+returns-4 : tie.Need-returns-4
+unfolding blank
+returns-4 c = simp (ne-eqb (c .before .before .before .args .c) 32 (c .before .before .if1 .left), ne-eqb (c .before .before .before .args .c) 9 (c .before .if2 .left), ne-eqb (c .before .before .before .args .c) 13 (c .if3 .left))
+
+pub is-blank-spec : {M : Type 1} → statement M
+is-blank-spec = tie.close (tie.spec returns returns-2 returns-3 returns-4)

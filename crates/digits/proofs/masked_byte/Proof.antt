@@ -1,0 +1,123 @@
+-- Each way out gives what the definition gives there. Assumes nothing.
+use mathlib.Core.Path.{sym, ap, _∙_}
+use Prim.Native.Nat.{ℕ, _+_}
+use lib.ListN.{getD}
+use Rattle.reading.specs.Pieces.{found, digit}
+use Rattle.reading.proofs.PieceLaws.{here-in, here-at, digit-small}
+use Rattle.digits.specs.Answers.{valueOf}
+use Rattle.reading.proofs.PieceSteps.{masked-all, masked-left, masked-no-left, masked-right, masked-no-right, masked-other}
+use Rattle.reading.specs.Pieces.{masked}
+use Rattle.meaning.specs.Tokens.{left, right, all}
+use native.Mathlib.Omega.{arith}
+use borrow.Author.Needs.{needs}
+use Rattle.digits.proofs.masked_byte.Statement.{statement}
+use Rattle.digits.proofs.masked_byte.Tie as tie
+
+peek-requires : tie.Need-peek-requires
+peek-requires c κs = search needs
+
+add-peek : tie.Need-add-peek
+add-peek c = omega (arith, here-at (c .before .before .before .args .text .now) (c .before .before .before .args .at) 63 (sym (c .before .peek .ensures) ∙ c .if1 .taken) (omega arith))
+
+peek-requires-2 : tie.Need-peek-requires-2
+peek-requires-2 c κs = search needs
+
+add-t11 : tie.Need-add-t11
+add-t11 c = omega (arith, here-at (c .before .before .before .before .before .args .text .now) ((c .before .before .before .before .before .args .at) + 1) 63 (sym (c .before .peek2 .ensures) ∙ c .if2 .taken) (omega arith))
+
+add-skip-blanks : tie.Need-add-skip-blanks
+add-skip-blanks c = omega (arith, here-at (c .before .before .before .before .before .args .text .now) ((c .before .before .before .before .before .args .at) + 1) 63 (sym (c .before .peek2 .ensures) ∙ c .if2 .taken) (omega arith))
+
+skip-blanks-requires : tie.Need-skip-blanks-requires
+skip-blanks-requires c κs = search needs
+
+returns : tie.Need-returns
+returns c = ap (λ (e : ℕ). found (masked 0 all) ((c .before .before .before .before .before .before .args .at) + 2) e) (c .skip-blanks .ensures) ∙ sym (masked-all (c .before .before .before .before .before .before .args .text .now) (c .before .before .before .before .before .before .args .at) (sym (c .before .before .before .before .peek .ensures) ∙ c .before .before .before .if1 .taken) (sym (c .before .before .peek2 .ensures) ∙ c .before .if2 .taken))
+
+hex-digit-requires : tie.Need-hex-digit-requires
+hex-digit-requires c κs = search needs
+
+enum-known-low : tie.Need-enum-known-low
+enum-known-low c = search needs
+
+enum-told : tie.Need-enum-told
+enum-told c = search needs
+
+returns-2 : tie.Need-returns-2
+returns-2 c = sym (masked-no-left (c .before .before .before .before .before .before .before .before .args .text .now) (c .before .before .before .before .before .before .before .before .args .at) (sym (c .before .before .before .before .before .before .peek .ensures) ∙ c .before .before .before .before .before .if1 .taken) (λ z. c .before .before .before .if2 .left (c .before .before .before .before .peek2 .ensures ∙ z)) (ap digit (sym (c .before .before .before .before .peek2 .ensures)) ∙ sym (c .before .before .hex-digit .ensures) ∙ ap valueOf (c .enum-told .given .1)))
+
+add-t8 : tie.Need-add-t8
+add-t8 c = omega (arith, here-in (c .before .before .before .before .before .before .before .before .before .args .text .now) ((c .before .before .before .before .before .before .before .before .before .args .at) + 1) (digit-small (getD (c .before .before .before .before .before .before .before .before .before .args .text .now) ((c .before .before .before .before .before .before .before .before .before .args .at) + 1) 0) (c .before .low .given .0 .0) (ap digit (sym (c .before .before .before .before .before .peek2 .ensures)) ∙ sym (c .before .before .before .hex-digit .ensures) ∙ ap valueOf (c .before .low .given .1)) .1))
+
+add-skip-blanks-2 : tie.Need-add-skip-blanks-2
+add-skip-blanks-2 c = omega (arith, here-in (c .before .before .before .before .before .before .before .before .before .args .text .now) ((c .before .before .before .before .before .before .before .before .before .args .at) + 1) (digit-small (getD (c .before .before .before .before .before .before .before .before .before .args .text .now) ((c .before .before .before .before .before .before .before .before .before .args .at) + 1) 0) (c .before .low .given .0 .0) (ap digit (sym (c .before .before .before .before .before .peek2 .ensures)) ∙ sym (c .before .before .before .hex-digit .ensures) ∙ ap valueOf (c .before .low .given .1)) .1))
+
+skip-blanks-requires-2 : tie.Need-skip-blanks-requires-2
+skip-blanks-requires-2 c κs = search needs
+
+returns-3 : tie.Need-returns-3
+returns-3 c = ap (λ (e : ℕ). found (masked (c .before .before .low .given .0 .0) left) ((c .before .before .before .before .before .before .before .before .before .before .args .at) + 2) e) (c .skip-blanks2 .ensures) ∙ sym (masked-left (c .before .before .before .before .before .before .before .before .before .before .args .text .now) (c .before .before .before .before .before .before .before .before .before .before .args .at) (sym (c .before .before .before .before .before .before .before .before .peek .ensures) ∙ c .before .before .before .before .before .before .before .if1 .taken) (λ z. c .before .before .before .before .before .if2 .left (c .before .before .before .before .before .before .peek2 .ensures ∙ z)) (ap digit (sym (c .before .before .before .before .before .before .peek2 .ensures)) ∙ sym (c .before .before .before .before .hex-digit .ensures) ∙ ap valueOf (c .before .before .low .given .1)))
+
+hex-digit-requires-2 : tie.Need-hex-digit-requires-2
+hex-digit-requires-2 c κs = search needs
+
+enum-known-high : tie.Need-enum-known-high
+enum-known-high c = search needs
+
+enum-told-2 : tie.Need-enum-told-2
+enum-told-2 c = search needs
+
+returns-4 : tie.Need-returns-4
+returns-4 c = sym (masked-no-right (c .before .before .before .before .before .before .args .text .now) (c .before .before .before .before .before .before .args .at) (λ z. c .before .before .before .if1 .left (c .before .before .before .before .peek .ensures ∙ z)) (ap digit (sym (c .before .before .before .before .peek .ensures)) ∙ sym (c .before .before .hex-digit2 .ensures) ∙ ap valueOf (c .enum-told2 .given .1)))
+
+add-peek-2 : tie.Need-add-peek-2
+add-peek-2 c = omega (arith, here-in (c .before .before .before .before .before .before .before .args .text .now) (c .before .before .before .before .before .before .before .args .at) (digit-small (getD (c .before .before .before .before .before .before .before .args .text .now) (c .before .before .before .before .before .before .before .args .at) 0) (c .before .high .given .0 .0) (ap digit (sym (c .before .before .before .before .before .peek .ensures)) ∙ sym (c .before .before .before .hex-digit2 .ensures) ∙ ap valueOf (c .before .high .given .1)) .1))
+
+peek-requires-3 : tie.Need-peek-requires-3
+peek-requires-3 c κs = search needs
+
+returns-5 : tie.Need-returns-5
+returns-5 c = sym (masked-other (c .before .before .before .before .before .before .before .before .before .args .text .now) (c .before .before .before .before .before .before .before .before .before .args .at) (λ z. c .before .before .before .before .before .before .if1 .left (c .before .before .before .before .before .before .before .peek .ensures ∙ z)) (λ z. c .if3 .taken (c .before .peek3 .ensures ∙ z)))
+
+add-t20 : tie.Need-add-t20
+add-t20 c = omega (arith, here-at (c .before .before .before .before .before .before .before .before .before .args .text .now) ((c .before .before .before .before .before .before .before .before .before .args .at) + 1) 63 (sym (c .before .peek3 .ensures) ∙ c .if3 .left) (omega arith))
+
+add-skip-blanks-3 : tie.Need-add-skip-blanks-3
+add-skip-blanks-3 c = omega (arith, here-at (c .before .before .before .before .before .before .before .before .before .args .text .now) ((c .before .before .before .before .before .before .before .before .before .args .at) + 1) 63 (sym (c .before .peek3 .ensures) ∙ c .if3 .left) (omega arith))
+
+skip-blanks-requires-3 : tie.Need-skip-blanks-requires-3
+skip-blanks-requires-3 c κs = search needs
+
+returns-6 : tie.Need-returns-6
+returns-6 c = ap (λ (e : ℕ). found (masked (c .before .before .before .before .high .given .0 .0) right) ((c .before .before .before .before .before .before .before .before .before .before .args .at) + 2) e) (c .skip-blanks3 .ensures) ∙ sym (masked-right (c .before .before .before .before .before .before .before .before .before .before .args .text .now) (c .before .before .before .before .before .before .before .before .before .before .args .at) (λ z. c .before .before .before .before .before .before .before .if1 .left (c .before .before .before .before .before .before .before .before .peek .ensures ∙ z)) (ap digit (sym (c .before .before .before .before .before .before .before .before .peek .ensures)) ∙ sym (c .before .before .before .before .before .before .hex-digit2 .ensures) ∙ ap valueOf (c .before .before .before .before .high .given .1)) (sym (c .before .before .peek3 .ensures) ∙ c .before .if3 .left))
+
+pub masked-byte-spec : {M : Type 1} → statement M
+masked-byte-spec =
+    tie.close
+    (tie.spec
+    peek-requires
+    add-peek
+    peek-requires-2
+    add-t11
+    add-skip-blanks
+    skip-blanks-requires
+    returns
+    hex-digit-requires
+    enum-known-low
+    enum-told
+    returns-2
+    add-t8
+    add-skip-blanks-2
+    skip-blanks-requires-2
+    returns-3
+    hex-digit-requires-2
+    enum-known-high
+    enum-told-2
+    returns-4
+    add-peek-2
+    peek-requires-3
+    returns-5
+    add-t20
+    add-skip-blanks-3
+    skip-blanks-requires-3
+    returns-6)

@@ -1,0 +1,94 @@
+-- The digits from here spell, after the value so far, what all of them spell. Assumes nothing.
+use mathlib.Core.Path.{_≡_, refl, sym, ap, _∙_}
+use Prim.Native.Nat.{ℕ, _+_, _-_, _*_, _≤_, _<_}
+use lib.ListN.{length, drop, getD}
+use borrow.Author.Tests.{not-true, not-false}
+use Rattle.reading.specs.Pieces.{found, within, decimals, numeral}
+use Rattle.reading.proofs.PieceLaws.{here-in, within-true, number-none, number-next, numeral-from}
+use Rattle.reading.proofs.PieceSteps.{number-absent, number-found, number-big}
+use Rattle.meaning.specs.Tokens.{left}
+use native.Mathlib.Omega.{arith}
+use borrow.Author.Needs.{needs}
+use Rattle.digits.proofs.number.Statement.{statement}
+use Rattle.digits.proofs.number.Tie as tie
+
+abbrev Inv-loop : tie.InvT-loop
+Inv-loop text at first value₀ i₀ value i = (numeral 0 (drop at text) ≡ numeral value (drop i text)) × (at + decimals (drop at text) ≡ i + decimals (drop i text)) × (value ≤ 4294967295)
+
+abbrev μ-loop : tie.MeasureT-loop
+μ-loop text at first value₀ i₀ value i = length text - i
+
+peek-requires : tie.Need-peek-requires Inv-loop μ-loop
+peek-requires c κs = search needs
+
+in-range-requires : tie.Need-in-range-requires Inv-loop μ-loop
+in-range-requires c κs = search needs
+
+returns : tie.Need-returns Inv-loop μ-loop
+returns c = sym (number-absent (c .before .before .before .before .args .text .now) (c .before .before .before .before .args .at) (ap (within 48 57) (sym (c .before .before .peek .ensures)) ∙ sym (c .before .in-range .ensures) ∙ not-true (c .before .in-range .result) (c .if1 .taken)))
+
+loop-holds : tie.Need-loop-holds Inv-loop μ-loop
+loop-holds c = (refl, refl, omega arith)
+
+peek-requires-2 : tie.Need-peek-requires-2 Inv-loop μ-loop
+peek-requires-2 c κs = search needs
+
+in-range-requires-2 : tie.Need-in-range-requires-2 Inv-loop μ-loop
+in-range-requires-2 c κs = search needs
+
+cast-t11 : tie.Need-cast-t11 Inv-loop μ-loop
+cast-t11 c = let l = c .before .before .before .loop .inv .2 in omega arith
+
+skip-blanks-requires : tie.Need-skip-blanks-requires Inv-loop μ-loop
+skip-blanks-requires c κs = search needs
+
+returns-2 : tie.Need-returns-2 Inv-loop μ-loop
+returns-2 c = let z = number-none (c .before .before .before .before .before .before .before .before .before .args .text .now) (c .before .before .before .before .loop .value) (c .before .before .before .before .loop .i) (ap (within 48 57) (sym (c .before .before .before .peek2 .ensures)) ∙ sym (c .before .before .in-range2 .ensures) ∙ not-true (c .before .before .in-range2 .result) (c .before .if2 .taken)) in let w = c .before .before .before .before .loop .inv .1 in let q : (c .before .before .before .before .before .before .before .before .before .args .at) + decimals (drop (c .before .before .before .before .before .before .before .before .before .args .at) (c .before .before .before .before .before .before .before .before .before .args .text .now)) ≡ (c .before .before .before .before .loop .i) = omega arith in ap (λ (e : ℕ). found (c .before .before .before .before .loop .value) (c .before .before .before .before .loop .i) e) (c .skip-blanks .ensures) ∙ sym (number-found (c .before .before .before .before .before .before .before .before .before .args .text .now) (c .before .before .before .before .before .before .before .before .before .args .at) (ap (within 48 57) (sym (c .before .before .before .before .before .before .before .peek .ensures)) ∙ sym (c .before .before .before .before .before .before .in-range .ensures) ∙ not-false (c .before .before .before .before .before .before .in-range .result) (c .before .before .before .before .before .if1 .left)) (c .before .before .before .before .loop .inv .0 ∙ z .1) q (c .before .before .before .before .loop .inv .2))
+
+mul-value : tie.Need-mul-value Inv-loop μ-loop
+mul-value c = let l = c .before .before .before .loop .inv .2 in omega arith
+
+sub-wide : tie.Need-sub-wide Inv-loop μ-loop
+sub-wide c = let p = c .before .before .peek2 .ensures in let d = within-true 48 57 (getD (c .before .before .before .before .before .before .before .before .args .text .now) (c .before .before .before .loop .i) 0) (ap (within 48 57) (sym (c .before .before .peek2 .ensures)) ∙ sym (c .before .in-range2 .ensures) ∙ not-false (c .before .in-range2 .result) (c .if2 .left)) in let l = c .before .before .before .loop .inv .2 in omega arith
+
+wide-requires : tie.Need-wide-requires Inv-loop μ-loop
+wide-requires c κs = search needs
+
+add-value : tie.Need-add-value Inv-loop μ-loop
+add-value c = let p = c .before .before .before .peek2 .ensures in let d = within-true 48 57 (getD (c .before .before .before .before .before .before .before .before .before .args .text .now) (c .before .before .before .before .loop .i) 0) (ap (within 48 57) (sym (c .before .before .before .peek2 .ensures)) ∙ sym (c .before .before .in-range2 .ensures) ∙ not-false (c .before .before .in-range2 .result) (c .before .if2 .left)) in let l = c .before .before .before .before .loop .inv .2 in let w = c .wide .ensures in omega arith
+
+returns-3 : tie.Need-returns-3 Inv-loop μ-loop
+returns-3 c = let p = c .before .before .before .before .peek2 .ensures in let d = within-true 48 57 (getD (c .before .before .before .before .before .before .before .before .before .before .args .text .now) (c .before .before .before .before .before .loop .i) 0) (ap (within 48 57) (sym (c .before .before .before .before .peek2 .ensures)) ∙ sym (c .before .before .before .in-range2 .ensures) ∙ not-false (c .before .before .before .in-range2 .result) (c .before .before .if2 .left)) in let l = c .before .before .before .before .before .loop .inv .2 in let w = c .before .wide .ensures in let n = number-next (c .before .before .before .before .before .before .before .before .before .before .args .text .now) (c .before .before .before .before .before .loop .value) (c .before .before .before .before .before .loop .i) (ap (within 48 57) (sym (c .before .before .before .before .peek2 .ensures)) ∙ sym (c .before .before .before .in-range2 .ensures) ∙ not-false (c .before .before .before .in-range2 .result) (c .before .before .if2 .left)) in let m = numeral-from (10 * (c .before .before .before .before .before .loop .value) + (getD (c .before .before .before .before .before .before .before .before .before .before .args .text .now) (c .before .before .before .before .before .loop .i) 0 - 48)) (drop ((c .before .before .before .before .before .loop .i) + 1) (c .before .before .before .before .before .before .before .before .before .before .args .text .now)) in let k = c .before .before .before .before .before .loop .inv .0 in let h = c .if3 .taken in let b : 4294967295 < numeral 0 (drop (c .before .before .before .before .before .before .before .before .before .before .args .at) (c .before .before .before .before .before .before .before .before .before .before .args .text .now)) = omega arith in sym (number-big (c .before .before .before .before .before .before .before .before .before .before .args .text .now) (c .before .before .before .before .before .before .before .before .before .before .args .at) (ap (within 48 57) (sym (c .before .before .before .before .before .before .before .before .peek .ensures)) ∙ sym (c .before .before .before .before .before .before .before .in-range .ensures) ∙ not-false (c .before .before .before .before .before .before .before .in-range .result) (c .before .before .before .before .before .before .if1 .left)) b)
+
+add-i : tie.Need-add-i Inv-loop μ-loop
+add-i c = omega (arith, here-in (c .before .before .before .before .before .before .before .before .before .before .args .text .now) (c .before .before .before .before .before .loop .i) (omega (arith, within-true 48 57 (getD (c .before .before .before .before .before .before .before .before .before .before .args .text .now) (c .before .before .before .before .before .loop .i) 0) (ap (within 48 57) (sym (c .before .before .before .before .peek2 .ensures)) ∙ sym (c .before .before .before .in-range2 .ensures) ∙ not-false (c .before .before .before .in-range2 .result) (c .before .before .if2 .left)))))
+
+loop-less : tie.Need-loop-less Inv-loop μ-loop
+loop-less c = omega (arith, here-in (c .before .before .before .before .before .before .before .before .before .before .args .text .now) (c .before .before .before .before .before .loop .i) (omega (arith, within-true 48 57 (getD (c .before .before .before .before .before .before .before .before .before .before .args .text .now) (c .before .before .before .before .before .loop .i) 0) (ap (within 48 57) (sym (c .before .before .before .before .peek2 .ensures)) ∙ sym (c .before .before .before .in-range2 .ensures) ∙ not-false (c .before .before .before .in-range2 .result) (c .before .before .if2 .left)))))
+
+loop-again : tie.Need-loop-again Inv-loop μ-loop
+loop-again c = let p = c .before .before .before .before .peek2 .ensures in let d = within-true 48 57 (getD (c .before .before .before .before .before .before .before .before .before .before .args .text .now) (c .before .before .before .before .before .loop .i) 0) (ap (within 48 57) (sym (c .before .before .before .before .peek2 .ensures)) ∙ sym (c .before .before .before .in-range2 .ensures) ∙ not-false (c .before .before .before .in-range2 .result) (c .before .before .if2 .left)) in let l = c .before .before .before .before .before .loop .inv .2 in let w = c .before .wide .ensures in let n = number-next (c .before .before .before .before .before .before .before .before .before .before .args .text .now) (c .before .before .before .before .before .loop .value) (c .before .before .before .before .before .loop .i) (ap (within 48 57) (sym (c .before .before .before .before .peek2 .ensures)) ∙ sym (c .before .before .before .in-range2 .ensures) ∙ not-false (c .before .before .before .in-range2 .result) (c .before .before .if2 .left)) in let k = c .before .before .before .before .before .loop .inv .1 in let q : 10 * (c .before .before .before .before .before .loop .value) + (getD (c .before .before .before .before .before .before .before .before .before .before .args .text .now) (c .before .before .before .before .before .loop .i) 0 - 48) ≡ 10 * (c .before .before .before .before .before .loop .value) + c .before .wide .result = omega arith in (c .before .before .before .before .before .loop .inv .0 ∙ n .1 ∙ ap (λ (m : ℕ). numeral m (drop ((c .before .before .before .before .before .loop .i) + 1) (c .before .before .before .before .before .before .before .before .before .before .args .text .now))) q, omega arith, c .if3 .left)
+
+pub number-spec : {M : Type 1} → statement M
+number-spec =
+    tie.close
+    (tie.spec
+    Inv-loop
+    μ-loop
+    peek-requires
+    in-range-requires
+    returns
+    loop-holds
+    peek-requires-2
+    in-range-requires-2
+    cast-t11
+    skip-blanks-requires
+    returns-2
+    mul-value
+    sub-wide
+    wide-requires
+    add-value
+    returns-3
+    add-i
+    loop-less
+    loop-again)

@@ -1,0 +1,86 @@
+-- Each way out gives what the definition gives there. Assumes nothing.
+use mathlib.Core.Path.{sym, ap, _∙_}
+use Rattle.reading.specs.Pieces.{lowerAt}
+use Rattle.reading.proofs.PieceLaws.{here-at}
+use Rattle.digits.specs.Answers.{numbered}
+use Rattle.reading.proofs.PieceSteps.{range-else, range-at, lower-closed, lower-dash}
+use Rattle.meaning.specs.Tokens.{left}
+use native.Mathlib.Omega.{arith}
+use borrow.Author.Needs.{needs}
+use Rattle.digits.proofs.range.Statement.{statement}
+use Rattle.digits.proofs.range.Tie as tie
+
+peek-requires : tie.Need-peek-requires
+peek-requires c κs = search needs
+
+returns : tie.Need-returns
+returns c = sym (range-else (c .before .before .before .args .text .now) (c .before .before .before .args .at) (λ z. c .if1 .taken (c .before .peek .ensures ∙ z)))
+
+add-skip-blanks : tie.Need-add-skip-blanks
+add-skip-blanks c = omega (arith, here-at (c .before .before .before .args .text .now) (c .before .before .before .args .at) 91 (sym (c .before .peek .ensures) ∙ c .if1 .left) (omega arith))
+
+skip-blanks-requires : tie.Need-skip-blanks-requires
+skip-blanks-requires c κs = search needs
+
+number-requires : tie.Need-number-requires
+number-requires c κs = search needs
+
+enum-known-from : tie.Need-enum-known-from
+enum-known-from c = search needs
+
+peek-requires-2 : tie.Need-peek-requires-2
+peek-requires-2 c κs = search needs
+
+add-checked-jump : tie.Need-add-checked-jump
+add-checked-jump c = omega (arith, here-at (c .before .before .before .before .before .before .before .before .before .before .args .text .now) (c .before .before .before .from .given .0 .1 .1 .0) 93 (sym (c .before .peek2 .ensures) ∙ c .if2 .taken) (omega arith))
+
+checked-jump-requires : tie.Need-checked-jump-requires
+checked-jump-requires c κs = search needs
+
+returns-2 : tie.Need-returns-2
+returns-2 c = c .checked-jump .ensures ∙ sym (range-at (c .before .before .before .before .before .before .before .before .before .before .before .args .text .now) (c .before .before .before .before .before .before .before .before .before .before .before .args .at) (c .before .before .before .before .before .before .before .skip-blanks .result) (sym (c .before .before .before .before .before .before .before .before .before .peek .ensures) ∙ c .before .before .before .before .before .before .before .before .if1 .left) (c .before .before .before .before .before .before .before .skip-blanks .ensures) (sym (c .before .before .before .before .before .before .number .ensures) ∙ ap (numbered (c .before .before .before .before .before .before .before .skip-blanks .result)) (c .before .before .before .before .from .given .1)) ∙ lower-closed (c .before .before .before .before .before .before .before .before .before .before .before .args .text .now) (c .before .before .before .before .before .before .before .before .before .before .before .args .at) (c .before .before .before .before .before .before .before .skip-blanks .result) (c .before .before .before .before .from .given .0 .0) (c .before .before .before .before .from .given .0 .1 .0) (c .before .before .before .before .from .given .0 .1 .1 .0) (sym (c .before .before .peek2 .ensures) ∙ c .before .if2 .taken))
+
+dashed-jump-requires : tie.Need-dashed-jump-requires
+dashed-jump-requires c κs = search needs
+
+enum-told : tie.Need-enum-told
+enum-told c = search needs
+
+dashed-jump-requires-2 : tie.Need-dashed-jump-requires-2
+dashed-jump-requires-2 c κs = search needs
+
+enum-told-2 : tie.Need-enum-told-2
+enum-told-2 c = search needs
+
+returns-3 : tie.Need-returns-3
+returns-3 c = c .dashed-jump .ensures ∙ sym (range-at (c .before .before .before .before .before .before .before .before .before .before .before .args .text .now) (c .before .before .before .before .before .before .before .before .before .before .before .args .at) (c .before .before .before .before .before .before .before .skip-blanks .result) (sym (c .before .before .before .before .before .before .before .before .before .peek .ensures) ∙ c .before .before .before .before .before .before .before .before .if1 .left) (c .before .before .before .before .before .before .before .skip-blanks .ensures) (sym (c .before .before .before .before .before .before .number .ensures) ∙ ap (numbered (c .before .before .before .before .before .before .before .skip-blanks .result)) (c .before .before .before .before .from .given .1)) ∙ lower-dash (c .before .before .before .before .before .before .before .before .before .before .before .args .text .now) (c .before .before .before .before .before .before .before .before .before .before .before .args .at) (c .before .before .before .before .before .before .before .skip-blanks .result) (c .before .before .before .before .from .given .0 .0) (c .before .before .before .before .from .given .0 .1 .0) (c .before .before .before .before .from .given .0 .1 .1 .0) (λ z. c .before .if2 .left (c .before .before .peek2 .ensures ∙ z)))
+
+returns-4 : tie.Need-returns-4
+unfolding lowerAt
+returns-4 c = c .dashed-jump2 .ensures ∙ sym (range-at (c .before .before .before .before .before .before .before .before .args .text .now) (c .before .before .before .before .before .before .before .before .args .at) (c .before .before .before .before .skip-blanks .result) (sym (c .before .before .before .before .before .before .peek .ensures) ∙ c .before .before .before .before .before .if1 .left) (c .before .before .before .before .skip-blanks .ensures) (sym (c .before .before .before .number .ensures) ∙ ap (numbered (c .before .before .before .before .skip-blanks .result)) (c .before .enum-told .given .1)))
+
+returns-5 : tie.Need-returns-5
+unfolding lowerAt
+returns-5 c = sym (range-at (c .before .before .before .before .before .before .before .args .text .now) (c .before .before .before .before .before .before .before .args .at) (c .before .before .before .skip-blanks .result) (sym (c .before .before .before .before .before .peek .ensures) ∙ c .before .before .before .before .if1 .left) (c .before .before .before .skip-blanks .ensures) (sym (c .before .before .number .ensures) ∙ ap (numbered (c .before .before .before .skip-blanks .result)) (c .enum-told2 .given .1)))
+
+pub range-spec : {M : Type 1} → statement M
+range-spec =
+    tie.close
+    (tie.spec
+    peek-requires
+    returns
+    add-skip-blanks
+    skip-blanks-requires
+    number-requires
+    enum-known-from
+    peek-requires-2
+    add-checked-jump
+    checked-jump-requires
+    returns-2
+    dashed-jump-requires
+    enum-told
+    dashed-jump-requires-2
+    enum-told-2
+    returns-3
+    returns-4
+    returns-5)

@@ -1,0 +1,295 @@
+-- The three readers together. A call falls in four times the bytes of text left, with a rank among calls that read nothing. Assumes nothing.
+use mathlib.Core.Path.{_≡_, refl, sym, ap, _∙_, subst}
+use mathlib.Core.Bool.{Bool, false}
+use mathlib.Core.List.{List}
+use Prim.Native.Nat.{_+_, _-_, _*_, _≤_}
+use native.Mathlib.Omega.{arith}
+use borrow.Author.Needs.{needs}
+use lib.ListN.{length, getD}
+use Rattle.base.specs.declared.Refusal.the-variants.{HexStringTooDeep, TooManyTokens}
+use Rattle.meaning.specs.Entries.{entriesOf}
+use Rattle.reading.specs.Lists.{token, list}
+use Rattle.reading.proofs.PieceLaws.{here-at, skip-from}
+use Rattle.reading.proofs.ListSteps.{list-deep}
+use Rattle.digits.specs.Answers.{pieceOf, tokenOf}
+use Rattle.reader.specs.declared.ListGot.{ListGot}
+use Rattle.reader.specs.Says.{ListSays, alternatives, Room}
+use Rattle.reader.proofs.SaysLaws.{says-same, says-read, says-absent, says-refused, list-says-refused, token-full, token-found, token-other, token-refuses, one-entry, no-bracket, bracket-full}
+use Rattle.reader.proofs.ListLoop.{Tokened, stepped, tokened-start, tokened-next, tokened-end, tokened-stop}
+use Rattle.reader.proofs.AlternativesLoop.{Listed, turned, listed-start, listed-next, listed-done, listed-else, listed-missing, listed-stop}
+use Prim.Native.Nat.{ℕ, _<_}
+use borrow.Fn.Kinds.{In}
+use borrow.Fn.PlainCycle.{Measures, is, falls, and}
+use Rattle.reader.proofs.read_alternatives.Reads as read-alternatives
+use Rattle.reader.proofs.read_alternatives.Kinds as read-alternatives-kinds
+use Rattle.reader.proofs.+read_alternatives+read_list+read_token.Lts-read_alternatives as read-alternatives-lts
+use Rattle.reader.proofs.read_list.Reads as read-list
+use Rattle.reader.proofs.read_list.Kinds as read-list-kinds
+use Rattle.reader.proofs.+read_alternatives+read_list+read_token.Lts-read_list as read-list-lts
+use Rattle.reader.proofs.read_token.Reads as read-token
+use Rattle.reader.proofs.read_token.Kinds as read-token-kinds
+use Rattle.reader.proofs.+read_alternatives+read_list+read_token.Lts-read_token as read-token-lts
+use Rattle.digits.proofs.peek.Reads as peek-reads
+use Rattle.digits.proofs.plain_token.Reads as plain-token-reads
+use Rattle.digits.proofs.skip_blanks.Reads as skip-blanks-reads
+use Rattle.reader.proofs.first_jump.Reads as first-jump-reads
+use Rattle.reader.proofs.list_end.Reads as list-end-reads
+use Rattle.reader.proofs.put_head.Reads as put-head-reads
+use Rattle.reader.proofs.put_plain.Reads as put-plain-reads
+use Rattle.reader.proofs.+read_alternatives+read_list+read_token.{statement}
+use Rattle.reader.proofs.+read_alternatives+read_list+read_token.Tie.{close}
+
+abbrev μ-read-alternatives : Measures 2 read-alternatives-kinds.ps ℕ
+μ-read-alternatives κs a = 4 * (length (a .0 .now) - a .1 .0)
+
+abbrev μ-read-list : Measures 2 read-list-kinds.ps ℕ
+μ-read-list κs a = 4 * (length (a .0 .now) - a .1 .0) + 2
+
+abbrev μ-read-token : Measures 2 read-token-kinds.ps ℕ
+μ-read-token κs a = 4 * (length (a .0 .now) - a .1 .0) + 1
+
+abbrev read-alternatives-at : ℕ → In 2 read-alternatives-kinds.ps
+read-alternatives-at t = and 2 read-alternatives-kinds.ps (is 2 read-alternatives-kinds.ps μ-read-alternatives t) read-alternatives.Pre
+
+abbrev read-alternatives-below : ℕ → In 2 read-alternatives-kinds.ps
+read-alternatives-below t = and 2 read-alternatives-kinds.ps (falls 2 read-alternatives-kinds.ps _<_ μ-read-alternatives t) read-alternatives.Pre
+
+abbrev read-list-at : ℕ → In 2 read-list-kinds.ps
+read-list-at t = and 2 read-list-kinds.ps (is 2 read-list-kinds.ps μ-read-list t) read-list.Pre
+
+abbrev read-list-below : ℕ → In 2 read-list-kinds.ps
+read-list-below t = and 2 read-list-kinds.ps (falls 2 read-list-kinds.ps _<_ μ-read-list t) read-list.Pre
+
+abbrev read-token-at : ℕ → In 2 read-token-kinds.ps
+read-token-at t = and 2 read-token-kinds.ps (is 2 read-token-kinds.ps μ-read-token t) read-token.Pre
+
+abbrev read-token-below : ℕ → In 2 read-token-kinds.ps
+read-token-below t = and 2 read-token-kinds.ps (falls 2 read-token-kinds.ps _<_ μ-read-token t) read-token.Pre
+
+abbrev read-alternatives-claims : ℕ → read-alternatives-lts.Claims
+read-alternatives-claims t = (peek-reads.Asked, peek-reads.Learnt, skip-blanks-reads.Asked, skip-blanks-reads.Learnt, read-list-below t, read-list.Post, put-head-reads.Asked, put-head-reads.Learnt)
+
+abbrev read-list-claims : ℕ → read-list-lts.Claims
+read-list-claims t = (read-token-below t, read-token.Post, first-jump-reads.Asked, first-jump-reads.Learnt, list-end-reads.Asked, list-end-reads.Learnt)
+
+abbrev read-token-claims : ℕ → read-token-lts.Claims
+read-token-claims t = (plain-token-reads.Asked, plain-token-reads.Learnt, put-plain-reads.Asked, put-plain-reads.Learnt, read-alternatives-below t, read-alternatives.Post)
+
+abbrev read-alternatives-Inv-loop : read-alternatives-lts.InvT-loop
+read-alternatives-Inv-loop text at level count pool₀ n x₀ miss₀ m₀ c₀ k₀ pool x miss m c k = Listed text level count at n pool₀ pool x miss m c k
+
+abbrev read-alternatives-μ-loop : read-alternatives-lts.MeasureT-loop
+read-alternatives-μ-loop text at level count pool₀ n x₀ miss₀ m₀ c₀ k₀ pool x miss m c k = length text - x
+
+abbrev read-list-Inv-loop : read-list-lts.InvT-loop
+read-list-Inv-loop text at level count pool₀ n x₀ m₀ c₀ k₀ first₀ last₀ pool x m c k first last = Tokened text level count at n pool₀ pool x m c k first last
+
+abbrev read-list-μ-loop : read-list-lts.MeasureT-loop
+read-list-μ-loop text at level count pool₀ n x₀ m₀ c₀ k₀ first₀ last₀ pool x m c k first last = length text - x
+
+module _ (t : ℕ) where
+  read-alternatives-peek-requires : read-alternatives-lts.Need-peek-requires (read-alternatives-claims t) (read-alternatives-at t) read-alternatives.Post read-alternatives-Inv-loop read-alternatives-μ-loop
+  read-alternatives-peek-requires c κs = search needs
+
+  read-alternatives-returns : read-alternatives-lts.Need-returns (read-alternatives-claims t) (read-alternatives-at t) read-alternatives.Post read-alternatives-Inv-loop read-alternatives-μ-loop
+  read-alternatives-returns c = says-absent (alternatives (c .before .before .before .before .args .text .now) (c .before .before .before .before .args .level) (c .before .before .before .before .args .count) (c .before .before .before .before .args .at)) (c .before .before .before .before .args .n) (c .before .before .before .before .args .pool .now) (no-bracket (c .before .before .before .before .args .text .now) (c .before .before .before .before .args .level) (c .before .before .before .before .args .count) (c .before .before .before .before .args .at) (λ z. c .if1 .taken (c .before .peek .ensures ∙ z)))
+
+  read-alternatives-returns-2 : read-alternatives-lts.Need-returns-2 (read-alternatives-claims t) (read-alternatives-at t) read-alternatives.Post read-alternatives-Inv-loop read-alternatives-μ-loop
+  read-alternatives-returns-2 c = says-refused (alternatives (c .before .before .before .before .before .args .text .now) (c .before .before .before .before .before .args .level) (c .before .before .before .before .before .args .count) (c .before .before .before .before .before .args .at)) (c .before .before .before .before .before .args .n) (c .before .before .before .before .before .args .pool .now) (c .before .before .before .before .before .args .pool .now) TooManyTokens (c .before .before .before .before .before .args .at) (bracket-full (c .before .before .before .before .before .args .text .now) (c .before .before .before .before .before .args .level) (c .before .before .before .before .before .args .count) (c .before .before .before .before .before .args .at) (sym (c .before .before .peek .ensures) ∙ c .before .if1 .left) (c .if2 .taken))
+
+  read-alternatives-add-skip-blanks : read-alternatives-lts.Need-add-skip-blanks (read-alternatives-claims t) (read-alternatives-at t) read-alternatives.Post read-alternatives-Inv-loop read-alternatives-μ-loop
+  read-alternatives-add-skip-blanks c = omega (arith, here-at (c .before .before .before .before .before .args .text .now) (c .before .before .before .before .before .args .at) 40 (sym (c .before .before .peek .ensures) ∙ c .before .if1 .left) (omega arith))
+
+  read-alternatives-skip-blanks-requires : read-alternatives-lts.Need-skip-blanks-requires (read-alternatives-claims t) (read-alternatives-at t) read-alternatives.Post read-alternatives-Inv-loop read-alternatives-μ-loop
+  read-alternatives-skip-blanks-requires c κs = search needs
+
+  read-alternatives-add-m : read-alternatives-lts.Need-add-m (read-alternatives-claims t) (read-alternatives-at t) read-alternatives.Post read-alternatives-Inv-loop read-alternatives-μ-loop
+  read-alternatives-add-m c = let o = c .before .before .before .before .before .before .pre .1 .0 in let e = c .before .before .before .before .before .before .pre .0 in let h = c .before .before .before .before .before .before .pre .1 .1 in let f = c .before .if2 .left in omega arith
+
+  read-alternatives-add-c : read-alternatives-lts.Need-add-c (read-alternatives-claims t) (read-alternatives-at t) read-alternatives.Post read-alternatives-Inv-loop read-alternatives-μ-loop
+  read-alternatives-add-c c = let o = c .before .before .before .before .before .before .pre .1 .0 in let e = c .before .before .before .before .before .before .pre .0 in let h = c .before .before .before .before .before .before .pre .1 .1 in let f = c .before .if2 .left in omega arith
+
+  read-alternatives-loop-holds : read-alternatives-lts.Need-loop-holds (read-alternatives-claims t) (read-alternatives-at t) read-alternatives.Post read-alternatives-Inv-loop read-alternatives-μ-loop
+  read-alternatives-loop-holds c = subst (λ (x : ℕ). Listed (c .before .before .before .before .before .before .args .text .now) (c .before .before .before .before .before .before .args .level) (c .before .before .before .before .before .before .args .count) (c .before .before .before .before .before .before .args .at) (c .before .before .before .before .before .before .args .n) (c .before .before .before .before .before .before .args .pool .now) (c .before .before .before .before .before .before .args .pool .now) x x ((c .before .before .before .before .before .before .args .n) + 4) ((c .before .before .before .before .before .before .args .count) + 1) 0) (sym (c .skip-blanks .ensures)) (listed-start (c .before .before .before .before .before .before .args .text .now) (c .before .before .before .before .before .before .args .level) (c .before .before .before .before .before .before .args .count) (c .before .before .before .before .before .before .args .at) (c .before .before .before .before .before .before .args .n) (c .before .before .before .before .before .before .args .pool .now) (here-at (c .before .before .before .before .before .before .args .text .now) (c .before .before .before .before .before .before .args .at) 40 (sym (c .before .before .before .peek .ensures) ∙ c .before .before .if1 .left) (omega arith)) (c .before .before .before .before .before .before .pre .1 .0 .used) (c .before .if2 .left))
+
+  read-alternatives-add-read-list : read-alternatives-lts.Need-add-read-list (read-alternatives-claims t) (read-alternatives-at t) read-alternatives.Post read-alternatives-Inv-loop read-alternatives-μ-loop
+  read-alternatives-add-read-list c = let o = c .before .before .before .before .before .before .before .pre .1 .0 in let e = c .before .before .before .before .before .before .before .pre .0 in let h = c .before .before .before .before .before .before .before .pre .1 .1 in let f = c .before .before .if2 .left in omega arith
+
+  read-alternatives-add-read-list-2 : read-alternatives-lts.Need-add-read-list-2 (read-alternatives-claims t) (read-alternatives-at t) read-alternatives.Post read-alternatives-Inv-loop read-alternatives-μ-loop
+  read-alternatives-add-read-list-2 c = let v = c .before .loop .inv in omega arith
+
+  read-alternatives-read-list-requires : read-alternatives-lts.Need-read-list-requires (read-alternatives-claims t) (read-alternatives-at t) read-alternatives.Post read-alternatives-Inv-loop read-alternatives-μ-loop
+  read-alternatives-read-list-requires c κs = let o = c .before .before .before .before .before .before .before .before .pre .1 .0 in let e = c .before .before .before .before .before .before .before .before .pre .0 in let h = c .before .before .before .before .before .before .before .before .pre .1 .1 in let f = c .before .before .before .if2 .left in let v = c .before .loop .inv in (omega arith, record { inside = v .inside; short = o .short; shallow = omega arith; few = v .few; used = v .room; pool = v .kept ∙ o .pool })
+
+  read-alternatives-enum-known-got : read-alternatives-lts.Need-enum-known-got (read-alternatives-claims t) (read-alternatives-at t) read-alternatives.Post read-alternatives-Inv-loop read-alternatives-μ-loop
+  read-alternatives-enum-known-got c = search needs
+
+  read-alternatives-put-head-requires : read-alternatives-lts.Need-put-head-requires (read-alternatives-claims t) (read-alternatives-at t) read-alternatives.Post read-alternatives-Inv-loop read-alternatives-μ-loop
+  read-alternatives-put-head-requires c κs = let o = c .before .before .before .before .before .before .before .before .before .before .before .before .before .before .before .pre .1 .0 in let e = c .before .before .before .before .before .before .before .before .before .before .before .before .before .before .before .pre .0 in let h = c .before .before .before .before .before .before .before .before .before .before .before .before .before .before .before .pre .1 .1 in let f = c .before .before .before .before .before .before .before .before .before .before .if2 .left in let v = c .before .before .before .before .before .before .before .before .loop .inv in let w = turned (c .before .before .before .before .before .before .before .before .before .before .before .before .before .before .before .args .text .now) (c .before .before .before .before .before .before .before .before .before .before .before .before .before .before .before .args .level) (c .before .before .before .before .before .before .before .before .before .before .before .before .before .before .before .args .count) (c .before .before .before .before .before .before .before .before .before .before .before .before .before .before .before .args .at) (c .before .before .before .before .before .before .before .before .before .before .before .before .before .before .before .args .n) (c .before .before .before .before .before .before .before .before .before .before .before .before .before .before .before .args .pool .now) (c .before .before .before .before .before .before .before .before .loop .pool) (c .before .before .before .before .before .before .before .before .loop .x) (c .before .before .before .before .before .before .before .before .loop .miss) (c .before .before .before .before .before .before .before .before .loop .m) (c .before .before .before .before .before .before .before .before .loop .c) (c .before .before .before .before .before .before .before .before .loop .k) (c .before .before .before .before .before .before .before .before .loop .inv) (c .before .before .before .before .before .before .read-list .result) (c .before .before .before .before .before .before .read-list .last .1 .1 .1 .1 .0) (c .before .before .before .before .before .before .read-list .ensures) (c .before .before .got .given .0 .0) (c .before .before .got .given .0 .1 .0) (c .before .before .got .given .0 .1 .1 .0) (c .before .before .got .given .0 .1 .1 .1 .0) (c .before .before .got .given .1) in let z : length (c .before .before .before .before .before .before .read-list .last .1 .1 .1 .1 .0) ≡ 4096 = (c .before .before .before .before .before .before .read-list .kept .1 .1 .1 .1 .0 ∙ c .before .before .before .before .before .before .before .before .loop .inv .kept) ∙ o .pool in (w .more, omega arith, z, w .few)
+
+  read-alternatives-add-k : read-alternatives-lts.Need-add-k (read-alternatives-claims t) (read-alternatives-at t) read-alternatives.Post read-alternatives-Inv-loop read-alternatives-μ-loop
+  read-alternatives-add-k c = let v = c .before .before .before .before .before .before .before .before .before .before .before .loop .inv in omega arith
+
+  read-alternatives-peek-requires-2 : read-alternatives-lts.Need-peek-requires-2 (read-alternatives-claims t) (read-alternatives-at t) read-alternatives.Post read-alternatives-Inv-loop read-alternatives-μ-loop
+  read-alternatives-peek-requires-2 c κs = search needs
+
+  read-alternatives-put-head-requires-2 : read-alternatives-lts.Need-put-head-requires-2 (read-alternatives-claims t) (read-alternatives-at t) read-alternatives.Post read-alternatives-Inv-loop read-alternatives-μ-loop
+  read-alternatives-put-head-requires-2 c κs = let o = c .before .before .before .before .before .before .before .before .before .before .before .before .before .before .before .before .before .before .before .before .before .pre .1 .0 in let e = c .before .before .before .before .before .before .before .before .before .before .before .before .before .before .before .before .before .before .before .before .before .pre .0 in let h = c .before .before .before .before .before .before .before .before .before .before .before .before .before .before .before .before .before .before .before .before .before .pre .1 .1 in let f = c .before .before .before .before .before .before .before .before .before .before .before .before .before .before .before .before .if2 .left in let v = c .before .before .before .before .before .before .before .before .before .before .before .before .before .before .loop .inv in let w = turned (c .before .before .before .before .before .before .before .before .before .before .before .before .before .before .before .before .before .before .before .before .before .args .text .now) (c .before .before .before .before .before .before .before .before .before .before .before .before .before .before .before .before .before .before .before .before .before .args .level) (c .before .before .before .before .before .before .before .before .before .before .before .before .before .before .before .before .before .before .before .before .before .args .count) (c .before .before .before .before .before .before .before .before .before .before .before .before .before .before .before .before .before .before .before .before .before .args .at) (c .before .before .before .before .before .before .before .before .before .before .before .before .before .before .before .before .before .before .before .before .before .args .n) (c .before .before .before .before .before .before .before .before .before .before .before .before .before .before .before .before .before .before .before .before .before .args .pool .now) (c .before .before .before .before .before .before .before .before .before .before .before .before .before .before .loop .pool) (c .before .before .before .before .before .before .before .before .before .before .before .before .before .before .loop .x) (c .before .before .before .before .before .before .before .before .before .before .before .before .before .before .loop .miss) (c .before .before .before .before .before .before .before .before .before .before .before .before .before .before .loop .m) (c .before .before .before .before .before .before .before .before .before .before .before .before .before .before .loop .c) (c .before .before .before .before .before .before .before .before .before .before .before .before .before .before .loop .k) (c .before .before .before .before .before .before .before .before .before .before .before .before .before .before .loop .inv) (c .before .before .before .before .before .before .before .before .before .before .before .before .read-list .result) (c .before .before .before .before .before .before .before .before .before .before .before .before .read-list .last .1 .1 .1 .1 .0) (c .before .before .before .before .before .before .before .before .before .before .before .before .read-list .ensures) (c .before .before .before .before .before .before .before .before .got .given .0 .0) (c .before .before .before .before .before .before .before .before .got .given .0 .1 .0) (c .before .before .before .before .before .before .before .before .got .given .0 .1 .1 .0) (c .before .before .before .before .before .before .before .before .got .given .0 .1 .1 .1 .0) (c .before .before .before .before .before .before .before .before .got .given .1) in let z : length (c .before .before .before .before .before .put-head .last .0) ≡ 4096 = (c .before .before .before .before .before .put-head .kept .0 ∙ (c .before .before .before .before .before .before .before .before .before .before .before .before .read-list .kept .1 .1 .1 .1 .0 ∙ c .before .before .before .before .before .before .before .before .before .before .before .before .before .before .loop .inv .kept)) ∙ o .pool in (omega arith, omega arith, z, omega arith)
+
+  read-alternatives-add-skip-blanks-2 : read-alternatives-lts.Need-add-skip-blanks-2 (read-alternatives-claims t) (read-alternatives-at t) read-alternatives.Post read-alternatives-Inv-loop read-alternatives-μ-loop
+  read-alternatives-add-skip-blanks-2 c = let w = turned (c .before .before .before .before .before .before .before .before .before .before .before .before .before .before .before .before .before .before .before .before .before .before .before .before .args .text .now) (c .before .before .before .before .before .before .before .before .before .before .before .before .before .before .before .before .before .before .before .before .before .before .before .before .args .level) (c .before .before .before .before .before .before .before .before .before .before .before .before .before .before .before .before .before .before .before .before .before .before .before .before .args .count) (c .before .before .before .before .before .before .before .before .before .before .before .before .before .before .before .before .before .before .before .before .before .before .before .before .args .at) (c .before .before .before .before .before .before .before .before .before .before .before .before .before .before .before .before .before .before .before .before .before .before .before .before .args .n) (c .before .before .before .before .before .before .before .before .before .before .before .before .before .before .before .before .before .before .before .before .before .before .before .before .args .pool .now) (c .before .before .before .before .before .before .before .before .before .before .before .before .before .before .before .before .before .loop .pool) (c .before .before .before .before .before .before .before .before .before .before .before .before .before .before .before .before .before .loop .x) (c .before .before .before .before .before .before .before .before .before .before .before .before .before .before .before .before .before .loop .miss) (c .before .before .before .before .before .before .before .before .before .before .before .before .before .before .before .before .before .loop .m) (c .before .before .before .before .before .before .before .before .before .before .before .before .before .before .before .before .before .loop .c) (c .before .before .before .before .before .before .before .before .before .before .before .before .before .before .before .before .before .loop .k) (c .before .before .before .before .before .before .before .before .before .before .before .before .before .before .before .before .before .loop .inv) (c .before .before .before .before .before .before .before .before .before .before .before .before .before .before .before .read-list .result) (c .before .before .before .before .before .before .before .before .before .before .before .before .before .before .before .read-list .last .1 .1 .1 .1 .0) (c .before .before .before .before .before .before .before .before .before .before .before .before .before .before .before .read-list .ensures) (c .before .before .before .before .before .before .before .before .before .before .before .got .given .0 .0) (c .before .before .before .before .before .before .before .before .before .before .before .got .given .0 .1 .0) (c .before .before .before .before .before .before .before .before .before .before .before .got .given .0 .1 .1 .0) (c .before .before .before .before .before .before .before .before .before .before .before .got .given .0 .1 .1 .1 .0) (c .before .before .before .before .before .before .before .before .before .before .before .got .given .1) in omega arith
+
+  read-alternatives-skip-blanks-requires-2 : read-alternatives-lts.Need-skip-blanks-requires-2 (read-alternatives-claims t) (read-alternatives-at t) read-alternatives.Post read-alternatives-Inv-loop read-alternatives-μ-loop
+  read-alternatives-skip-blanks-requires-2 c κs = search needs
+
+  read-alternatives-same-length : read-alternatives-lts.Need-same-length (read-alternatives-claims t) (read-alternatives-at t) read-alternatives.Post read-alternatives-Inv-loop read-alternatives-μ-loop
+  read-alternatives-same-length c = c .before .before .before .put-head2 .kept .0 ∙ (c .before .before .before .before .before .before .before .before .before .put-head .kept .0 ∙ (c .before .before .before .before .before .before .before .before .before .before .before .before .before .before .before .before .read-list .kept .1 .1 .1 .1 .0 ∙ c .before .before .before .before .before .before .before .before .before .before .before .before .before .before .before .before .before .before .loop .inv .kept))
+
+  read-alternatives-returns-3 : read-alternatives-lts.Need-returns-3 (read-alternatives-claims t) (read-alternatives-at t) read-alternatives.Post read-alternatives-Inv-loop read-alternatives-μ-loop
+  read-alternatives-returns-3 c = let o = c .before .before .before .before .before .before .before .before .before .before .before .before .before .before .before .before .before .before .before .before .before .before .before .before .before .pre .1 .0 in let e = c .before .before .before .before .before .before .before .before .before .before .before .before .before .before .before .before .before .before .before .before .before .before .before .before .before .pre .0 in let h = c .before .before .before .before .before .before .before .before .before .before .before .before .before .before .before .before .before .before .before .before .before .before .before .before .before .pre .1 .1 in let f = c .before .before .before .before .before .before .before .before .before .before .before .before .before .before .before .before .before .before .before .before .if2 .left in let v = c .before .before .before .before .before .before .before .before .before .before .before .before .before .before .before .before .before .before .loop .inv in let r : (c .before .before .before .before .before .before .before .before .before .before .before .before .before .before .before .before .before .before .before .before .before .before .before .before .before .args .n) + 4 ≤ length (c .before .before .before .before .before .before .before .before .before .before .before .before .before .before .before .before .before .before .before .before .before .before .before .before .before .args .pool .now) = omega arith in let r′ : c .before .before .before .before .before .before .before .before .before .before .before .before .before .before .before .before .before .before .loop .m + 4 ≤ length (c .before .before .before .before .before .before .before .before .before .before .before .before .before .before .before .before .before .before .before .before .before .before .before .before .before .args .pool .now) = omega arith in listed-done (c .before .before .before .before .before .before .before .before .before .before .before .before .before .before .before .before .before .before .before .before .before .before .before .before .before .args .text .now) (c .before .before .before .before .before .before .before .before .before .before .before .before .before .before .before .before .before .before .before .before .before .before .before .before .before .args .level) (c .before .before .before .before .before .before .before .before .before .before .before .before .before .before .before .before .before .before .before .before .before .before .before .before .before .args .count) (c .before .before .before .before .before .before .before .before .before .before .before .before .before .before .before .before .before .before .before .before .before .before .before .before .before .args .at) (c .before .before .before .before .before .before .before .before .before .before .before .before .before .before .before .before .before .before .before .before .before .before .before .before .before .args .n) (c .before .before .before .before .before .before .before .before .before .before .before .before .before .before .before .before .before .before .before .before .before .before .before .before .before .args .pool .now) (c .before .before .before .before .before .before .before .before .before .before .before .before .before .before .before .before .before .before .loop .pool) (c .before .before .before .before .before .before .before .before .before .before .before .before .before .before .before .before .before .before .loop .x) (c .before .before .before .before .before .before .before .before .before .before .before .before .before .before .before .before .before .before .loop .miss) (c .before .before .before .before .before .before .before .before .before .before .before .before .before .before .before .before .before .before .loop .m) (c .before .before .before .before .before .before .before .before .before .before .before .before .before .before .before .before .before .before .loop .c) (c .before .before .before .before .before .before .before .before .before .before .before .before .before .before .before .before .before .before .loop .k) (c .before .before .before .before .before .before .before .before .before .before .before .before .before .before .before .before .before .before .loop .inv) (c .before .before .before .before .before .before .before .before .before .before .before .before .before .before .before .before .read-list .result) (c .before .before .before .before .before .before .before .before .before .before .before .before .before .before .before .before .read-list .last .1 .1 .1 .1 .0) (c .before .before .before .before .before .before .before .before .before .before .before .before .before .before .before .before .read-list .ensures) (c .before .before .before .before .before .before .before .before .before .before .before .before .got .given .0 .0) (c .before .before .before .before .before .before .before .before .before .before .before .before .got .given .0 .1 .0) (c .before .before .before .before .before .before .before .before .before .before .before .before .got .given .0 .1 .1 .0) (c .before .before .before .before .before .before .before .before .before .before .before .before .got .given .0 .1 .1 .1 .0) (c .skip-blanks2 .result) (c .before .before .before .before .before .before .before .before .before .put-head .last .0) (c .before .before .before .put-head2 .last .0) r r′ (sym (c .before .before .before .before .before .before .before .before .before .before .before .before .before .before .before .before .before .before .before .before .before .before .peek .ensures) ∙ c .before .before .before .before .before .before .before .before .before .before .before .before .before .before .before .before .before .before .before .before .before .if1 .left) f (c .before .before .before .before .before .before .before .before .before .before .before .before .got .given .1) (c .before .before .before .before .before .before .before .before .before .put-head .ensures) (c .before .before .before .put-head2 .ensures) (sym (c .before .before .before .before .before .before .peek2 .ensures) ∙ c .before .before .before .before .before .if3 .taken) (c .skip-blanks2 .ensures)
+
+  read-alternatives-same-length-2 : read-alternatives-lts.Need-same-length-2 (read-alternatives-claims t) (read-alternatives-at t) read-alternatives.Post read-alternatives-Inv-loop read-alternatives-μ-loop
+  read-alternatives-same-length-2 c = (c .before .before .before .before .before .put-head .kept .0 ∙ (c .before .before .before .before .before .before .before .before .before .before .before .before .read-list .kept .1 .1 .1 .1 .0 ∙ c .before .before .before .before .before .before .before .before .before .before .before .before .before .before .loop .inv .kept))
+
+  read-alternatives-returns-4 : read-alternatives-lts.Need-returns-4 (read-alternatives-claims t) (read-alternatives-at t) read-alternatives.Post read-alternatives-Inv-loop read-alternatives-μ-loop
+  read-alternatives-returns-4 c = listed-else (c .before .before .before .before .before .before .before .before .before .before .before .before .before .before .before .before .before .before .before .before .before .args .text .now) (c .before .before .before .before .before .before .before .before .before .before .before .before .before .before .before .before .before .before .before .before .before .args .level) (c .before .before .before .before .before .before .before .before .before .before .before .before .before .before .before .before .before .before .before .before .before .args .count) (c .before .before .before .before .before .before .before .before .before .before .before .before .before .before .before .before .before .before .before .before .before .args .at) (c .before .before .before .before .before .before .before .before .before .before .before .before .before .before .before .before .before .before .before .before .before .args .n) (c .before .before .before .before .before .before .before .before .before .before .before .before .before .before .before .before .before .before .before .before .before .args .pool .now) (c .before .before .before .before .before .before .before .before .before .before .before .before .before .before .loop .pool) (c .before .before .before .before .before .before .before .before .before .before .before .before .before .before .loop .x) (c .before .before .before .before .before .before .before .before .before .before .before .before .before .before .loop .miss) (c .before .before .before .before .before .before .before .before .before .before .before .before .before .before .loop .m) (c .before .before .before .before .before .before .before .before .before .before .before .before .before .before .loop .c) (c .before .before .before .before .before .before .before .before .before .before .before .before .before .before .loop .k) (c .before .before .before .before .before .before .before .before .before .before .before .before .before .before .loop .inv) (c .before .before .before .before .before .before .before .before .before .before .before .before .read-list .result) (c .before .before .before .before .before .before .before .before .before .before .before .before .read-list .last .1 .1 .1 .1 .0) (c .before .before .before .before .before .before .before .before .before .before .before .before .read-list .ensures) (c .before .before .before .before .before .before .before .before .got .given .0 .0) (c .before .before .before .before .before .before .before .before .got .given .0 .1 .0) (c .before .before .before .before .before .before .before .before .got .given .0 .1 .1 .0) (c .before .before .before .before .before .before .before .before .got .given .0 .1 .1 .1 .0) (c .before .before .before .before .before .put-head .last .0) (sym (c .before .before .before .before .before .before .before .before .before .before .before .before .before .before .before .before .before .before .peek .ensures) ∙ c .before .before .before .before .before .before .before .before .before .before .before .before .before .before .before .before .before .if1 .left) (c .before .before .before .before .before .before .before .before .before .before .before .before .before .before .before .before .if2 .left) (c .before .before .before .before .before .before .before .before .got .given .1) (λ z. c .before .if3 .left (c .before .before .peek2 .ensures ∙ z)) (λ z. c .if4 .taken (c .before .before .peek2 .ensures ∙ z))
+
+  read-alternatives-add-skip-blanks-3 : read-alternatives-lts.Need-add-skip-blanks-3 (read-alternatives-claims t) (read-alternatives-at t) read-alternatives.Post read-alternatives-Inv-loop read-alternatives-μ-loop
+  read-alternatives-add-skip-blanks-3 c = let w = turned (c .before .before .before .before .before .before .before .before .before .before .before .before .before .before .before .before .before .before .before .before .before .args .text .now) (c .before .before .before .before .before .before .before .before .before .before .before .before .before .before .before .before .before .before .before .before .before .args .level) (c .before .before .before .before .before .before .before .before .before .before .before .before .before .before .before .before .before .before .before .before .before .args .count) (c .before .before .before .before .before .before .before .before .before .before .before .before .before .before .before .before .before .before .before .before .before .args .at) (c .before .before .before .before .before .before .before .before .before .before .before .before .before .before .before .before .before .before .before .before .before .args .n) (c .before .before .before .before .before .before .before .before .before .before .before .before .before .before .before .before .before .before .before .before .before .args .pool .now) (c .before .before .before .before .before .before .before .before .before .before .before .before .before .before .loop .pool) (c .before .before .before .before .before .before .before .before .before .before .before .before .before .before .loop .x) (c .before .before .before .before .before .before .before .before .before .before .before .before .before .before .loop .miss) (c .before .before .before .before .before .before .before .before .before .before .before .before .before .before .loop .m) (c .before .before .before .before .before .before .before .before .before .before .before .before .before .before .loop .c) (c .before .before .before .before .before .before .before .before .before .before .before .before .before .before .loop .k) (c .before .before .before .before .before .before .before .before .before .before .before .before .before .before .loop .inv) (c .before .before .before .before .before .before .before .before .before .before .before .before .read-list .result) (c .before .before .before .before .before .before .before .before .before .before .before .before .read-list .last .1 .1 .1 .1 .0) (c .before .before .before .before .before .before .before .before .before .before .before .before .read-list .ensures) (c .before .before .before .before .before .before .before .before .got .given .0 .0) (c .before .before .before .before .before .before .before .before .got .given .0 .1 .0) (c .before .before .before .before .before .before .before .before .got .given .0 .1 .1 .0) (c .before .before .before .before .before .before .before .before .got .given .0 .1 .1 .1 .0) (c .before .before .before .before .before .before .before .before .got .given .1) in omega arith
+
+  read-alternatives-skip-blanks-requires-3 : read-alternatives-lts.Need-skip-blanks-requires-3 (read-alternatives-claims t) (read-alternatives-at t) read-alternatives.Post read-alternatives-Inv-loop read-alternatives-μ-loop
+  read-alternatives-skip-blanks-requires-3 c κs = search needs
+
+  read-alternatives-loop-less : read-alternatives-lts.Need-loop-less (read-alternatives-claims t) (read-alternatives-at t) read-alternatives.Post read-alternatives-Inv-loop read-alternatives-μ-loop
+  read-alternatives-loop-less c = let w = turned (c .before .before .before .before .before .before .before .before .before .before .before .before .before .before .before .before .before .before .before .before .before .before .args .text .now) (c .before .before .before .before .before .before .before .before .before .before .before .before .before .before .before .before .before .before .before .before .before .before .args .level) (c .before .before .before .before .before .before .before .before .before .before .before .before .before .before .before .before .before .before .before .before .before .before .args .count) (c .before .before .before .before .before .before .before .before .before .before .before .before .before .before .before .before .before .before .before .before .before .before .args .at) (c .before .before .before .before .before .before .before .before .before .before .before .before .before .before .before .before .before .before .before .before .before .before .args .n) (c .before .before .before .before .before .before .before .before .before .before .before .before .before .before .before .before .before .before .before .before .before .before .args .pool .now) (c .before .before .before .before .before .before .before .before .before .before .before .before .before .before .before .loop .pool) (c .before .before .before .before .before .before .before .before .before .before .before .before .before .before .before .loop .x) (c .before .before .before .before .before .before .before .before .before .before .before .before .before .before .before .loop .miss) (c .before .before .before .before .before .before .before .before .before .before .before .before .before .before .before .loop .m) (c .before .before .before .before .before .before .before .before .before .before .before .before .before .before .before .loop .c) (c .before .before .before .before .before .before .before .before .before .before .before .before .before .before .before .loop .k) (c .before .before .before .before .before .before .before .before .before .before .before .before .before .before .before .loop .inv) (c .before .before .before .before .before .before .before .before .before .before .before .before .before .read-list .result) (c .before .before .before .before .before .before .before .before .before .before .before .before .before .read-list .last .1 .1 .1 .1 .0) (c .before .before .before .before .before .before .before .before .before .before .before .before .before .read-list .ensures) (c .before .before .before .before .before .before .before .before .before .got .given .0 .0) (c .before .before .before .before .before .before .before .before .before .got .given .0 .1 .0) (c .before .before .before .before .before .before .before .before .before .got .given .0 .1 .1 .0) (c .before .before .before .before .before .before .before .before .before .got .given .0 .1 .1 .1 .0) (c .before .before .before .before .before .before .before .before .before .got .given .1) in let s = c .skip-blanks3 .ensures in let f = skip-from (c .before .before .before .before .before .before .before .before .before .before .before .before .before .before .before .before .before .before .before .before .before .before .args .text .now) ((c .before .before .before .before .before .before .before .before .before .got .given .0 .0) + 1) in omega arith
+
+  read-alternatives-loop-again : read-alternatives-lts.Need-loop-again (read-alternatives-claims t) (read-alternatives-at t) read-alternatives.Post read-alternatives-Inv-loop read-alternatives-μ-loop
+  read-alternatives-loop-again c = let o = c .before .before .before .before .before .before .before .before .before .before .before .before .before .before .before .before .before .before .before .before .before .before .pre .1 .0 in let e = c .before .before .before .before .before .before .before .before .before .before .before .before .before .before .before .before .before .before .before .before .before .before .pre .0 in let h = c .before .before .before .before .before .before .before .before .before .before .before .before .before .before .before .before .before .before .before .before .before .before .pre .1 .1 in let f = c .before .before .before .before .before .before .before .before .before .before .before .before .before .before .before .before .before .if2 .left in let v = c .before .before .before .before .before .before .before .before .before .before .before .before .before .before .before .loop .inv in let r : (c .before .before .before .before .before .before .before .before .before .before .before .before .before .before .before .before .before .before .before .before .before .before .args .n) + 4 ≤ length (c .before .before .before .before .before .before .before .before .before .before .before .before .before .before .before .before .before .before .before .before .before .before .args .pool .now) = omega arith in let r′ : c .before .before .before .before .before .before .before .before .before .before .before .before .before .before .before .loop .m + 4 ≤ length (c .before .before .before .before .before .before .before .before .before .before .before .before .before .before .before .before .before .before .before .before .before .before .args .pool .now) = omega arith in listed-next (c .before .before .before .before .before .before .before .before .before .before .before .before .before .before .before .before .before .before .before .before .before .before .args .text .now) (c .before .before .before .before .before .before .before .before .before .before .before .before .before .before .before .before .before .before .before .before .before .before .args .level) (c .before .before .before .before .before .before .before .before .before .before .before .before .before .before .before .before .before .before .before .before .before .before .args .count) (c .before .before .before .before .before .before .before .before .before .before .before .before .before .before .before .before .before .before .before .before .before .before .args .at) (c .before .before .before .before .before .before .before .before .before .before .before .before .before .before .before .before .before .before .before .before .before .before .args .n) (c .before .before .before .before .before .before .before .before .before .before .before .before .before .before .before .before .before .before .before .before .before .before .args .pool .now) (c .before .before .before .before .before .before .before .before .before .before .before .before .before .before .before .loop .pool) (c .before .before .before .before .before .before .before .before .before .before .before .before .before .before .before .loop .x) (c .before .before .before .before .before .before .before .before .before .before .before .before .before .before .before .loop .miss) (c .before .before .before .before .before .before .before .before .before .before .before .before .before .before .before .loop .m) (c .before .before .before .before .before .before .before .before .before .before .before .before .before .before .before .loop .c) (c .before .before .before .before .before .before .before .before .before .before .before .before .before .before .before .loop .k) (c .before .before .before .before .before .before .before .before .before .before .before .before .before .before .before .loop .inv) (c .before .before .before .before .before .before .before .before .before .before .before .before .before .read-list .result) (c .before .before .before .before .before .before .before .before .before .before .before .before .before .read-list .last .1 .1 .1 .1 .0) (c .before .before .before .before .before .before .before .before .before .before .before .before .before .read-list .ensures) (c .before .before .before .before .before .before .before .before .before .got .given .0 .0) (c .before .before .before .before .before .before .before .before .before .got .given .0 .1 .0) (c .before .before .before .before .before .before .before .before .before .got .given .0 .1 .1 .0) (c .before .before .before .before .before .before .before .before .before .got .given .0 .1 .1 .1 .0) (c .skip-blanks3 .result) (c .before .before .before .before .before .before .put-head .last .0) r r′ (c .before .before .before .before .before .before .before .before .before .got .given .1) (c .before .before .before .before .before .before .put-head .ensures) (c .before .before .before .before .before .before .put-head .kept .0 ∙ (c .before .before .before .before .before .before .before .before .before .before .before .before .before .read-list .kept .1 .1 .1 .1 .0 ∙ c .before .before .before .before .before .before .before .before .before .before .before .before .before .before .before .loop .inv .kept)) (sym (c .before .before .before .peek2 .ensures) ∙ c .before .if4 .left) (c .skip-blanks3 .ensures)
+
+  read-alternatives-enum-told : read-alternatives-lts.Need-enum-told (read-alternatives-claims t) (read-alternatives-at t) read-alternatives.Post read-alternatives-Inv-loop read-alternatives-μ-loop
+  read-alternatives-enum-told c = search needs
+
+  read-alternatives-same-length-3 : read-alternatives-lts.Need-same-length-3 (read-alternatives-claims t) (read-alternatives-at t) read-alternatives.Post read-alternatives-Inv-loop read-alternatives-μ-loop
+  read-alternatives-same-length-3 c = (c .before .before .before .before .read-list .kept .1 .1 .1 .1 .0 ∙ c .before .before .before .before .before .before .loop .inv .kept)
+
+  read-alternatives-returns-5 : read-alternatives-lts.Need-returns-5 (read-alternatives-claims t) (read-alternatives-at t) read-alternatives.Post read-alternatives-Inv-loop read-alternatives-μ-loop
+  read-alternatives-returns-5 c = listed-missing (c .before .before .before .before .before .before .before .before .before .before .before .before .before .args .text .now) (c .before .before .before .before .before .before .before .before .before .before .before .before .before .args .level) (c .before .before .before .before .before .before .before .before .before .before .before .before .before .args .count) (c .before .before .before .before .before .before .before .before .before .before .before .before .before .args .at) (c .before .before .before .before .before .before .before .before .before .before .before .before .before .args .n) (c .before .before .before .before .before .before .before .before .before .before .before .before .before .args .pool .now) (c .before .before .before .before .before .before .loop .pool) (c .before .before .before .before .before .before .loop .x) (c .before .before .before .before .before .before .loop .miss) (c .before .before .before .before .before .before .loop .m) (c .before .before .before .before .before .before .loop .c) (c .before .before .before .before .before .before .loop .k) (c .before .before .before .before .before .before .loop .inv) (c .before .before .before .before .read-list .result) (c .before .before .before .before .read-list .last .1 .1 .1 .1 .0) (c .before .before .before .before .read-list .ensures) (sym (c .before .before .before .before .before .before .before .before .before .before .peek .ensures) ∙ c .before .before .before .before .before .before .before .before .before .if1 .left) (c .before .before .before .before .before .before .before .before .if2 .left) (c .enum-told .given .1) (c .before .before .before .before .read-list .last .1 .1 .1 .1 .0)
+
+  read-alternatives-enum-known-got-2 : read-alternatives-lts.Need-enum-known-got-2 (read-alternatives-claims t) (read-alternatives-at t) read-alternatives.Post read-alternatives-Inv-loop read-alternatives-μ-loop
+  read-alternatives-enum-known-got-2 c = search needs
+
+  read-alternatives-same-length-4 : read-alternatives-lts.Need-same-length-4 (read-alternatives-claims t) (read-alternatives-at t) read-alternatives.Post read-alternatives-Inv-loop read-alternatives-μ-loop
+  read-alternatives-same-length-4 c = (c .before .before .before .before .before .read-list .kept .1 .1 .1 .1 .0 ∙ c .before .before .before .before .before .before .before .loop .inv .kept)
+
+  read-alternatives-returns-6 : read-alternatives-lts.Need-returns-6 (read-alternatives-claims t) (read-alternatives-at t) read-alternatives.Post read-alternatives-Inv-loop read-alternatives-μ-loop
+  read-alternatives-returns-6 c = listed-stop (c .before .before .before .before .before .before .before .before .before .before .before .before .before .before .args .text .now) (c .before .before .before .before .before .before .before .before .before .before .before .before .before .before .args .level) (c .before .before .before .before .before .before .before .before .before .before .before .before .before .before .args .count) (c .before .before .before .before .before .before .before .before .before .before .before .before .before .before .args .at) (c .before .before .before .before .before .before .before .before .before .before .before .before .before .before .args .n) (c .before .before .before .before .before .before .before .before .before .before .before .before .before .before .args .pool .now) (c .before .before .before .before .before .before .before .loop .pool) (c .before .before .before .before .before .before .before .loop .x) (c .before .before .before .before .before .before .before .loop .miss) (c .before .before .before .before .before .before .before .loop .m) (c .before .before .before .before .before .before .before .loop .c) (c .before .before .before .before .before .before .before .loop .k) (c .before .before .before .before .before .before .before .loop .inv) (c .before .before .before .before .before .read-list .result) (c .before .before .before .before .before .read-list .last .1 .1 .1 .1 .0) (c .before .before .before .before .before .read-list .ensures) (sym (c .before .before .before .before .before .before .before .before .before .before .before .peek .ensures) ∙ c .before .before .before .before .before .before .before .before .before .before .if1 .left) (c .before .before .before .before .before .before .before .before .before .if2 .left) (c .before .got2 .given .0 .0) (c .before .got2 .given .0 .1 .0) (c .before .got2 .given .1) (c .before .before .before .before .before .read-list .last .1 .1 .1 .1 .0)
+
+  read-list-returns : read-list-lts.Need-returns (read-list-claims t) (read-list-at t) read-list.Post read-list-Inv-loop read-list-μ-loop
+  read-list-returns c = list-says-refused (list (c .before .before .before .args .text .now) (c .before .before .before .args .level) (c .before .before .before .args .count) (c .before .before .before .args .at)) (c .before .before .before .args .n) (c .before .before .before .args .pool .now) (c .before .before .before .args .pool .now) HexStringTooDeep (c .before .before .before .args .at) (list-deep (c .before .before .before .args .text .now) (c .before .before .before .args .level) (c .before .before .before .args .count) (c .before .before .before .args .at) (c .if1 .taken))
+
+  read-list-loop-holds : read-list-lts.Need-loop-holds (read-list-claims t) (read-list-at t) read-list.Post read-list-Inv-loop read-list-μ-loop
+  read-list-loop-holds c = let o = c .before .before .before .pre .1 in tokened-start (c .before .before .before .args .text .now) (c .before .before .before .args .level) (c .before .before .before .args .count) (c .before .before .before .args .at) (c .before .before .before .args .n) (c .before .before .before .args .pool .now) (o .inside) (o .used) (o .few)
+
+  read-list-read-token-requires : read-list-lts.Need-read-token-requires (read-list-claims t) (read-list-at t) read-list.Post read-list-Inv-loop read-list-μ-loop
+  read-list-read-token-requires c κs = let o = c .before .before .before .before .before .pre .1 in let e = c .before .before .before .before .before .pre .0 in let v = c .before .loop .inv in (omega arith, (record { inside = v .inside; short = o .short; shallow = o .shallow; few = v .few; used = v .room; pool = v .kept ∙ o .pool }, c .before .before .if1 .left))
+
+  read-list-enum-known-got : read-list-lts.Need-enum-known-got (read-list-claims t) (read-list-at t) read-list.Post read-list-Inv-loop read-list-μ-loop
+  read-list-enum-known-got c = search needs
+
+  read-list-first-jump-requires : read-list-lts.Need-first-jump-requires (read-list-claims t) (read-list-at t) read-list.Post read-list-Inv-loop read-list-μ-loop
+  read-list-first-jump-requires c κs = search needs
+
+  read-list-add-k : read-list-lts.Need-add-k (read-list-claims t) (read-list-at t) read-list.Post read-list-Inv-loop read-list-μ-loop
+  read-list-add-k c = let v = c .before .before .before .before .before .before .before .before .loop .inv in omega arith
+
+  read-list-loop-less : read-list-lts.Need-loop-less (read-list-claims t) (read-list-at t) read-list.Post read-list-Inv-loop read-list-μ-loop
+  read-list-loop-less c = let s = stepped (c .before .before .before .before .before .before .before .before .before .before .before .before .args .text .now) (c .before .before .before .before .before .before .before .before .before .before .before .before .args .level) (c .before .before .before .before .before .before .before .before .before .before .before .before .args .count) (c .before .before .before .before .before .before .before .before .before .before .before .before .args .at) (c .before .before .before .before .before .before .before .before .before .before .before .before .args .n) (c .before .before .before .before .before .before .before .before .before .before .before .before .args .pool .now) (c .before .before .before .before .before .before .before .before .loop .pool) (c .before .before .before .before .before .before .before .before .loop .x) (c .before .before .before .before .before .before .before .before .loop .m) (c .before .before .before .before .before .before .before .before .loop .c) (c .before .before .before .before .before .before .before .before .loop .k) (c .before .before .before .before .before .before .before .before .loop .first) (c .before .before .before .before .before .before .before .before .loop .last) (c .before .before .before .before .before .before .before .before .loop .inv) (c .before .before .before .before .before .before .read-token .result) (c .before .before .before .before .before .before .read-token .last .1 .1 .1 .1 .0) (c .before .before .before .before .before .before .read-token .ensures) (c .before .before .got .given .0 .0) (c .before .before .got .given .0 .1 .0) (c .before .before .got .given .0 .1 .1 .0) (c .before .before .got .given .0 .1 .1 .1 .0) (c .before .before .got .given .1) in omega arith
+
+  read-list-loop-again : read-list-lts.Need-loop-again (read-list-claims t) (read-list-at t) read-list.Post read-list-Inv-loop read-list-μ-loop
+  read-list-loop-again c = let o = c .before .before .before .before .before .before .before .before .before .before .before .before .pre .1 in let e = c .before .before .before .before .before .before .before .before .before .before .before .before .pre .0 in let v = c .before .before .before .before .before .before .before .before .loop .inv in let r : (c .before .before .before .before .before .before .before .before .before .before .before .before .args .n) ≤ length (c .before .before .before .before .before .before .before .before .before .before .before .before .args .pool .now) = omega arith in subst (λ (b : Bool). Tokened (c .before .before .before .before .before .before .before .before .before .before .before .before .args .text .now) (c .before .before .before .before .before .before .before .before .before .before .before .before .args .level) (c .before .before .before .before .before .before .before .before .before .before .before .before .args .count) (c .before .before .before .before .before .before .before .before .before .before .before .before .args .at) (c .before .before .before .before .before .before .before .before .before .before .before .before .args .n) (c .before .before .before .before .before .before .before .before .before .before .before .before .args .pool .now) (c .before .before .before .before .before .before .read-token .last .1 .1 .1 .1 .0) (c .before .before .got .given .0 .0) (c .before .before .got .given .0 .1 .0) (c .before .before .got .given .0 .1 .1 .0) (c .before .before .before .before .before .before .before .before .loop .k + 1) b (c .before .before .got .given .0 .1 .1 .1 .0)) (sym (c .first-jump .ensures)) (tokened-next (c .before .before .before .before .before .before .before .before .before .before .before .before .args .text .now) (c .before .before .before .before .before .before .before .before .before .before .before .before .args .level) (c .before .before .before .before .before .before .before .before .before .before .before .before .args .count) (c .before .before .before .before .before .before .before .before .before .before .before .before .args .at) (c .before .before .before .before .before .before .before .before .before .before .before .before .args .n) (c .before .before .before .before .before .before .before .before .before .before .before .before .args .pool .now) (c .before .before .before .before .before .before .before .before .loop .pool) (c .before .before .before .before .before .before .before .before .loop .x) (c .before .before .before .before .before .before .before .before .loop .m) (c .before .before .before .before .before .before .before .before .loop .c) (c .before .before .before .before .before .before .before .before .loop .k) (c .before .before .before .before .before .before .before .before .loop .first) (c .before .before .before .before .before .before .before .before .loop .last) (c .before .before .before .before .before .before .before .before .loop .inv) (c .before .before .before .before .before .before .read-token .result) (c .before .before .before .before .before .before .read-token .last .1 .1 .1 .1 .0) (c .before .before .before .before .before .before .read-token .ensures) (c .before .before .got .given .0 .0) (c .before .before .got .given .0 .1 .0) (c .before .before .got .given .0 .1 .1 .0) (c .before .before .got .given .0 .1 .1 .1 .0) r (c .before .before .before .before .before .before .read-token .kept .1 .1 .1 .1 .0) (c .before .before .got .given .1))
+
+  read-list-enum-told : read-list-lts.Need-enum-told (read-list-claims t) (read-list-at t) read-list.Post read-list-Inv-loop read-list-μ-loop
+  read-list-enum-told c = search needs
+
+  read-list-list-end-requires : read-list-lts.Need-list-end-requires (read-list-claims t) (read-list-at t) read-list.Post read-list-Inv-loop read-list-μ-loop
+  read-list-list-end-requires c κs = search needs
+
+  read-list-same-length : read-list-lts.Need-same-length (read-list-claims t) (read-list-at t) read-list.Post read-list-Inv-loop read-list-μ-loop
+  read-list-same-length c = c .before .before .before .before .before .read-token .kept .1 .1 .1 .1 .0 ∙ c .before .before .before .before .before .before .before .loop .inv .kept
+
+  read-list-returns-2 : read-list-lts.Need-returns-2 (read-list-claims t) (read-list-at t) read-list.Post read-list-Inv-loop read-list-μ-loop
+  read-list-returns-2 c = subst (λ (r : ListGot). ListSays (list (c .before .before .before .before .before .before .before .before .before .before .before .args .text .now) (c .before .before .before .before .before .before .before .before .before .before .before .args .level) (c .before .before .before .before .before .before .before .before .before .before .before .args .count) (c .before .before .before .before .before .before .before .before .before .before .before .args .at)) (c .before .before .before .before .before .before .before .before .before .before .before .args .n) r (c .before .before .before .before .before .before .before .before .before .before .before .args .pool .now) (c .before .before .before .before .before .read-token .last .1 .1 .1 .1 .0)) (sym (c .list-end .ensures)) (tokened-end (c .before .before .before .before .before .before .before .before .before .before .before .args .text .now) (c .before .before .before .before .before .before .before .before .before .before .before .args .level) (c .before .before .before .before .before .before .before .before .before .before .before .args .count) (c .before .before .before .before .before .before .before .before .before .before .before .args .at) (c .before .before .before .before .before .before .before .before .before .before .before .args .n) (c .before .before .before .before .before .before .before .before .before .before .before .args .pool .now) (c .before .before .before .before .before .before .before .loop .pool) (c .before .before .before .before .before .before .before .loop .x) (c .before .before .before .before .before .before .before .loop .m) (c .before .before .before .before .before .before .before .loop .c) (c .before .before .before .before .before .before .before .loop .k) (c .before .before .before .before .before .before .before .loop .first) (c .before .before .before .before .before .before .before .loop .last) (c .before .before .before .before .before .before .before .loop .inv) (c .before .before .before .before .before .read-token .result) (c .before .before .before .before .before .read-token .last .1 .1 .1 .1 .0) (c .before .before .before .before .before .read-token .ensures) (c .before .before .before .before .before .before .before .before .if1 .left) (c .before .enum-told .given .1))
+
+  read-list-enum-known-got-2 : read-list-lts.Need-enum-known-got-2 (read-list-claims t) (read-list-at t) read-list.Post read-list-Inv-loop read-list-μ-loop
+  read-list-enum-known-got-2 c = search needs
+
+  read-list-same-length-2 : read-list-lts.Need-same-length-2 (read-list-claims t) (read-list-at t) read-list.Post read-list-Inv-loop read-list-μ-loop
+  read-list-same-length-2 c = c .before .before .before .before .before .read-token .kept .1 .1 .1 .1 .0 ∙ c .before .before .before .before .before .before .before .loop .inv .kept
+
+  read-list-returns-3 : read-list-lts.Need-returns-3 (read-list-claims t) (read-list-at t) read-list.Post read-list-Inv-loop read-list-μ-loop
+  read-list-returns-3 c = tokened-stop (c .before .before .before .before .before .before .before .before .before .before .before .args .text .now) (c .before .before .before .before .before .before .before .before .before .before .before .args .level) (c .before .before .before .before .before .before .before .before .before .before .before .args .count) (c .before .before .before .before .before .before .before .before .before .before .before .args .at) (c .before .before .before .before .before .before .before .before .before .before .before .args .n) (c .before .before .before .before .before .before .before .before .before .before .before .args .pool .now) (c .before .before .before .before .before .before .before .loop .pool) (c .before .before .before .before .before .before .before .loop .x) (c .before .before .before .before .before .before .before .loop .m) (c .before .before .before .before .before .before .before .loop .c) (c .before .before .before .before .before .before .before .loop .k) (c .before .before .before .before .before .before .before .loop .first) (c .before .before .before .before .before .before .before .loop .last) (c .before .before .before .before .before .before .before .loop .inv) (c .before .before .before .before .before .read-token .result) (c .before .before .before .before .before .read-token .last .1 .1 .1 .1 .0) (c .before .before .before .before .before .read-token .ensures) (c .before .before .before .before .before .before .before .before .if1 .left) (c .before .got2 .given .0 .0) (c .before .got2 .given .0 .1 .0) (c .before .got2 .given .1)
+
+  read-token-plain-token-requires : read-token-lts.Need-plain-token-requires (read-token-claims t) (read-token-at t) read-token.Post
+  read-token-plain-token-requires c κs = search needs
+
+  read-token-enum-known-piece : read-token-lts.Need-enum-known-piece (read-token-claims t) (read-token-at t) read-token.Post
+  read-token-enum-known-piece c = search needs
+
+  read-token-returns : read-token-lts.Need-returns (read-token-claims t) (read-token-at t) read-token.Post
+  read-token-returns c = says-refused (token (c .before .before .before .before .before .before .before .args .text .now) (c .before .before .before .before .before .before .before .args .level) (c .before .before .before .before .before .before .before .args .count) (c .before .before .before .before .before .before .before .args .at)) (c .before .before .before .before .before .before .before .args .n) (c .before .before .before .before .before .before .before .args .pool .now) (c .before .before .before .before .before .before .before .args .pool .now) TooManyTokens (c .before .before .before .before .before .before .before .args .at) (token-full (c .before .before .before .before .before .before .before .args .text .now) (c .before .before .before .before .before .before .before .args .level) (c .before .before .before .before .before .before .before .args .count) (c .before .before .before .before .before .before .before .args .at) (sym (c .before .before .before .before .plain-token .ensures) ∙ ap pieceOf (c .before .before .piece .given .1)) (c .if1 .taken))
+
+  read-token-put-plain-requires : read-token-lts.Need-put-plain-requires (read-token-claims t) (read-token-at t) read-token.Post
+  read-token-put-plain-requires c κs = let o = c .before .before .before .before .before .before .before .before .pre .1 .0 in let e = c .before .before .before .before .before .before .before .before .pre .0 in let f = c .before .if1 .left in omega arith
+
+  read-token-add-t19 : read-token-lts.Need-add-t19 (read-token-claims t) (read-token-at t) read-token.Post
+  read-token-add-t19 c = let o = c .before .before .before .before .before .before .before .before .before .before .before .pre .1 .0 in let e = c .before .before .before .before .before .before .before .before .before .before .before .pre .0 in let f = c .before .before .before .before .if1 .left in omega arith
+
+  read-token-add-t20 : read-token-lts.Need-add-t20 (read-token-claims t) (read-token-at t) read-token.Post
+  read-token-add-t20 c = let o = c .before .before .before .before .before .before .before .before .before .before .before .pre .1 .0 in let e = c .before .before .before .before .before .before .before .before .before .before .before .pre .0 in let f = c .before .before .before .before .if1 .left in omega arith
+
+  read-token-enum-told : read-token-lts.Need-enum-told (read-token-claims t) (read-token-at t) read-token.Post
+  read-token-enum-told c = search needs
+
+  read-token-read-alternatives-requires : read-token-lts.Need-read-alternatives-requires (read-token-claims t) (read-token-at t) read-token.Post
+  read-token-read-alternatives-requires c κs = let o = c .before .before .before .before .before .before .pre .1 .0 in let e = c .before .before .before .before .before .before .pre .0 in (omega arith, c .before .before .before .before .before .before .pre .1)
+
+  read-token-enum-known-piece-2 : read-token-lts.Need-enum-known-piece-2 (read-token-claims t) (read-token-at t) read-token.Post
+  read-token-enum-known-piece-2 c = search needs
+
+  read-token-same-length : read-token-lts.Need-same-length (read-token-claims t) (read-token-at t) read-token.Post
+  read-token-same-length c = search needs
+
+  read-token-returns-2 : read-token-lts.Need-returns-2 (read-token-claims t) (read-token-at t) read-token.Post
+  read-token-returns-2 c = let w : length (entriesOf (tokenOf (c .before .before .before .before .before .before .piece .given .0 .0))) ≡ 4 = one-entry (c .before .before .before .before .before .before .before .before .before .before .before .args .text .now) (c .before .before .before .before .before .before .before .before .before .before .before .args .level) (c .before .before .before .before .before .before .before .before .before .before .before .args .count) (c .before .before .before .before .before .before .before .before .before .before .before .args .at) (sym (c .before .before .before .before .before .before .before .before .plain-token .ensures) ∙ ap pieceOf (c .before .before .before .before .before .before .piece .given .1)) in says-read (token (c .before .before .before .before .before .before .before .before .before .before .before .args .text .now) (c .before .before .before .before .before .before .before .before .before .before .before .args .level) (c .before .before .before .before .before .before .before .before .before .before .before .args .count) (c .before .before .before .before .before .before .before .before .before .before .before .args .at)) (c .before .before .before .before .before .before .before .before .before .before .before .args .n) (c .before .before .before .before .before .before .before .before .before .before .before .args .pool .now) (c .before .before .put-plain .last .0) (tokenOf (c .before .before .before .before .before .before .piece .given .0 .0)) (c .before .before .before .before .before .before .piece .given .0 .1 .1 .0) ((c .before .before .before .before .before .before .before .before .before .before .before .args .count) + 1) ((c .before .before .before .before .before .before .before .before .before .before .before .args .n) + 4) (c .before .before .put-plain .result) (token-found (c .before .before .before .before .before .before .before .before .before .before .before .args .text .now) (c .before .before .before .before .before .before .before .before .before .before .before .args .level) (c .before .before .before .before .before .before .before .before .before .before .before .args .count) (c .before .before .before .before .before .before .before .before .before .before .before .args .at) (sym (c .before .before .before .before .before .before .before .before .plain-token .ensures) ∙ ap pieceOf (c .before .before .before .before .before .before .piece .given .1)) (c .before .before .before .before .if1 .left)) (omega arith) (c .before .before .put-plain .ensures .0) (c .before .before .put-plain .ensures .1)
+
+  read-token-same-length-2 : read-token-lts.Need-same-length-2 (read-token-claims t) (read-token-at t) read-token.Post
+  read-token-same-length-2 c = search needs
+
+  read-token-returns-3 : read-token-lts.Need-returns-3 (read-token-claims t) (read-token-at t) read-token.Post
+  read-token-returns-3 c = says-same (token (c .before .before .before .before .before .before .before .before .before .args .text .now) (c .before .before .before .before .before .before .before .before .before .args .level) (c .before .before .before .before .before .before .before .before .before .args .count) (c .before .before .before .before .before .before .before .before .before .args .at)) (alternatives (c .before .before .before .before .before .before .before .before .before .args .text .now) (c .before .before .before .before .before .before .before .before .before .args .level) (c .before .before .before .before .before .before .before .before .before .args .count) (c .before .before .before .before .before .before .before .before .before .args .at)) _ _ _ _ (token-other (c .before .before .before .before .before .before .before .before .before .args .text .now) (c .before .before .before .before .before .before .before .before .before .args .level) (c .before .before .before .before .before .before .before .before .before .args .count) (c .before .before .before .before .before .before .before .before .before .args .at) (sym (c .before .before .before .before .before .before .plain-token .ensures) ∙ ap pieceOf (c .before .before .before .before .enum-told .given .1))) (c .before .before .read-alternatives .ensures)
+
+  read-token-returns-4 : read-token-lts.Need-returns-4 (read-token-claims t) (read-token-at t) read-token.Post
+  read-token-returns-4 c = says-refused (token (c .before .before .before .before .before .before .args .text .now) (c .before .before .before .before .before .before .args .level) (c .before .before .before .before .before .before .args .count) (c .before .before .before .before .before .before .args .at)) (c .before .before .before .before .before .before .args .n) (c .before .before .before .before .before .before .args .pool .now) (c .before .before .before .before .before .before .args .pool .now) _ _ (token-refuses (c .before .before .before .before .before .before .args .text .now) (c .before .before .before .before .before .before .args .level) (c .before .before .before .before .before .before .args .count) (c .before .before .before .before .before .before .args .at) (sym (c .before .before .before .plain-token .ensures) ∙ ap pieceOf (c .before .piece2 .given .1)))
+
+pub +read-alternatives+read-list+read-token-spec : {M : Type 1} → statement M
++read-alternatives+read-list+read-token-spec =
+    close μ-read-alternatives μ-read-list μ-read-token
+    (λ t. read-alternatives-lts.spec (read-alternatives-claims t) (read-alternatives-at t) read-alternatives.Post read-alternatives-Inv-loop read-alternatives-μ-loop
+    (read-alternatives-peek-requires t) (read-alternatives-returns t) (read-alternatives-returns-2 t) (read-alternatives-add-skip-blanks t)
+    (read-alternatives-skip-blanks-requires t) (read-alternatives-add-m t) (read-alternatives-add-c t) (read-alternatives-loop-holds t)
+    (read-alternatives-add-read-list t) (read-alternatives-add-read-list-2 t) (read-alternatives-read-list-requires t) (read-alternatives-enum-known-got t)
+    (read-alternatives-put-head-requires t) (read-alternatives-add-k t) (read-alternatives-peek-requires-2 t) (read-alternatives-put-head-requires-2 t)
+    (read-alternatives-add-skip-blanks-2 t) (read-alternatives-skip-blanks-requires-2 t) (read-alternatives-same-length t) (read-alternatives-returns-3 t)
+    (read-alternatives-same-length-2 t) (read-alternatives-returns-4 t) (read-alternatives-add-skip-blanks-3 t) (read-alternatives-skip-blanks-requires-3 t)
+    (read-alternatives-loop-less t) (read-alternatives-loop-again t) (read-alternatives-enum-told t) (read-alternatives-same-length-3 t)
+    (read-alternatives-returns-5 t) (read-alternatives-enum-known-got-2 t) (read-alternatives-same-length-4 t) (read-alternatives-returns-6 t))
+    (λ t. read-list-lts.spec (read-list-claims t) (read-list-at t) read-list.Post read-list-Inv-loop read-list-μ-loop
+    (read-list-returns t) (read-list-loop-holds t) (read-list-read-token-requires t) (read-list-enum-known-got t)
+    (read-list-first-jump-requires t) (read-list-add-k t) (read-list-loop-less t) (read-list-loop-again t)
+    (read-list-enum-told t) (read-list-list-end-requires t) (read-list-same-length t) (read-list-returns-2 t)
+    (read-list-enum-known-got-2 t) (read-list-same-length-2 t) (read-list-returns-3 t))
+    (λ t. read-token-lts.spec (read-token-claims t) (read-token-at t) read-token.Post
+    (read-token-plain-token-requires t) (read-token-enum-known-piece t) (read-token-returns t) (read-token-put-plain-requires t)
+    (read-token-add-t19 t) (read-token-add-t20 t) (read-token-enum-told t) (read-token-read-alternatives-requires t)
+    (read-token-enum-known-piece-2 t) (read-token-same-length t) (read-token-returns-2 t) (read-token-same-length-2 t)
+    (read-token-returns-3 t) (read-token-returns-4 t))

@@ -1,0 +1,15 @@
+-- Each way out gives what the definition gives there. Assumes nothing.
+use borrow.Author.Tests.{ne-eqb}
+use native.Mathlib.Omega.{arith}
+use borrow.Author.Needs.{needs}
+use Rattle.reader.proofs.first_jump.Statement.{statement}
+use Rattle.reader.proofs.first_jump.Tie as tie
+
+returns : tie.Need-returns
+returns c = rw (c .if1 .taken)
+
+returns-2 : tie.Need-returns-2
+returns-2 c = rw (ne-eqb (c .before .args .k) 0 (c .if1 .left))
+
+pub first-jump-spec : {M : Type 1} → statement M
+first-jump-spec = tie.close (tie.spec returns returns-2)

@@ -1,0 +1,10 @@
+-- What is known of reading.
+pub mod PieceLaws
+pub mod PieceSteps
+pub mod PieceBounds
+pub mod ListBounds
+pub mod ListSteps
+pub mod TextLaws
+pub mod Kept
+pub mod Decoded
+pub mod Samples

@@ -1,0 +1,156 @@
+-- What each test of a small reader decides. Assumes nothing.
+use mathlib.Core.Path.{_≡_, refl, sym, ap, ap₂, _∙_}
+use mathlib.Core.Bool.{Bool, true, false, cond, _&&_}
+use mathlib.Core.Option.{Option, none, some}
+use mathlib.Core.List.{List}
+use Prim.Native.Nat.{ℕ, _+_, _-_, _*_, _≤_, _<_}
+use native.Mathlib.Omega.{arith}
+use borrow.Author.Tests.{eq-eqb, ne-eqb, lt-ltb, le-ltb, le-leb, lt-leb}
+use lib.Dec.{eqb, ltb, leb}
+use lib.ListN.{length, drop, getD}
+use Rattle.base.specs.declared.Refusal.{Refusal}
+use Rattle.base.specs.declared.Refusal.the-variants.{NumberTooBig, JumpEmpty, JumpRangeInvalid, JumpUnboundedInAlternation, JumpTooBigInAlternation}
+use Rattle.meaning.specs.Tokens.{Mask, left, right, all, Token, Jump}
+use Rattle.reading.specs.Blanks.{skip}
+use Rattle.reading.specs.Pieces.{Seen, found, absent, refused, Hex, whole, masked, Range, between, within, digit, twoDigits, byteAt, oneDigit, maskedAt, hexAt, negated, notAt, decimals, numeral, numberAt, checked, closedAt, upperAt, dashAt, lowerAt, rangeAt, jumpToken, jumped, plainly, plainAt, _else_}
+
+module _ (t : List ℕ) (at : ℕ) where
+  pub byte-none : digit (getD t at 0) ≡ none → byteAt t at ≡ absent
+  unfolding byteAt twoDigits
+  byte-none d = rw d
+
+  pub byte-half : {h : ℕ} → digit (getD t at 0) ≡ some h → digit (getD t (at + 1) 0) ≡ none → byteAt t at ≡ absent
+  unfolding byteAt twoDigits
+  byte-half d e = rw (d, e)
+
+  pub byte-both : {h l : ℕ} → digit (getD t at 0) ≡ some h → digit (getD t (at + 1) 0) ≡ some l → byteAt t at ≡ found (whole (16 * h + l)) (at + 2) (skip t (at + 2))
+  unfolding byteAt twoDigits
+  byte-both d e = rw (d, e)
+
+  pub masked-all : getD t at 0 ≡ 63 → getD t (at + 1) 0 ≡ 63 → maskedAt t at ≡ found (masked 0 all) (at + 2) (skip t (at + 2))
+  unfolding maskedAt
+  masked-all d e = rw (d, e)
+
+  pub masked-left : {v : ℕ} → getD t at 0 ≡ 63 → (getD t (at + 1) 0 ≡ 63 → ⊥) → digit (getD t (at + 1) 0) ≡ some v → maskedAt t at ≡ found (masked v left) (at + 2) (skip t (at + 2))
+  unfolding maskedAt oneDigit
+  masked-left d e f = rw (d, ne-eqb (getD t (at + 1) 0) 63 e, f)
+
+  pub masked-no-left : getD t at 0 ≡ 63 → (getD t (at + 1) 0 ≡ 63 → ⊥) → digit (getD t (at + 1) 0) ≡ none → maskedAt t at ≡ absent
+  unfolding maskedAt oneDigit
+  masked-no-left d e f = rw (d, ne-eqb (getD t (at + 1) 0) 63 e, f)
+
+  pub masked-right : {v : ℕ} → (getD t at 0 ≡ 63 → ⊥) → digit (getD t at 0) ≡ some v → getD t (at + 1) 0 ≡ 63 → maskedAt t at ≡ found (masked v right) (at + 2) (skip t (at + 2))
+  unfolding maskedAt oneDigit
+  masked-right d e f = rw (ne-eqb (getD t at 0) 63 d, f, e)
+
+  pub masked-no-right : (getD t at 0 ≡ 63 → ⊥) → digit (getD t at 0) ≡ none → maskedAt t at ≡ absent
+  unfolding maskedAt oneDigit
+  masked-no-right d e = rw (ne-eqb (getD t at 0) 63 d, e) (go (eqb (getD t (at + 1) 0) 63))
+    where
+      go : (b : Bool) → _≡_ {A = Seen Hex} (cond b absent absent) absent
+      go true = refl
+      go false = refl
+
+  pub masked-other : (getD t at 0 ≡ 63 → ⊥) → (getD t (at + 1) 0 ≡ 63 → ⊥) → maskedAt t at ≡ absent
+  unfolding maskedAt
+  masked-other d e = simp (ne-eqb (getD t at 0) 63 d, ne-eqb (getD t (at + 1) 0) 63 e)
+
+  pub hex-byte : {h : Hex} {s e : ℕ} → byteAt t at ≡ found h s e → hexAt t at ≡ found h s e
+  unfolding hexAt _else_
+  hex-byte d = rw d
+
+  pub hex-masked : byteAt t at ≡ absent → hexAt t at ≡ maskedAt t at
+  unfolding hexAt _else_
+  hex-masked d = rw d
+
+  pub not-else : (getD t at 0 ≡ 126 → ⊥) → notAt t at ≡ absent
+  unfolding notAt
+  not-else d = simp (ne-eqb (getD t at 0) 126 d)
+
+  pub not-hex : getD t at 0 ≡ 126 → {x : Seen Hex} → hexAt t (at + 1) ≡ x → notAt t at ≡ negated at x
+  unfolding notAt
+  not-hex d e = rw (d, e)
+
+  pub number-absent : within 48 57 (getD t at 0) ≡ false → numberAt t at ≡ absent
+  unfolding numberAt
+  number-absent d = rw d
+
+  pub number-found : {v i : ℕ} → within 48 57 (getD t at 0) ≡ true → numeral 0 (drop at t) ≡ v → at + decimals (drop at t) ≡ i → v ≤ 4294967295 → numberAt t at ≡ found v i (skip t i)
+  unfolding numberAt
+  number-found {v} d e f g = rw (d, e, f, le-leb v 4294967295 g)
+
+  pub number-big : within 48 57 (getD t at 0) ≡ true → 4294967295 < numeral 0 (drop at t) → numberAt t at ≡ refused NumberTooBig at
+  unfolding numberAt
+  number-big d e = rw (d, lt-leb (numeral 0 (drop at t)) 4294967295 e)
+
+  pub checked-open : (from stop : ℕ) → checked t at from none stop ≡ found (between from none) stop (skip t stop)
+  unfolding checked
+  checked-open from stop = refl
+
+  pub checked-empty : (from to stop : ℕ) → eqb from 0 && eqb to 0 ≡ true → checked t at from (some to) stop ≡ refused JumpEmpty at
+  unfolding checked
+  checked-empty from to stop d = rw d
+
+  pub checked-wrong : (from to stop : ℕ) → eqb from 0 && eqb to 0 ≡ false → to < from → checked t at from (some to) stop ≡ refused JumpRangeInvalid at
+  unfolding checked
+  checked-wrong from to stop d e = rw (d, lt-ltb to from e)
+
+  pub checked-both : (from to stop : ℕ) → eqb from 0 && eqb to 0 ≡ false → from ≤ to → checked t at from (some to) stop ≡ found (between from (some to)) stop (skip t stop)
+  unfolding checked
+  checked-both from to stop d e = rw (d, le-ltb to from e)
+
+  pub closed-else : (from : ℕ) (to : Option ℕ) (x : ℕ) → (getD t x 0 ≡ 93 → ⊥) → closedAt t at from to x ≡ absent
+  unfolding closedAt
+  closed-else from to x d = simp (ne-eqb (getD t x 0) 93 d)
+
+  pub closed-at : (from : ℕ) (to : Option ℕ) (x : ℕ) → getD t x 0 ≡ 93 → closedAt t at from to x ≡ checked t at from to (x + 1)
+  unfolding closedAt
+  closed-at from to x d = rw d
+
+  pub dash-else : (from x : ℕ) → (getD t x 0 ≡ 45 → ⊥) → dashAt t at from x ≡ absent
+  unfolding dashAt
+  dash-else from x d = simp (ne-eqb (getD t x 0) 45 d)
+
+  pub dash-at : (from x y : ℕ) → getD t x 0 ≡ 45 → y ≡ skip t (x + 1) → {n : Seen ℕ} → numberAt t y ≡ n → dashAt t at from x ≡ upperAt t at from y n
+  unfolding dashAt
+  dash-at from x y d f e = rw (d, sym f, e)
+
+  pub range-else : (getD t at 0 ≡ 91 → ⊥) → rangeAt t at ≡ absent
+  unfolding rangeAt
+  range-else d = simp (ne-eqb (getD t at 0) 91 d)
+
+  pub range-at : (y : ℕ) → getD t at 0 ≡ 91 → y ≡ skip t (at + 1) → {n : Seen ℕ} → numberAt t y ≡ n → rangeAt t at ≡ lowerAt t at y n
+  unfolding rangeAt
+  range-at y d f e = rw (d, sym f, e)
+
+  pub lower-closed : (x n s e : ℕ) → getD t e 0 ≡ 93 → lowerAt t at x (found n s e) ≡ checked t at n (some n) (e + 1)
+  unfolding lowerAt
+  lower-closed x n s e d = rw d
+
+  pub lower-dash : (x n s e : ℕ) → (getD t e 0 ≡ 93 → ⊥) → lowerAt t at x (found n s e) ≡ dashAt t at n e
+  unfolding lowerAt
+  lower-dash x n s e d = simp (ne-eqb (getD t e 0) 93 d)
+
+  pub plain-not : (inside : Bool) {x : Seen Token} → notAt t at ≡ x → plainAt t inside at ≡ (x else (plainly (hexAt t at) else jumped inside at (rangeAt t at)))
+  unfolding plainAt
+  plain-not inside e = rw e
+
+  pub byte-else : {x : Seen Hex} → hexAt t at ≡ x → (y : Seen Token) → (plainly (hexAt t at) else y) ≡ (plainly x else y)
+  byte-else e y = rw e
+
+module _ (at from s e : ℕ) where
+  pub jumped-unbounded : (inside : Bool) → inside ≡ true → jumped inside at (found (between from none) s e) ≡ refused JumpUnboundedInAlternation at
+  unfolding jumped
+  jumped-unbounded inside d = rw d
+
+  pub jumped-open : (inside : Bool) → inside ≡ false → jumped inside at (found (between from none) s e) ≡ found (Jump from none) s e
+  unfolding jumped
+  jumped-open inside d = rw d
+
+  pub jumped-big : (inside : Bool) (to : ℕ) → inside && ltb 200 to ≡ true → jumped inside at (found (between from (some to)) s e) ≡ refused JumpTooBigInAlternation at
+  unfolding jumped
+  jumped-big inside to d = rw d
+
+  pub jumped-found : (inside : Bool) (to : ℕ) → inside && ltb 200 to ≡ false → jumped inside at (found (between from (some to)) s e) ≡ found (jumpToken from to) s e
+  unfolding jumped
+  jumped-found inside to d = rw d
