@@ -2,3 +2,4 @@
 pub mod Samples
 pub mod MatchLaws
 pub mod NumberLaws
+pub mod LengthLaws
