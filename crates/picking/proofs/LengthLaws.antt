@@ -58,17 +58,17 @@ mutual
   some-long (ts or ls) ps s h =
       ⊎-elim
       (λ (m : List·Memᴰ s (ps ⊗ spelt ts ([] ∷ []))).
-          let r = in-joined ps (spelt ts ([] ∷ [])) s m in
-          let w = whole (lengthIn ts) (size ts) (r .1) (spelt-long ts ([] ∷ []) (r .1) (r .4)) in
-          let a = w .0 in
-          let b = w .1 in
-          let c = shorter-le ls (lengthIn ts) in
-          (r .0, r .1, r .2, r .3, (omega arith, omega arith)))
+      let r = in-joined ps (spelt ts ([] ∷ [])) s m in
+      let w = whole (lengthIn ts) (size ts) (r .1) (spelt-long ts ([] ∷ []) (r .1) (r .4)) in
+      let a = w .0 in
+      let b = w .1 in
+      let c = shorter-le ls (lengthIn ts) in
+      (r .0, r .1, r .2, r .3, (omega arith, omega arith)))
       (λ (m : List·Memᴰ s (branched ls ps)).
-          let r = any-long ls ps s (lengthIn ts) m in
-          let a = r .4 .0 in
-          let b = r .4 .1 in
-          (r .0, r .1, r .2, r .3, (omega arith, omega arith)))
+      let r = any-long ls ps s (lengthIn ts) m in
+      let a = r .4 .0 in
+      let b = r .4 .1 in
+      (r .0, r .1, r .2, r .3, (omega arith, omega arith)))
       (List·Memᴰ·append-cases (ps ⊗ spelt ts ([] ∷ [])) h)
 
   any-long : (ls : Lists) (ps : List (List ℕ)) (s : List ℕ) (n : ℕ) → List·Memᴰ s (branched ls ps) → Pieces ps (Between (shorter ls n) (sizeIn ls)) s
@@ -76,17 +76,17 @@ mutual
   any-long (ts or ls) ps s n h =
       ⊎-elim
       (λ (m : List·Memᴰ s (ps ⊗ spelt ts ([] ∷ []))).
-          let r = in-joined ps (spelt ts ([] ∷ [])) s m in
-          let w = whole (lengthIn ts) (size ts) (r .1) (spelt-long ts ([] ∷ []) (r .1) (r .4)) in
-          let a = w .0 in
-          let b = w .1 in
-          let c = shorter-le ls (min n (lengthIn ts)) in
-          (r .0, r .1, r .2, r .3, (omega arith, omega arith)))
+      let r = in-joined ps (spelt ts ([] ∷ [])) s m in
+      let w = whole (lengthIn ts) (size ts) (r .1) (spelt-long ts ([] ∷ []) (r .1) (r .4)) in
+      let a = w .0 in
+      let b = w .1 in
+      let c = shorter-le ls (min n (lengthIn ts)) in
+      (r .0, r .1, r .2, r .3, (omega arith, omega arith)))
       (λ (m : List·Memᴰ s (branched ls ps)).
-          let r = any-long ls ps s (min n (lengthIn ts)) m in
-          let a = r .4 .0 in
-          let b = r .4 .1 in
-          (r .0, r .1, r .2, r .3, (omega arith, omega arith)))
+      let r = any-long ls ps s (min n (lengthIn ts)) m in
+      let a = r .4 .0 in
+      let b = r .4 .1 in
+      (r .0, r .1, r .2, r .3, (omega arith, omega arith)))
       (List·Memᴰ·append-cases (ps ⊗ spelt ts ([] ∷ [])) h)
 
 -- a literal is at least as long as the shortest branches tell, and no longer than there are tokens

@@ -6,3 +6,4 @@ pub mod PartLaws
 pub mod TallyLaws
 pub mod SpellLaws
 pub mod WriteLaws
+pub mod SizeLaws
