@@ -3,3 +3,4 @@ pub mod Samples
 pub mod MatchLaws
 pub mod NumberLaws
 pub mod LengthLaws
+pub mod RefusalLaws
