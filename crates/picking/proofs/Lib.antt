@@ -2,3 +2,5 @@
 pub mod Samples
 pub mod MatchLaws
 pub mod NumberLaws
+pub mod LengthLaws
+pub mod RefusalLaws

@@ -36,7 +36,7 @@ before-in p q (x ∷ ss) h = go (λ m. before-in p q ss m) (List·Memᴰ·cases-
     go below (inl e) = List·Memᴰ·head (ap (λ (y : List ℕ). p ++ y) e)
     go below (inr m) = List·Memᴰ·tail (below m)
 
-in-joined : (ps ss : List (List ℕ)) (s : List ℕ) → List·Memᴰ s (ps ⊗ ss) → Pieces ps (λ q. List·Memᴰ q ss) s
+pub in-joined : (ps ss : List (List ℕ)) (s : List ℕ) → List·Memᴰ s (ps ⊗ ss) → Pieces ps (λ q. List·Memᴰ q ss) s
 unfolding _⊗_
 in-joined [] ss s h = absurd (List·Memᴰ·not-nil h)
 in-joined (p ∷ ps) ss s h = go (λ m. in-joined ps ss s m) (List·Memᴰ·append-cases (before p ss) h)
@@ -56,7 +56,7 @@ joined-in (x ∷ ps) ss p q h m = go (λ k. joined-in ps ss p q k m) (List·Mem�
         Memᴰ·cast (ap (λ (y : List ℕ). y ++ q) e) (Memᴰ·append-left (ps ⊗ ss) (before-in x q ss m))
     go below (inr k) = Memᴰ·append-right (before x ss) (below k)
 
-in-singles : (bs s : List ℕ) → List·Memᴰ s (singles bs) → (b : ℕ) × (s ≡ b ∷ []) × List·Memᴰ b bs
+pub in-singles : (bs s : List ℕ) → List·Memᴰ s (singles bs) → (b : ℕ) × (s ≡ b ∷ []) × List·Memᴰ b bs
 unfolding singles
 in-singles [] s h = absurd (List·Memᴰ·not-nil h)
 in-singles (x ∷ bs) s h = go (λ m. in-singles bs s m) (List·Memᴰ·cases-cons h)

@@ -1,7 +1,7 @@
 -- The literals of tokens, in 01's order, their combinations and their shortest length. Assumes nothing: these are definitions.
 use mathlib.Core.Bool.{Bool, true, false, not, _&&_}
 use mathlib.Core.List.{List, [], _∷_, _++_}
-use Prim.Native.Nat.{ℕ, zero, suc, _+_, _*_, _/_, _%_, _<_, min}
+use Prim.Native.Nat.{ℕ, zero, suc, _+_, _*_, _/_, _%_, _≤_, _<_, min}
 use lib.Dec.{eqb}
 use lib.ListN.{length}
 use Rattle.meaning.specs.Tokens.{Mask, left, right, all, Token, Tokens, Lists, Byte, NotByte, MaskedByte, NotMaskedByte, Jump, Alternatives, nothing, _then_, neither, _or_}
@@ -166,3 +166,39 @@ unfoldable mutual
 unfoldable pub Bytes : List ℕ → Type 0
 Bytes [] = Unit {0}
 Bytes (b ∷ s) = (b < 256) × Bytes s
+
+unfoldable mutual
+  -- tokens at every depth
+  pub sizeOf : Token → ℕ
+  sizeOf (Byte v) = 1
+  sizeOf (NotByte v) = 1
+  sizeOf (MaskedByte v m) = 1
+  sizeOf (NotMaskedByte v m) = 1
+  sizeOf (Jump from to) = 1
+  sizeOf (Alternatives ls) = 1 + sizeIn ls
+
+  pub size : Tokens → ℕ
+  size nothing = 0
+  size (t then ts) = sizeOf t + size ts
+
+  pub sizeIn : Lists → ℕ
+  sizeIn neither = 0
+  sizeIn (ts or ls) = size ts + sizeIn ls
+
+unfoldable mutual
+  -- alternatives have a list, and no list of them is empty, as everything that is read
+  pub listedOf : Token → Type 0
+  listedOf (Byte v) = Unit {0}
+  listedOf (NotByte v) = Unit {0}
+  listedOf (MaskedByte v m) = Unit {0}
+  listedOf (NotMaskedByte v m) = Unit {0}
+  listedOf (Jump from to) = Unit {0}
+  listedOf (Alternatives ls) = (1 ≤ shortest ls) × listedIn ls
+
+  pub listed : Tokens → Type 0
+  listed nothing = Unit {0}
+  listed (t then ts) = listedOf t × listed ts
+
+  pub listedIn : Lists → Type 0
+  listedIn neither = Unit {0}
+  listedIn (ts or ls) = listed ts × listedIn ls

@@ -4,3 +4,6 @@ pub mod ClassLaws
 pub mod PlainLaws
 pub mod PartLaws
 pub mod TallyLaws
+pub mod SpellLaws
+pub mod WriteLaws
+pub mod SizeLaws

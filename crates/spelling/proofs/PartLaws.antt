@@ -2,7 +2,7 @@
 use mathlib.Core.Path.{_≡_, refl, sym, ap, _∙_, subst}
 use mathlib.Core.Bool.{Bool, true, false, not}
 use mathlib.Core.List.{List}
-use Prim.Native.Nat.{ℕ, _+_, _-_, _≤_, _<_}
+use Prim.Native.Nat.{ℕ, _+_, _-_, _≤_, _<_, min}
 use native.Mathlib.Omega.{arith}
 use lib.ListN.{length, take, drop, length-drop, length-take}
 use lib.Seq.{take-all}
@@ -27,3 +27,6 @@ part-le a l = let e : length (take (length l - a) (drop a l)) ≡ length l - a =
 
 pub part-long : (a : ℕ) (l : List ℕ) → length (take (length l - a) (drop a l)) ≡ length l - a
 part-long a l = ap length (part-all a l) ∙ length-drop a l
+
+pub capped : (r c : ℕ) → r ≡ min 257 c → r ≤ 257
+capped r c e = omega arith

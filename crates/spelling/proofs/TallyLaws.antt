@@ -58,7 +58,7 @@ cap-sum n c r = omega arith
 
 -- ---- an entry
 
-entry-cases : (P : Token → Type 0) → ((v : ℕ) → P (Byte v)) → ((v : ℕ) → P (NotByte v)) → ((v : ℕ) (m : Mask) → P (MaskedByte v m)) → ((v : ℕ) (m : Mask) → P (NotMaskedByte v m))
+pub entry-cases : (P : Token → Type 0) → ((v : ℕ) → P (Byte v)) → ((v : ℕ) → P (NotByte v)) → ((v : ℕ) (m : Mask) → P (MaskedByte v m)) → ((v : ℕ) (m : Mask) → P (NotMaskedByte v m))
     → P (Jump 0 none) → (k v m : ℕ) → P (entryToken k v m)
 unfolding entryToken
 entry-cases P a b c d e k v m = go (eqb k 0) (eqb k 1) (eqb k 2) (eqb k 3)

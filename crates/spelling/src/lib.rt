@@ -8,10 +8,10 @@ ghost use Rattle.meaning.specs.Tokens.{MaskedByte, NotMaskedByte};
 ghost use Rattle.bitmap.specs.Bitmap.{Holds, membersFrom};
 ghost use Rattle.picking.specs.Literals.{taken, isPlain, plainList, plainLists, combinationsOf, combinations, combinationsIn, lengthOf, lengthIn, shortest};
 ghost use Rattle.picking.specs.Runs.{plain};
-ghost use Rattle.picking.specs.Numbers.{countOf, count, countIn};
+ghost use Rattle.picking.specs.Numbers.{countOf, count, countIn, prefixIn, prefixOf, prefixed, pieceOf, pieceIn, ending, literalAt};
 ghost use Rattle.spelling.specs.Words.{maskIn, entryToken, firstEntry, flatIn, ends, inside, listsIn, tokenIn, width, tokensIn};
 ghost use Rattle.spelling.specs.Classes.{passes};
-ghost use Rattle.spelling.specs.Tallies.{Tallied};
+ghost use Rattle.spelling.specs.Tallies.{Tallied, Numerable, Written, Pieced};
 use bitmap::Bitmap;
 use bitmap::Member;
 
@@ -290,4 +290,142 @@ pub fn length_of(ws: &[u32]) -> usize
         rest = &rest[e..];
     }
     n
+}
+
+// With which of p prefixes literal number q of some lists begins.
+fn prefix_in(ls: &[u32], p: usize, q: usize) -> usize
+    requires { ⌜ (p ≤ 256) × (countIn (listsIn (now ls)) ≤ 256) ⌝ }
+    ensures { λ r. ⌜ r ≡ prefixIn (listsIn (now (ls .entry))) p q ⌝ }
+{
+    let mut rest = ls;
+    let mut left = q;
+    while 4 <= rest.len() {
+        let e = end_of(rest);
+        let n = count_list(&rest[4..e]);
+        let block = p * n;
+        if left < block {
+            return left / n;
+        }
+        left -= block;
+        rest = &rest[e..];
+    }
+    0
+}
+
+// The same of the token at the front.
+fn prefix_of(ws: &[u32], p: usize, q: usize) -> usize
+    requires { ⌜ (4 ≤ length (now ws)) × (p ≤ 256) × (countOf (tokenIn (now ws)) ≤ 256) ⌝ }
+    ensures { λ r. ⌜ r ≡ prefixOf (tokenIn (now (ws .entry))) p q ⌝ }
+{
+    if ws[0] == 5 {
+        let e = end_of(ws);
+        return prefix_in(&ws[4..e], p, q);
+    }
+    let n = taken_count(ws[0], ws[1], ws[2]);
+    if n == 0 {
+        return 0;
+    }
+    q / n
+}
+
+// The same of all tokens: the last is asked first.
+fn prefixed_by(ws: &[u32], p: usize, k: usize) -> usize
+    requires { ⌜ Numerable p (count (tokensIn (now ws))) ⌝ }
+    ensures { λ r. ⌜ r ≡ prefixed (tokensIn (now (ws .entry))) p k ⌝ }
+{
+    if ws.len() < 4 {
+        return k;
+    }
+    let t = tally_token(ws);
+    let e = width_of(ws);
+    let after = p * t.literals;
+    let q = prefixed_by(&ws[e..], after, k);
+    prefix_of(ws, p, q)
+}
+
+// Writes literal number k of a list without alternatives.
+fn write_list(ws: &[u32], k: usize, dst: &mut [u8]) -> usize
+    requires { ⌜ (k < count (flatIn (now ws))) × (count (flatIn (now ws)) ≤ 256) × (length (literalAt (flatIn (now ws)) k) ≤ length (now dst)) ⌝ }
+    ensures { λ r. ⌜ Written r (literalAt (flatIn (now (ws .entry))) k) (now (dst .entry)) (now (dst .exit)) ⌝ }
+{
+    let mut rest = ws;
+    let mut n = count_list(ws);
+    let mut i = 0;
+    while 4 <= rest.len() {
+        let c = taken_count(rest[0], rest[1], rest[2]);
+        n = n / c;
+        let b = taken_at(rest[0], rest[1], rest[2], k / n % c);
+        dst[i] = b;
+        i += 1;
+        rest = &rest[4..];
+    }
+    i
+}
+
+// Writes what literal number q of some lists has after its prefix.
+fn write_branch(ls: &[u32], p: usize, q: usize, dst: &mut [u8]) -> usize
+    requires { ⌜ (p ≤ 256) × (countIn (listsIn (now ls)) ≤ 256) × (length (pieceIn (listsIn (now ls)) p q) ≤ length (now dst)) ⌝ }
+    ensures { λ r. ⌜ Written r (pieceIn (listsIn (now (ls .entry))) p q) (now (dst .entry)) (now (dst .exit)) ⌝ }
+{
+    let mut rest = ls;
+    let mut left = q;
+    while 4 <= rest.len() {
+        let e = end_of(rest);
+        let n = count_list(&rest[4..e]);
+        let block = p * n;
+        if left < block {
+            return write_list(&rest[4..e], left % n, dst);
+        }
+        left -= block;
+        rest = &rest[e..];
+    }
+    0
+}
+
+// The same of the token at the front.
+fn write_piece(ws: &[u32], p: usize, q: usize, dst: &mut [u8]) -> usize
+    requires { ⌜ Pieced p (tokenIn (now ws)) q (length (now ws)) (length (now dst)) ⌝ }
+    ensures { λ r. ⌜ Written r (pieceOf (tokenIn (now (ws .entry))) p q) (now (dst .entry)) (now (dst .exit)) ⌝ }
+{
+    if ws[0] == 5 {
+        let e = end_of(ws);
+        return write_branch(&ws[4..e], p, q, dst);
+    }
+    let n = taken_count(ws[0], ws[1], ws[2]);
+    let b = taken_at(ws[0], ws[1], ws[2], q % n);
+    dst[0] = b;
+    1
+}
+
+// The number of the prefix, token at the front and all, with which literal number k begins. A byte is the same for every number.
+fn number_of(ws: &[u32], p: usize, k: usize) -> usize
+    requires { ⌜ (4 ≤ length (now ws)) × Numerable p (count (tokensIn (now ws))) ⌝ }
+    ensures { λ r. ⌜ pieceOf (tokenIn (now (ws .entry))) p r ≡ pieceOf (tokenIn (now (ws .entry))) p (prefixed (tokensIn (drop (width (now (ws .entry))) (now (ws .entry)))) (p * countOf (tokenIn (now (ws .entry)))) k) ⌝ }
+{
+    if ws[0] == 0 {
+        return 0;
+    }
+    let t = tally_token(ws);
+    let e = width_of(ws);
+    prefixed_by(&ws[e..], p * t.literals, k)
+}
+
+// Writes literal number k of tokens.
+pub fn write_literal(ws: &[u32], k: usize, dst: &mut [u8]) -> usize
+    requires { ⌜ (k < count (tokensIn (now ws))) × (count (tokensIn (now ws)) ≤ 256) × (length (literalAt (tokensIn (now ws)) k) ≤ length (now dst)) ⌝ }
+    ensures { λ r. ⌜ Written r (literalAt (tokensIn (now (ws .entry))) k) (now (dst .entry)) (now (dst .exit)) ⌝ }
+{
+    let mut rest = ws;
+    let mut p = 1;
+    let mut i = 0;
+    while 4 <= rest.len() {
+        let t = tally_token(rest);
+        let q = number_of(rest, p, k);
+        let n = write_piece(rest, p, q, &mut dst[i..]);
+        i += n;
+        p = p * t.literals;
+        let e = width_of(rest);
+        rest = &rest[e..];
+    }
+    i
 }

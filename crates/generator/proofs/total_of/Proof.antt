@@ -1,0 +1,70 @@
+use Prim.Native.Nat.{_+_, _-_, _*_, _≤_}
+use mathlib.Core.Path.{_≡_}
+use lib.ListN.{length, drop}
+use Rattle.picking.specs.Literals.{literals}
+use Rattle.spelling.specs.Words.{tokensIn}
+use Rattle.generator.specs.Output.{joined}
+use Rattle.generator.proofs.OutputLaws as law
+use native.Mathlib.Omega.{arith}
+use borrow.Author.Needs.{needs}
+use Rattle.generator.proofs.total_of.Statement.{statement}
+use Rattle.generator.proofs.total_of.Tie as tie
+use Rattle.generator.proofs.total_of.Reads as reads
+use Rattle.generator.proofs.total_of.Lts as lts
+use Rattle.generator.proofs.length_at.Reads as length-at-reads
+
+abbrev Inv-loop : tie.InvT-loop
+Inv-loop ws n total₀ k₀ total k = (k ≤ n) × (total ≤ 1024 * k) × (total + length (joined (drop k (literals (tokensIn ws)))) ≡ length (joined (literals (tokensIn ws))))
+
+abbrev μ-loop : tie.MeasureT-loop
+μ-loop ws n total₀ k₀ total k = n - k
+
+-- src/lib.rt:33:5
+loop-holds : tie.Need-loop-holds Inv-loop μ-loop
+loop-holds c = search needs
+
+-- src/lib.rt:34:18
+length-at-requires : tie.Need-length-at-requires Inv-loop μ-loop
+length-at-requires c κs = search needs
+
+-- src/lib.rt:34:9
+add-total : tie.Need-add-total Inv-loop μ-loop
+add-total c = search needs
+
+-- src/lib.rt:35:9
+add-k : tie.Need-add-k Inv-loop μ-loop
+add-k c = search needs
+
+-- src/lib.rt:33:5
+loop-less : tie.Need-loop-less Inv-loop μ-loop
+loop-less c = search needs
+
+-- src/lib.rt:33:5
+loop-again : tie.Need-loop-again Inv-loop μ-loop
+loop-again c =
+    let s = c .before .before .before .before in
+    let l = c .before .before .loop in
+    let t = c .before .loop-test .taken in
+    let w = c .length-at in
+    (omega (arith, t), omega (arith, w .ensures .1, l .inv .1), law.total-more (tokensIn (s .args .ws .now)) (s .args .n) (s .pre .1) (l .k) (l .total) (w .result) t (w .ensures .0) (l .inv .2))
+
+-- src/lib.rt:27:1
+returns : tie.Need-returns Inv-loop μ-loop
+returns c =
+    let s = c .before .before .before in
+    let l = c .before .loop in
+    law.total-all (tokensIn (s .args .ws .now)) (s .args .n) (s .pre .1) (l .k) (l .total) (c .loop-test .left) (l .inv .2)
+
+pub total-of-spec : {M : Type 1} → statement M
+total-of-spec =
+    tie.close
+    (tie.spec
+    Inv-loop
+    μ-loop
+    loop-holds
+    length-at-requires
+    add-total
+    add-k
+    loop-less
+    loop-again
+    returns)

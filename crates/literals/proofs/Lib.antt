@@ -1,0 +1,2 @@
+-- The laws of the choice over entries.
+pub mod RankLaws

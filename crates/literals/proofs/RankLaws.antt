@@ -1,0 +1,119 @@
+-- Ranks of entries. Assumes nothing.
+use mathlib.Core.Path.{_≡_, refl, sym, ap, ap₂, _∙_, subst}
+use mathlib.Core.Bool.{Bool, true, false, cond}
+use mathlib.Core.List.{List, [], _∷_, _++_, append-nil, List·Memᴰ, List·Memᴰ·head, List·Memᴰ·tail}
+use Prim.Native.Nat.{ℕ, zero, suc, _+_, _-_, _*_, _≤_, _<_, min}
+use native.Mathlib.Omega.{arith}
+use native.Mathlib.Numerals.{add-one}
+use lib.Dec.{leb, ltb}
+use lib.ListN.{length, getD, take, drop, length-drop, length-take, length-append, drop-of-length-le}
+use lib.Seq.{drop-cons, take-at}
+use Rattle.spelling.specs.Tallies.{Written}
+use borrow.Author.Tests.{lt-ltb, le-ltb, le-leb, lt-leb}
+use Rattle.meaning.specs.Tokens.{Tokens}
+use Rattle.atoms.specs.Score.{literalScore}
+use Rattle.picking.specs.Literals.{literals, combinations, size, sizeOf, sizeIn}
+use Rattle.picking.specs.Numbers.{count, literalAt}
+use Rattle.picking.specs.Choice.{lowest, leastScore, penalty, score, counted, combined, rank, Ranked, ranked, skipped, excessive}
+use Rattle.picking.proofs.NumberLaws.{count-literals, literal-numbered}
+use Rattle.picking.proofs.LengthLaws.{literal-lengths}
+use Rattle.spelling.specs.Words.{firstEntry, flatIn, ends, inside, listsIn, tokenIn, width, tokensIn}
+use Rattle.spelling.proofs.SizeLaws.{tokens-size}
+
+nth-in : (l : List (List ℕ)) (k : ℕ) → k < length l → List·Memᴰ (getD l k []) l
+nth-in [] k h = absurd (omega arith)
+nth-in (x ∷ l) zero h = List·Memᴰ·head refl
+nth-in (x ∷ l) (suc k) h = List·Memᴰ·tail (nth-in l k (omega arith))
+
+-- a literal is no longer than the entries
+pub literal-fits : (ws : List ℕ) (k : ℕ) → k < count (tokensIn ws) → 4 * length (literalAt (tokensIn ws) k) ≤ length ws
+literal-fits ws k h =
+    let T = tokensIn ws in
+    let m : List·Memᴰ (getD (literals T) k []) (literals T) = nth-in (literals T) k (let e = count-literals T in omega arith) in
+    let l : length (getD (literals T) k []) ≤ size T = literal-lengths T (getD (literals T) k []) m .1 in
+    let e : length (getD (literals T) k []) ≡ length (literalAt T k) = ap length (literal-numbered T k h) in
+    let s = tokens-size ws in
+    omega arith
+
+module _ (ts : Tokens) where
+  lits : List (List ℕ)
+  lits = literals ts
+
+  pub lowest-end : (k n least : ℕ) → n ≡ count ts → n ≤ k → lowest (drop k (literals ts)) least ≡ least
+  unfolding lowest
+  lowest-end k n least e h = rw (drop-of-length-le (literals ts) {i = k} (let c = count-literals ts in omega arith))
+
+  pub lowest-more : (k n least : ℕ) → n ≡ count ts → k < n → lowest (drop k (literals ts)) least ≡ lowest (drop (k + 1) (literals ts)) (min least (literalScore (literalAt ts k)))
+  unfolding lowest
+  lowest-more k n least e h =
+      ap (λ (l : List (List ℕ)). lowest l least) (drop-cons (literals ts) k [] (let c = count-literals ts in omega arith))
+      ∙ ap₂ (λ (x : ℕ) (l : List ℕ). lowest (drop x (literals ts)) (min least (literalScore l))) (sym (add-one k)) (literal-numbered ts k (omega arith))
+
+  pub least-none : (n : ℕ) → n ≡ count ts → n ≡ 0 → leastScore (literals ts) ≡ 0
+  unfolding leastScore
+  least-none n e z = go (literals ts) (let c = count-literals ts in omega arith)
+    where
+      go : (l : List (List ℕ)) → length l ≡ 0 → leastScore l ≡ 0
+      go [] h = refl
+      go (x ∷ l) h = absurd (omega arith)
+
+  pub least-first : (n : ℕ) → n ≡ count ts → (n ≡ 0 → ⊥) → leastScore (literals ts) ≡ lowest (drop 1 (literals ts)) (literalScore (literalAt ts 0))
+  unfolding leastScore
+  least-first n e z = go (literals ts) refl (let c = count-literals ts in omega arith) ∙ ap (λ (l : List ℕ). lowest (drop 1 (literals ts)) (literalScore l)) (literal-numbered ts 0 (omega arith))
+    where
+      go : (l : List (List ℕ)) → literals ts ≡ l → 0 < length l → leastScore l ≡ lowest (drop 1 (literals ts)) (literalScore (getD (literals ts) 0 []))
+      go [] q h = absurd (omega arith)
+      go (x ∷ l) q h = sym (ap (λ (y : List (List ℕ)). lowest (drop 1 y) (literalScore (getD y 0 []))) q)
+
+-- ---- the penalty
+
+pub penalty-40 : (n : ℕ) → 100 ≤ n → 40 ≡ penalty n
+unfolding penalty
+penalty-40 n h = rw (le-leb 100 n h)
+
+pub penalty-20 : (n : ℕ) → n < 100 → 16 < n → 20 ≡ penalty n
+unfolding penalty
+penalty-20 n h g = simp (lt-leb 100 n h, lt-ltb 16 n g)
+
+pub penalty-10 : (n : ℕ) → n < 100 → n ≤ 16 → 1 < n → 10 ≡ penalty n
+unfolding penalty
+penalty-10 n h g i = simp (lt-leb 100 n h, le-ltb 16 n g, lt-ltb 1 n i)
+
+pub penalty-0 : (n : ℕ) → n < 100 → n ≤ 16 → n ≤ 1 → 0 ≡ penalty n
+unfolding penalty
+penalty-0 n h g i = simp (lt-leb 100 n h, le-ltb 16 n g, le-ltb 1 n i)
+
+-- ---- the rank
+
+module _ (ts : Tokens) (n c : ℕ) (n-is : n ≡ min 257 (count ts)) (c-is : c ≡ min 257 (combinations ts)) where
+  pub rank-skipped : 256 < c → skipped ≡ rank ts
+  unfolding rank combined
+  rank-skipped h = rw (lt-ltb 256 (combinations ts) (omega arith))
+
+  pub rank-excessive : c ≤ 256 → 256 < n → excessive ≡ rank ts
+  unfolding rank combined counted
+  rank-excessive h g = rw (le-ltb 256 (combinations ts) (omega arith)) (rw (lt-ltb 256 (length (literals ts)) (let e = count-literals ts in omega arith)))
+
+  pub count-exact : n ≤ 256 → n ≡ count ts
+  count-exact h = omega arith
+
+  pub rank-given : c ≤ 256 → n ≤ 256 → (s p : ℕ) → s ≡ leastScore (literals ts) → p ≡ penalty c → ranked (s - p) ≡ rank ts
+  unfolding rank combined counted score
+  rank-given h g s p e f =
+      let k : c ≡ combinations ts = omega arith in
+      rw (le-ltb 256 (combinations ts) (omega arith)) (rw (le-ltb 256 (length (literals ts)) (let e = count-literals ts in omega arith))
+      (ap ranked (ap₂ _-_ e (f ∙ ap penalty k))))
+
+-- ---- the scratch
+
+pub scratch-front : (n : ℕ) (lit was ys : List ℕ) → Written n lit was ys → take (n - 0) (ys ++ []) ≡ lit
+scratch-front n lit was ys w =
+    let e : n - 0 ≡ length lit = (let f = w .long in omega arith) in
+    ap₂ take e (append-nil ys ∙ w .content) ∙ take-at lit (drop (length lit) was) (length lit) refl
+
+pub scratch-room : (n : ℕ) (lit was ys : List ℕ) → Written n lit was ys → n ≤ length (ys ++ [])
+scratch-room n lit was ys w =
+    let e : length (ys ++ []) ≡ length ys = ap length (append-nil ys) in
+    let f : length ys ≡ length lit + length (drop (length lit) was) = ap length (w .content) ∙ length-append lit (drop (length lit) was) in
+    let g = w .long in
+    omega arith

@@ -1,0 +1,68 @@
+use Rattle.spelling.specs.Words.{tokensIn}
+use Rattle.picking.specs.Choice.{lowest, leastScore, penalty, rank, ranked}
+use Rattle.picking.specs.Numbers.{count, literalAt}
+use Rattle.picking.specs.Literals.{literals, combinations}
+use Rattle.atoms.specs.Score.{literalScore}
+use lib.ListN.{length, getD, take, drop}
+use mathlib.Core.Path.{_≡_, refl, sym, ap, ap₂, _∙_, subst}
+use Rattle.literals.proofs.RankLaws as law
+use mathlib.Core.List.{List, _++_}
+use Prim.Native.Nat.{ℕ, _+_, _-_, _*_, _≤_, _<_, min}
+use native.Mathlib.Omega.{arith}
+use borrow.Author.Needs.{needs}
+use Rattle.literals.proofs.score_at.Statement.{statement}
+use Rattle.literals.proofs.score_at.Tie as tie
+use Rattle.literals.proofs.score_at.Reads as reads
+use Rattle.literals.proofs.score_at.Lts as lts
+use Rattle.atoms.proofs.literal_score.Reads as literal-score-reads
+use Rattle.spelling.proofs.write_literal.Reads as write-literal-reads
+
+-- src/lib.rt:26:44
+sub-write-literal : tie.Need-sub-write-literal
+sub-write-literal c = search needs
+
+-- src/lib.rt:26:44
+part-scratch-start : tie.Need-part-scratch-start
+part-scratch-start c = search needs
+
+-- src/lib.rt:26:44
+part-scratch-end : tie.Need-part-scratch-end
+part-scratch-end c = search needs
+
+-- src/lib.rt:26:9
+write-literal-requires : tie.Need-write-literal-requires
+write-literal-requires c κs = ((c .before .before .pre) .1, (c .before .before .pre) .2, omega (arith, law.literal-fits (c .before .before .args .ws .now) (c .before .before .args .k) ((c .before .before .pre) .1), (c .before .before .pre) .0))
+
+-- src/lib.rt:27:26
+sub-literal-score : tie.Need-sub-literal-score
+sub-literal-score c = omega arith
+
+-- src/lib.rt:27:26
+part-literal-score-start : tie.Need-part-literal-score-start
+part-literal-score-start c = search needs
+
+-- src/lib.rt:27:26
+part-literal-score-end : tie.Need-part-literal-score-end
+part-literal-score-end c = law.scratch-room _ _ _ _ (c .before .before .write-literal .ensures)
+
+-- src/lib.rt:27:5
+literal-score-requires : tie.Need-literal-score-requires
+literal-score-requires c κs = search needs
+
+-- src/lib.rt:21:1
+returns : tie.Need-returns
+returns c = c .literal-score .ensures ∙ ap literalScore (law.scratch-front _ _ _ _ (c .before .before .before .before .write-literal .ensures))
+
+pub score-at-spec : {M : Type 1} → statement M
+score-at-spec =
+    tie.close
+    (tie.spec
+    sub-write-literal
+    part-scratch-start
+    part-scratch-end
+    write-literal-requires
+    sub-literal-score
+    part-literal-score-start
+    part-literal-score-end
+    literal-score-requires
+    returns)

@@ -1,0 +1,313 @@
+-- Literal number k, from the entries. Assumes nothing.
+use mathlib.Core.Path.{_≡_, refl, sym, ap, ap₂, _∙_, subst}
+use mathlib.Core.Bool.{Bool, true, false, cond}
+use mathlib.Core.Option.{none}
+use mathlib.Core.List.{List, [], _∷_, _++_, append-nil, append-assoc}
+use Prim.Native.Nat.{ℕ, zero, suc, _+_, _-_, _*_, _/_, _%_, _≤_, _<_, min}
+use native.Mathlib.Omega.{arith}
+use native.Mathlib.Nat.{mul-zero, mul-one, one-mul, mul-comm, mul-assoc, le-mul-of-pos-right, mul-le-mul, zero-add, div-one, div-zero, div-div-eq-div-mul, mul-div-cancel-left, mod-lt, mod-one}
+use lib.Dec.{eqb, ltb}
+use lib.ListN.{length, getD, take, drop, length-append}
+use lib.Seq.{take-all, take-at, drop-at, drop-drop, take-suc, drop-cons}
+use borrow.Author.Tests.{lt-ltb, le-ltb}
+use Rattle.meaning.specs.Tokens.{Mask, Token, Tokens, Lists, Byte, NotByte, MaskedByte, NotMaskedByte, Jump, Alternatives, nothing, _then_, neither, _or_}
+use Rattle.picking.specs.Literals.{taken}
+use Rattle.picking.specs.Numbers.{countOf, count, countIn, prefixIn, prefixOf, prefixed, pieceOf, ending, pieceIn, literalAt}
+use Rattle.picking.proofs.NumberLaws.{pos-right}
+use Rattle.spelling.specs.Words.{maskIn, entryToken, firstEntry, flatIn, ends, inside, listsIn, tokenIn, width, tokensIn}
+use Rattle.spelling.proofs.StepLaws.{flat-end, flat-step, lists-end, lists-step, tokens-end, tokens-step, by-entries}
+use Rattle.spelling.proofs.PlainLaws.{token-alternatives, token-entry}
+use Rattle.spelling.specs.Tallies.{Numerable}
+use Rattle.spelling.proofs.ClassLaws.{byte-taken}
+use Rattle.spelling.proofs.TallyLaws.{entry-cases, entry-count, flat-length, token-count-entry, token-count-inside}
+
+-- ---- lists
+
+module _ (ws : List ℕ) (h : 4 ≤ length ws) (p q : ℕ) where
+  pub prefix-here : q < p * count (flatIn (inside ws)) → prefixIn (listsIn ws) p q ≡ q / count (flatIn (inside ws))
+  unfolding prefixIn
+  prefix-here l = rw (lists-step ws h) (rw (lt-ltb q (p * count (flatIn (inside ws))) l))
+
+  pub prefix-later : p * count (flatIn (inside ws)) ≤ q → prefixIn (listsIn ws) p q ≡ prefixIn (listsIn (drop (ends ws) ws)) p (q - p * count (flatIn (inside ws)))
+  unfolding prefixIn
+  prefix-later l = rw (lists-step ws h) (rw (le-ltb q (p * count (flatIn (inside ws))) l))
+
+  pub piece-here : q < p * count (flatIn (inside ws)) → pieceIn (listsIn ws) p q ≡ literalAt (flatIn (inside ws)) (q % count (flatIn (inside ws)))
+  unfolding pieceIn
+  piece-here l = rw (lists-step ws h) (rw (lt-ltb q (p * count (flatIn (inside ws))) l))
+
+  pub piece-later : p * count (flatIn (inside ws)) ≤ q → pieceIn (listsIn ws) p q ≡ pieceIn (listsIn (drop (ends ws) ws)) p (q - p * count (flatIn (inside ws)))
+  unfolding pieceIn
+  piece-later l = rw (lists-step ws h) (rw (le-ltb q (p * count (flatIn (inside ws))) l))
+
+pub count-lists : (ws : List ℕ) → 4 ≤ length ws → countIn (listsIn ws) ≡ count (flatIn (inside ws)) + countIn (listsIn (drop (ends ws) ws))
+unfolding count
+count-lists ws h = rw (lists-step ws h)
+
+pub prefix-end : (ws : List ℕ) → length ws < 4 → (p q : ℕ) → prefixIn (listsIn ws) p q ≡ 0
+unfolding prefixIn
+prefix-end ws h p q = rw (lists-end ws h)
+
+pub piece-end : (ws : List ℕ) → length ws < 4 → (p q : ℕ) → pieceIn (listsIn ws) p q ≡ []
+unfolding pieceIn
+piece-end ws h p q = rw (lists-end ws h)
+
+-- ---- an entry
+
+entry-prefix : (k v m : ℕ) (p q : ℕ) → prefixOf (entryToken k v m) p q ≡ q / countOf (entryToken k v m)
+unfolding prefixOf
+entry-prefix =
+    entry-cases (λ t. (p q : ℕ) → prefixOf t p q ≡ q / countOf t) (λ v p q. refl) (λ v p q. refl) (λ v m p q. refl) (λ v m p q. refl) (λ p q. refl)
+
+entry-piece : (k v m : ℕ) (p q : ℕ) → pieceOf (entryToken k v m) p q ≡ getD (taken (entryToken k v m)) (q % countOf (entryToken k v m)) 0 ∷ []
+unfolding pieceOf
+entry-piece =
+    entry-cases (λ t. (p q : ℕ) → pieceOf t p q ≡ getD (taken t) (q % countOf t) 0 ∷ []) (λ v p q. refl) (λ v p q. refl) (λ v m p q. refl) (λ v m p q. refl) (λ p q. refl)
+
+-- ---- lists without alternatives
+
+pub flat-prefixed : (ws : List ℕ) (p k : ℕ) → prefixed (flatIn ws) p k ≡ k / count (flatIn ws)
+unfolding prefixed count
+flat-prefixed =
+    by-entries (λ ws. (p k : ℕ) → prefixed (flatIn ws) p k ≡ k / count (flatIn ws)) (λ ws h p k. rw (flat-end ws h) (sym (div-one k)))
+    (λ ws h e p k. rw (flat-step ws h) (step (getD ws 0 0) (getD ws 1 0) (getD ws 2 0) (flatIn (drop 4 ws)) e p k))
+  where
+    step : (a b c : ℕ) (ts : Tokens) → ((p k : ℕ) → prefixed ts p k ≡ k / count ts) → (p k : ℕ)
+        → prefixOf (entryToken a b c) p (prefixed ts (p * countOf (entryToken a b c)) k) ≡ k / (countOf (entryToken a b c) * count ts)
+    step a b c ts e p k =
+        entry-prefix a b c p (prefixed ts (p * countOf (entryToken a b c)) k) ∙ ap (λ (x : ℕ). x / countOf (entryToken a b c)) (e (p * countOf (entryToken a b c)) k)
+        ∙ div-div-eq-div-mul k (count ts) (countOf (entryToken a b c)) ∙ ap (λ (x : ℕ). k / x) (mul-comm (count ts) (countOf (entryToken a b c)))
+
+-- what is written of a list
+pub flat-ending-end : (ws : List ℕ) (p k : ℕ) → length ws < 4 → ending (flatIn ws) p k ≡ []
+unfolding ending
+flat-ending-end ws p k h = rw (flat-end ws h)
+
+pub flat-ending-step : (ws : List ℕ) (p k : ℕ) → 4 ≤ length ws
+    → ending (flatIn ws) p k ≡ getD (taken (firstEntry ws)) (k / count (flatIn (drop 4 ws)) % countOf (firstEntry ws)) 0 ∷ ending (flatIn (drop 4 ws)) (p * countOf (firstEntry ws)) k
+unfolding ending
+flat-ending-step ws p k h =
+    rw (flat-step ws h)
+    (ap (λ (l : List ℕ). l ++ ending (flatIn (drop 4 ws)) (p * countOf (firstEntry ws)) k)
+    (entry-piece (getD ws 0 0) (getD ws 1 0) (getD ws 2 0) p (prefixed (flatIn (drop 4 ws)) (p * countOf (firstEntry ws)) k)
+    ∙ ap (λ (x : ℕ). getD (taken (firstEntry ws)) (x % countOf (firstEntry ws)) 0 ∷ []) (flat-prefixed (drop 4 ws) (p * countOf (firstEntry ws)) k)))
+
+-- the prefixes before a list are no matter
+pub flat-any : (ws : List ℕ) (p q k : ℕ) → ending (flatIn ws) p k ≡ ending (flatIn ws) q k
+flat-any =
+    by-entries (λ ws. (p q k : ℕ) → ending (flatIn ws) p k ≡ ending (flatIn ws) q k) (λ ws h p q k. flat-ending-end ws p k h ∙ sym (flat-ending-end ws q k h))
+    (λ ws h e p q k.
+    flat-ending-step ws p k h
+    ∙ ap (λ (l : List ℕ). getD (taken (firstEntry ws)) (k / count (flatIn (drop 4 ws)) % countOf (firstEntry ws)) 0 ∷ l) (e (p * countOf (firstEntry ws)) (q * countOf (firstEntry ws)) k)
+    ∙ sym (flat-ending-step ws q k h))
+
+pub flat-more : (ws : List ℕ) (k : ℕ) → 4 ≤ length ws
+    → literalAt (flatIn ws) k ≡ getD (taken (firstEntry ws)) (k / count (flatIn (drop 4 ws)) % countOf (firstEntry ws)) 0 ∷ literalAt (flatIn (drop 4 ws)) k
+flat-more ws k h =
+    flat-ending-step ws 1 k h
+    ∙ ap (λ (l : List ℕ). getD (taken (firstEntry ws)) (k / count (flatIn (drop 4 ws)) % countOf (firstEntry ws)) 0 ∷ l) (flat-any (drop 4 ws) (1 * countOf (firstEntry ws)) 1 k)
+
+pub flat-count : (ws : List ℕ) → 4 ≤ length ws → count (flatIn ws) ≡ countOf (firstEntry ws) * count (flatIn (drop 4 ws))
+unfolding count
+flat-count ws h = rw (flat-step ws h)
+
+-- ---- tokens
+
+pub prefix-inside : (ws : List ℕ) → getD ws 0 0 ≡ 5 → (p q : ℕ) → prefixOf (tokenIn ws) p q ≡ prefixIn (listsIn (inside ws)) p q
+unfolding prefixOf
+prefix-inside ws e p q = ap (λ (t : Token). prefixOf t p q) (token-alternatives ws e)
+
+pub piece-inside : (ws : List ℕ) → getD ws 0 0 ≡ 5 → (p q : ℕ) → pieceOf (tokenIn ws) p q ≡ pieceIn (listsIn (inside ws)) p q
+unfolding pieceOf
+piece-inside ws e p q = ap (λ (t : Token). pieceOf t p q) (token-alternatives ws e)
+
+pub prefix-entry : (ws : List ℕ) → (getD ws 0 0 ≡ 5 → ⊥) → (p q : ℕ) → prefixOf (tokenIn ws) p q ≡ q / length (taken (firstEntry ws))
+prefix-entry ws f p q =
+    ap (λ (t : Token). prefixOf t p q) (token-entry ws f) ∙ entry-prefix (getD ws 0 0) (getD ws 1 0) (getD ws 2 0) p q
+    ∙ ap (λ (x : ℕ). q / x) (entry-count (getD ws 0 0) (getD ws 1 0) (getD ws 2 0))
+
+pub piece-entry : (ws : List ℕ) → (getD ws 0 0 ≡ 5 → ⊥) → (p q : ℕ) → pieceOf (tokenIn ws) p q ≡ getD (taken (firstEntry ws)) (q % length (taken (firstEntry ws))) 0 ∷ []
+piece-entry ws f p q =
+    ap (λ (t : Token). pieceOf t p q) (token-entry ws f) ∙ entry-piece (getD ws 0 0) (getD ws 1 0) (getD ws 2 0) p q
+    ∙ ap (λ (x : ℕ). getD (taken (firstEntry ws)) (q % x) 0 ∷ []) (entry-count (getD ws 0 0) (getD ws 1 0) (getD ws 2 0))
+
+pub prefixed-end : (ws : List ℕ) → length ws < 4 → (p k : ℕ) → prefixed (tokensIn ws) p k ≡ k
+unfolding prefixed
+prefixed-end ws h p k = rw (tokens-end ws h)
+
+pub prefixed-step : (ws : List ℕ) → 4 ≤ length ws → (p k : ℕ)
+    → prefixed (tokensIn ws) p k ≡ prefixOf (tokenIn ws) p (prefixed (tokensIn (drop (width ws) ws)) (p * countOf (tokenIn ws)) k)
+unfolding prefixed
+prefixed-step ws h p k = rw (tokens-step ws h)
+
+pub ending-end : (ws : List ℕ) → length ws < 4 → (p k : ℕ) → ending (tokensIn ws) p k ≡ []
+unfolding ending
+ending-end ws h p k = rw (tokens-end ws h)
+
+pub ending-step : (ws : List ℕ) → 4 ≤ length ws → (p k : ℕ)
+    → ending (tokensIn ws) p k
+    ≡ pieceOf (tokenIn ws) p (prefixed (tokensIn (drop (width ws) ws)) (p * countOf (tokenIn ws)) k) ++ ending (tokensIn (drop (width ws) ws)) (p * countOf (tokenIn ws)) k
+unfolding ending
+ending-step ws h p k = rw (tokens-step ws h)
+
+pub tokens-count : (ws : List ℕ) → 4 ≤ length ws → count (tokensIn ws) ≡ countOf (tokenIn ws) * count (tokensIn (drop (width ws) ws))
+unfolding count
+tokens-count ws h = rw (tokens-step ws h)
+
+-- ---- numbers
+
+-- a factor of a product that is not 0 is at most the product
+pub factor-le : (a b n : ℕ) → a * b ≡ n → 0 < n → (0 < a) × (0 < b) × (a ≤ n) × (b ≤ n)
+factor-le a b n e h =
+    let z : 0 < b = pos-right 0 a b (omega arith) in
+    let y : 0 < a = pos-right 0 b a (let c = mul-comm b a in omega arith) in
+    let l : a ≤ a * b = le-mul-of-pos-right a z in
+    let m : b ≤ b * a = le-mul-of-pos-right b y in
+    let c = mul-comm b a in
+    (y, z, omega arith, omega arith)
+
+pub cap-exact : (r c : ℕ) → r ≡ min 257 c → c ≤ 256 → r ≡ c
+cap-exact r c e l = omega arith
+
+-- ---- in the words of the code
+
+module _ (ws : List ℕ) (h : 4 ≤ length ws) (n e : ℕ) (ends-at : e ≡ ends ws) (counted : n ≡ min 257 (count (flatIn (take (e - 4) (drop 4 ws))))) (few : countIn (listsIn ws) ≤ 256) where
+  pub list-exact : n ≡ count (flatIn (inside ws))
+  list-exact =
+      let l : count (flatIn (inside ws)) ≤ 256 = omega (arith, count-lists ws h) in
+      let c : n ≡ min 257 (count (flatIn (inside ws))) = counted ∙ ap (λ (x : ℕ). min 257 (count (flatIn (take (x - 4) (drop 4 ws))))) ends-at in
+      omega arith
+
+  pub lists-few : countIn (listsIn (drop (ends ws) ws)) ≤ 256
+  lists-few = omega (arith, count-lists ws h)
+
+  pub prefix-found : (p q : ℕ) → q < p * n → prefixIn (listsIn ws) p q ≡ q / n
+  prefix-found p q l =
+      prefix-here ws h p q (subst (λ (x : ℕ). q < p * x) list-exact l) ∙ ap (λ (x : ℕ). q / x) (sym list-exact)
+
+  pub prefix-passed : (p q : ℕ) → p * n ≤ q → prefixIn (listsIn ws) p q ≡ prefixIn (listsIn (drop (ends ws) ws)) p (q - p * n)
+  prefix-passed p q l =
+      prefix-later ws h p q (subst (λ (x : ℕ). p * x ≤ q) list-exact l)
+      ∙ ap (λ (x : ℕ). prefixIn (listsIn (drop (ends ws) ws)) p (q - p * x)) (sym list-exact)
+
+  pub piece-found : (p q : ℕ) → q < p * n → pieceIn (listsIn ws) p q ≡ literalAt (flatIn (take (e - 4) (drop 4 ws))) (q % n)
+  piece-found p q l =
+      piece-here ws h p q (subst (λ (x : ℕ). q < p * x) list-exact l)
+      ∙ ap₂ (λ (x y : ℕ). literalAt (flatIn (take (x - 4) (drop 4 ws))) (q % y)) (sym ends-at) (sym list-exact)
+
+  pub piece-passed : (p q : ℕ) → p * n ≤ q → pieceIn (listsIn ws) p q ≡ pieceIn (listsIn (drop (ends ws) ws)) p (q - p * n)
+  piece-passed p q l =
+      piece-later ws h p q (subst (λ (x : ℕ). p * x ≤ q) list-exact l)
+      ∙ ap (λ (x : ℕ). pieceIn (listsIn (drop (ends ws) ws)) p (q - p * x)) (sym list-exact)
+
+  pub within-list : (p q : ℕ) → q < p * n → (q % n < count (flatIn (take (e - 4) (drop 4 ws)))) × (count (flatIn (take (e - 4) (drop 4 ws))) ≤ 256)
+  within-list p q l =
+      let z : 0 < n = pos-right q p n l in
+      let m : q % n < n = mod-lt q z in
+      let f : count (flatIn (take (e - 4) (drop 4 ws))) ≡ count (flatIn (inside ws)) = ap (λ (x : ℕ). count (flatIn (take (x - 4) (drop 4 ws)))) ends-at in
+      let g = list-exact in
+      let k : count (flatIn (inside ws)) ≤ 256 = omega (arith, count-lists ws h) in
+      (omega arith, omega arith)
+
+-- one byte of a list: c bytes are taken by the first entry, n literals are left
+module _ (ws : List ℕ) (h : 4 ≤ length ws) (c n : ℕ) (c-is : c ≡ length (taken (firstEntry ws))) (n-is : n ≡ count (flatIn ws)) (some : 0 < n) (few : n ≤ 256) where
+  product : c * count (flatIn (drop 4 ws)) ≡ n
+  product =
+      ap (λ (x : ℕ). x * count (flatIn (drop 4 ws))) (c-is ∙ sym (entry-count (getD ws 0 0) (getD ws 1 0) (getD ws 2 0))) ∙ sym (flat-count ws h) ∙ sym n-is
+
+  pub c-some : 0 < c
+  c-some = factor-le c (count (flatIn (drop 4 ws))) n product some .0
+
+  pub rest-some : 0 < count (flatIn (drop 4 ws))
+  rest-some = factor-le c (count (flatIn (drop 4 ws))) n product some .1
+
+  pub rest-few : count (flatIn (drop 4 ws)) ≤ 256
+  rest-few = let l = factor-le c (count (flatIn (drop 4 ws))) n product some .3 in omega arith
+
+  pub rest-is : n / c ≡ count (flatIn (drop 4 ws))
+  rest-is = ap (λ (x : ℕ). x / c) (sym product) ∙ mul-div-cancel-left (count (flatIn (drop 4 ws))) c-some
+
+  pub digit-fits : (k : ℕ) → k / (n / c) % c < length (taken (firstEntry ws))
+  digit-fits k = let l : k / (n / c) % c < c = mod-lt (k / (n / c)) c-some in omega arith
+
+  pub byte-first : (k : ℕ) → literalAt (flatIn ws) k ≡ getD (taken (firstEntry ws)) (k / (n / c) % c) 0 ∷ literalAt (flatIn (drop 4 ws)) k
+  byte-first k =
+      flat-more ws k h
+      ∙ ap₂ (λ (x y : ℕ). getD (taken (firstEntry ws)) (k / x % y) 0 ∷ literalAt (flatIn (drop 4 ws)) k) (sym rest-is)
+      (entry-count (getD ws 0 0) (getD ws 1 0) (getD ws 2 0) ∙ sym c-is)
+
+pub inside-few : (ws : List ℕ) → getD ws 0 0 ≡ 5 → countOf (tokenIn ws) ≤ 256 → (e : ℕ) → e ≡ ends ws → countIn (listsIn (take (e - 4) (drop 4 ws))) ≤ 256
+inside-few ws k l e g =
+    let a = token-count-inside ws k in
+    let b : countIn (listsIn (take (e - 4) (drop 4 ws))) ≡ countIn (listsIn (inside ws)) = ap (λ (x : ℕ). countIn (listsIn (take (x - 4) (drop 4 ws)))) g in
+    omega arith
+
+-- at a token: p prefixes before it, and c literals of its own
+module _ (ws : List ℕ) (h : 4 ≤ length ws) (p : ℕ) (num : Numerable p (count (tokensIn ws))) (c : ℕ) (c-is : c ≡ min 257 (countOf (tokenIn ws))) where
+  token-product : p * (countOf (tokenIn ws) * count (tokensIn (drop (width ws) ws))) ≡ p * count (tokensIn ws)
+  token-product = ap (λ (x : ℕ). p * x) (sym (tokens-count ws h))
+
+  token-bounds : (p ≤ 256) × (countOf (tokenIn ws) ≤ 256)
+  token-bounds =
+      let R = count (tokensIn (drop (width ws) ws)) in
+      let f = factor-le p (countOf (tokenIn ws) * R) (p * count (tokensIn ws)) token-product (num .some) in
+      let g = factor-le (countOf (tokenIn ws)) R (countOf (tokenIn ws) * R) refl (f .1) in
+      let a : p ≤ p * count (tokensIn ws) = f .2 in
+      let b : countOf (tokenIn ws) * R ≤ p * count (tokensIn ws) = f .3 in
+      let d : countOf (tokenIn ws) ≤ countOf (tokenIn ws) * R = g .2 in
+      let n : p * count (tokensIn ws) ≤ 256 = num .few in
+      (omega arith, omega arith)
+
+  pub prefixes-few : p ≤ 256
+  prefixes-few = token-bounds .0
+
+  pub token-few : countOf (tokenIn ws) ≤ 256
+  token-few = token-bounds .1
+
+  pub token-exact : c ≡ countOf (tokenIn ws)
+  token-exact = let l = token-bounds .1 in omega arith
+
+  after-product : p * c * count (tokensIn (drop (width ws) ws)) ≡ p * count (tokensIn ws)
+  after-product =
+      ap (λ (x : ℕ). p * x * count (tokensIn (drop (width ws) ws))) token-exact ∙ mul-assoc p (countOf (tokenIn ws)) (count (tokensIn (drop (width ws) ws))) ∙ token-product
+
+  pub after-numerable : Numerable (p * c) (count (tokensIn (drop (width ws) ws)))
+  after-numerable =
+      record {
+        some = subst (λ (x : ℕ). 0 < x) (sym after-product) (num .some);
+        few = subst (λ (x : ℕ). x ≤ 256) (sym after-product) (num .few);
+      }
+
+  pub c-le : c ≤ 257
+  c-le = omega arith
+
+-- a byte is the same for every number
+pub byte-any : (ws : List ℕ) → getD ws 0 0 ≡ 0 → (p q r : ℕ) → pieceOf (tokenIn ws) p q ≡ pieceOf (tokenIn ws) p r
+byte-any ws e p q r =
+    let f : getD ws 0 0 ≡ 5 → ⊥ = λ g. omega arith in
+    let one : length (taken (firstEntry ws)) ≡ 1 = ap length (byte-taken (getD ws 0 0) (getD ws 1 0) (getD ws 2 0) e) in
+    let a : (x : ℕ) → x % length (taken (firstEntry ws)) ≡ 0 = λ x. ap (λ (n : ℕ). x % n) one ∙ mod-one x in
+    piece-entry ws f p q ∙ ap (λ (x : ℕ). getD (taken (firstEntry ws)) x 0 ∷ []) (a q ∙ sym (a r)) ∙ sym (piece-entry ws f p r)
+
+pub token-some : (ws : List ℕ) → 4 ≤ length ws → (p : ℕ) → Numerable p (count (tokensIn ws)) → 0 < countOf (tokenIn ws)
+token-some ws h p num =
+    let R = count (tokensIn (drop (width ws) ws)) in
+    let e : p * (countOf (tokenIn ws) * R) ≡ p * count (tokensIn ws) = ap (λ (x : ℕ). p * x) (sym (tokens-count ws h)) in
+    let f = factor-le p (countOf (tokenIn ws) * R) (p * count (tokensIn ws)) e (num .some) in
+    factor-le (countOf (tokenIn ws)) R (countOf (tokenIn ws) * R) refl (f .1) .0
+
+pub entry-some : (ws : List ℕ) → (getD ws 0 0 ≡ 5 → ⊥) → (n : ℕ) → n ≡ length (taken (firstEntry ws)) → 0 < countOf (tokenIn ws) → 0 < n
+entry-some ws f n e h = let a = token-count-entry ws f in omega arith
+
+pub one-numerable : (n k : ℕ) → k < n → n ≤ 256 → Numerable 1 n
+one-numerable n k h l = let e : 1 * n ≡ n = one-mul n in record { some = (omega arith); few = (omega arith) }
+
+-- a piece of one byte
+pub entry-room : (ws : List ℕ) → (getD ws 0 0 ≡ 5 → ⊥) → (p q room : ℕ) → length (pieceOf (tokenIn ws) p q) ≤ room → 0 < room
+entry-room ws f p q room l = let e : length (pieceOf (tokenIn ws) p q) ≡ 1 = ap length (piece-entry ws f p q) in omega arith
+
+pub number-fits : (ws : List ℕ) (q n : ℕ) → n ≡ length (taken (firstEntry ws)) → 0 < n → q % n < length (taken (firstEntry ws))
+number-fits ws q n e z = let l : q % n < n = mod-lt q z in omega arith
+
+pub piece-is-byte : (ws : List ℕ) → (getD ws 0 0 ≡ 5 → ⊥) → (p q n b : ℕ) → n ≡ length (taken (firstEntry ws)) → b ≡ getD (taken (firstEntry ws)) (q % n) 0 → pieceOf (tokenIn ws) p q ≡ b ∷ []
+piece-is-byte ws f p q n b e g = piece-entry ws f p q ∙ ap (λ (x : ℕ). getD (taken (firstEntry ws)) (q % x) 0 ∷ []) (sym e) ∙ ap (λ (x : ℕ). x ∷ []) (sym g)
