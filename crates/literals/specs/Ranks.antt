@@ -1,9 +1,21 @@
 -- The cases of the picker's answers, in the words of the definitions. Assumes nothing: these are definitions.
-use Rattle.picking.specs.Choice.{Ranked, ranked, skipped, excessive}
+use mathlib.Core.List.{List}
+use Prim.Native.Nat.{ℕ, _-_}
+use lib.ListN.{take, drop}
+use Rattle.picking.specs.Choice.{Ranked, ranked, skipped, excessive, Choice, unranked, chosen, tooMany}
+use Rattle.spelling.specs.Words.{tokensIn}
 use Rattle.literals.specs.declared.Rank.{Rank}
 use Rattle.literals.specs.declared.Rank.the-variants.{Of, Skipped, TooMany}
+use Rattle.literals.specs.declared.Pick.{Pick}
+use Rattle.literals.specs.declared.Pick.the-variants.{Nothing, Taken, TooMany as Overfull}
 
 abbrev pub rankSays : Rank → Ranked
 rankSays (Of n) = ranked n
 rankSays Skipped = skipped
 rankSays TooMany = excessive
+
+-- a choice of words from one place of a run to another
+abbrev pub choiceSays : List ℕ → Pick → Choice
+choiceSays run Nothing = unranked
+choiceSays run (Taken from to n) = chosen n (tokensIn (take (to - from) (drop from run)))
+choiceSays run Overfull = tooMany

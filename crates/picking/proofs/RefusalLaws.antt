@@ -59,7 +59,7 @@ unfolding best
 best-not [] c h = inl h
 best-not (s ∷ ss) c h =
     ⊎-elim (λ (e : against c s (rankOf s) ≡ tooMany).
-        ⊎-elim (λ (f : c ≡ tooMany). inl f) (λ (f : rankOf s ≡ excessive). inr (s, List·Memᴰ·head refl, f)) (against-not c s (rankOf s) e))
+    ⊎-elim (λ (f : c ≡ tooMany). inl f) (λ (f : rankOf s ≡ excessive). inr (s, List·Memᴰ·head refl, f)) (against-not c s (rankOf s) e))
     (λ (x : Excess ss). inr (x .0, List·Memᴰ·tail (x .1), x .2)) (best-not ss (against c s (rankOf s)) h)
 
 best-excess : (ss : List Slice) (c : Choice) → Excess ss → best c ss ≡ tooMany
@@ -117,7 +117,7 @@ unfolding among
 among-not [] c h = inl h
 among-not (r ∷ rs) c h =
     ⊎-elim (λ (e : between c (inRun r) ≡ tooMany).
-        ⊎-elim (λ (f : c ≡ tooMany). inl f) (λ (f : inRun r ≡ tooMany). inr (r, List·Memᴰ·head refl, run-not r f)) (between-not c (inRun r) e))
+    ⊎-elim (λ (f : c ≡ tooMany). inl f) (λ (f : inRun r ≡ tooMany). inr (r, List·Memᴰ·head refl, run-not r f)) (between-not c (inRun r) e))
     (λ (x : Some rs). inr (x .0, List·Memᴰ·tail (x .1), x .2)) (among-not rs (between c (inRun r)) h)
 
 among-some : (rs : List Tokens) (c : Choice) → Some rs → among c rs ≡ tooMany
@@ -130,9 +130,10 @@ among-some (r ∷ rs) c x =
 -- 17: in some run no literal part wins alone and a slice that is not skipped has more than 256 literals, whether or not it would win
 pub too-many-is : (ts : Tokens) → (choice ts ≡ tooMany) ↔ Some (runs ts)
 unfolding choice
-too-many-is ts =
-    (λ h. ⊎-elim (λ (e : unranked ≡ tooMany). absurd (let z : _≡_ {A = ℕ} 0 1 = cc in omega arith)) (λ (x : Some (runs ts)). x) (among-not (runs ts) unranked h),
-    λ x. among-some (runs ts) unranked x)
+too-many-is ts = (
+  λ h. ⊎-elim (λ (e : unranked ≡ tooMany). absurd (let z : _≡_ {A = ℕ} 0 1 = cc in omega arith)) (λ (x : Some (runs ts)). x) (among-not (runs ts) unranked h),
+  λ x. among-some (runs ts) unranked x,
+)
 
 -- 19 comes first, and is given exactly where some alternatives are not plain
 pub not-plain-is : (ts : Tokens) → (pick ts ≡ unpicked NotPlain) ↔ (plain ts ≡ false)
@@ -143,6 +144,7 @@ not-plain-is ts = (to (plain ts) refl, λ e. rw e)
     taken-not unranked h = let z : _≡_ {A = ℕ} 0 1 = cc in omega arith
     taken-not (chosen n us) h = let z : _≡_ {A = ℕ} 0 1 = cc in omega arith
     taken-not tooMany h = let z : _≡_ {A = ℕ} 0 1 = cc in omega arith
+
     to : (b : Bool) → plain ts ≡ b → pick ts ≡ unpicked NotPlain → plain ts ≡ false
     to true e h = absurd (taken-not (choice ts) (sym (ap (λ (x : Bool). cond x (taking (choice ts)) (unpicked NotPlain)) e) ∙ h))
     to false e h = e
@@ -159,6 +161,7 @@ too-many-only ts h = go (plain ts) refl
     some-of unranked e g = absurd (let z : _≡_ {A = ℕ} 0 1 = cc in omega arith)
     some-of (chosen n us) e g = absurd (let z : _≡_ {A = ℕ} 0 1 = cc in omega arith)
     some-of tooMany e g = too-many-is ts .0 e
+
     go : (b : Bool) → plain ts ≡ b → (plain ts ≡ true) × Some (runs ts)
     go true e = (e, some-of (choice ts) refl (sym (ap (λ (x : Bool). cond x (taking (choice ts)) (unpicked NotPlain)) e) ∙ h))
     go false e = absurd (let g : unpicked NotPlain ≡ unpicked TooManyLiterals = sym (ap (λ (x : Bool). cond x (taking (choice ts)) (unpicked NotPlain)) e) ∙ h in let z : _≡_ {A = ℕ} 0 1 = cc in omega arith)

@@ -34,7 +34,7 @@ other-plain v w m = go (eqb m 0) (eqb m 1)
     go false true = refl
     go false false = refl
 
-value-plain : (k v w m : ℕ) → isPlain (entryToken k v m) ≡ isPlain (entryToken k w m)
+pub value-plain : (k v w m : ℕ) → isPlain (entryToken k v m) ≡ isPlain (entryToken k w m)
 unfolding entryToken isPlain
 value-plain k v w m = go (eqb k 0) (eqb k 1) (eqb k 2) (eqb k 3)
   where

@@ -13,7 +13,7 @@ use Rattle.spelling.specs.Words.{firstEntry, walk, flatIn, ends, inside,
 
 -- ---- the bound on the depth of calls does not matter
 
-walk-end : {A : Type 0} (stop : A) (make : List ℕ → A → A) (step : List ℕ → ℕ) (n : ℕ) (ws : List ℕ) → length ws < 4 → walk stop make step n ws ≡ stop
+pub walk-end : {A : Type 0} (stop : A) (make : List ℕ → A → A) (step : List ℕ → ℕ) (n : ℕ) (ws : List ℕ) → length ws < 4 → walk stop make step n ws ≡ stop
 unfolding walk
 walk-end stop make step zero ws h = refl
 walk-end stop make step (suc n) ws h = rw (lt-ltb (length ws) 4 h)
@@ -39,7 +39,7 @@ module _ {A : Type 0} (stop : A) (make : List ℕ → A → A) (step : List ℕ 
   walk-more n ws h l =
       rw (le-ltb (length ws) 4 h) (ap (make ws) (walk-same n (length (drop (step ws) ws)) (drop (step ws) ws) l (le-refl (length (drop (step ws) ws)))))
 
-  walk-step : (ws : List ℕ) → 4 ≤ length ws
+  pub walk-step : (ws : List ℕ) → 4 ≤ length ws
       → walk stop make step (length ws) ws ≡ make ws (walk stop make step (length (drop (step ws) ws)) (drop (step ws) ws))
   walk-step ws h =
       let l : length (drop (step ws) ws) ≤ length ws - 1 = (let s : 4 ≤ step ws = long ws h in omega (arith, length-drop (step ws) ws)) in

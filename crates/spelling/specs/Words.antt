@@ -1,5 +1,5 @@
 -- Token entries, four words each, taken for the tokens that they stand for. Total: what is no entry of a token is taken for a jump.
--- Assumes nothing: these are definitions; proofs/EntryLaws.antt shows that the entries of tokens are taken for those tokens.
+-- Assumes nothing: these are definitions; crate literals shows (EntryLaws) that the entries of tokens are taken for those tokens.
 use mathlib.Core.Bool.{Bool, false, cond, not}
 use mathlib.Core.Option.{none}
 use mathlib.Core.List.{List, [], _∷_}

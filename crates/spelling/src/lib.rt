@@ -107,7 +107,7 @@ pub fn taken_at(kind: u32, value: u32, mask: u32, j: usize) -> u8
     member_at(class_of(kind, value, mask), j)
 }
 
-fn plain_entry(kind: u32, mask: u32) -> bool
+pub fn plain_entry(kind: u32, mask: u32) -> bool
     ensures { λ r. ⌜ r ≡ isPlain (entryToken kind 0 mask) ⌝ }
 {
     match kind {
