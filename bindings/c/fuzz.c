@@ -165,22 +165,6 @@ static void compiling(const uint8_t *t, size_t n, uint32_t *program, size_t *wor
     back(b, "tm_compile: guard");
 }
 
-static void picking(const uint8_t *t, size_t n)
-{
-    guarded bytes = lend(below(4) ? 131072 : below(600)), lengths = lend(2 * (below(4) ? 256 : below(40)));
-    tm_literals_result r = tm_literals(t, n, bytes.lent, bytes.n, (uint16_t *)lengths.lent, lengths.n / 2);
-    answered(r.refusal, "tm_literals", TEXT | 1u << 17 | 1u << 18 | 1u << 19);
-    size_t total = 0;
-    for (size_t i = 0; r.refusal == 0 && i < r.count; i++)
-        total += ((uint16_t *)lengths.lent)[i];
-    same(bytes, r.refusal == 0 ? total : 0, "tm_literals: bytes changed");
-    same(lengths, r.refusal == 0 ? 2 * r.count : 0, "tm_literals: lengths changed");
-    if (r.refusal == 0 && (r.rank > 80 || r.count > 256 || total > bytes.n))
-        fault("tm_literals: bounds");
-    back(bytes, "tm_literals: guard");
-    back(lengths, "tm_literals: guard");
-}
-
 static void checking(const uint32_t *program, size_t words)
 {
     guarded hay = lend(below(64));
@@ -230,7 +214,6 @@ int main(int argc, char **argv)
         size_t n = text(t);
         reading(t, n);
         compiling(t, n, program, &words);
-        picking(t, n);
         checking(program, words);
         mirroring(program, words);
         /* a damaged program, and now and then one that is too long */

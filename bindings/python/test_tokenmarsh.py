@@ -17,7 +17,7 @@ class Doors(unittest.TestCase):
             (b"{ AB [0] CD }", 4, 5), (b"{ [5] AB }", 6, 2), (b"{ AB (CD [201] EF) }", 8, 9), (b"{ ~?? }", 9, 2), (b"{ ??? }", 2, 4),
             (b"{ AB [2-3] [x }", 6, 2), (b"{ AB [x }", 2, 5), (b"{ (AB|) }", 2, 5), (b"{ AB [4294967296] CD }", 3, 6), (b"", 2, 0), (b"{" * 4097, 1, 0),
         ):
-            for door in (tokenmarsh.read, tokenmarsh.compile, tokenmarsh.literals):
+            for door in (tokenmarsh.read, tokenmarsh.compile):
                 self.refused(lambda: door(text), number, place)
 
     def test_tokens_are_nested(self):
@@ -39,10 +39,6 @@ class Doors(unittest.TestCase):
         self.assertEqual(friend.forward.mirror().start(b"ba"), 1)
         self.assertEqual(bytes(tokenmarsh.compile(b"{ 61 }").forward.tail(b"abc")), b"bc")
         self.refused(lambda: tokenmarsh.forward([], b"abc", 2, 1), Refusal.BAD_WINDOW)
-
-    def test_literals(self):
-        r = tokenmarsh.literals(b"{ 01 02 ?3 04 }")
-        self.assertEqual((r.rank, len(r.literals)), (70, 16))
 
     def test_examples(self):
         self.assertEqual(doctest.testmod(tokenmarsh).failed, 0)

@@ -34,9 +34,9 @@ pub fn rooms() -> bool {
 
 #[allow(dead_code, unused_imports, unused_mut)]
 mod doors {
-    use crate::raw::{
-        self, CheckResult, tm_compile, tm_forward, tm_literals, tm_mirror, tm_read, tm_reverse,
-    };
+    #[cfg(tm_literals)]
+    use crate::raw::tm_literals;
+    use crate::raw::{self, CheckResult, tm_compile, tm_forward, tm_mirror, tm_read, tm_reverse};
     use crate::sides::{Answer, Compiled, Found, Picked, Read, Refusal, Window};
 
     const FILL: u32 = 0xA5A5_A5A5;

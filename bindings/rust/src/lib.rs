@@ -18,14 +18,12 @@
 #![warn(missing_docs, clippy::pedantic)]
 #![allow(clippy::cast_possible_truncation)]
 
-mod literals;
 mod program;
 #[allow(missing_docs)]
 pub mod raw;
 mod refusal;
 mod tokens;
 
-pub use literals::{literals, Literals};
 pub use program::{Pattern, Program};
 pub use refusal::{Refusal, Refused};
 pub use tokens::{read, Mask, Token, Tokens};
