@@ -41,7 +41,7 @@ class Doors(unittest.TestCase):
         self.refused(lambda: tokenmarsh.forward([], b"abc", 2, 1), Refusal.BAD_WINDOW)
 
     def test_examples(self):
-        self.assertEqual(doctest.testmod(tokenmarsh).failed, 0)
+        self.assertEqual(doctest.testmod(tokenmarsh, verbose=False).failed, 0)
 
 
 if __name__ == "__main__":

@@ -111,7 +111,9 @@ impl fmt::Display for Refusal {
 /// A refusal and the offset in the text that it is given at (0 where none is meant).
 #[derive(Clone, Copy, Debug, PartialEq, Eq, Hash)]
 pub struct Refused {
+    /// Why.
     pub refusal: Refusal,
+    /// Where.
     pub place: usize,
 }
 

@@ -24,7 +24,12 @@ pub enum Token {
     /// `~?X`, `~X?`
     NotMaskedByte(u8, Mask),
     /// `[from-to]`, `[from-]`
-    Jump { from: u32, to: Option<u32> },
+    Jump {
+        /// The fewest bytes.
+        from: u32,
+        /// The most, if there is a bound.
+        to: Option<u32>,
+    },
     /// `( .. | .. )`
     Alternatives(Vec<Vec<Token>>),
 }
