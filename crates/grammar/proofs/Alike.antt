@@ -11,7 +11,7 @@ use Rattle.meaning.specs.Tokens.{Tokens}
 use Rattle.reading.specs.Blanks.{blank}
 use Rattle.reading.specs.Lists.{accepted, reading}
 use Rattle.reading.proofs.PieceLaws.{never, first-drop}
-use Rattle.grammar.specs.Spelling.{Blank, NoBlank, SpellsText, SpellsString}
+use Rattle.grammar.proofs.Spelling.{Blank, NoBlank, SpellsText, SpellsString}
 use Rattle.grammar.proofs.TextSpelled.{accepted-spelled}
 use Rattle.grammar.proofs.TextRead.{spelled-accepted}
 

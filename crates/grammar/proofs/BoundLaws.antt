@@ -9,7 +9,7 @@ use Rattle.meaning.specs.Tokens.{Token, Tokens, Byte, NotByte, MaskedByte, NotM
 use Rattle.meaning.specs.Entries.{tokenCount}
 use Rattle.reading.specs.Lists.{isJump, begins, endsIn, ends, atBound}
 use Rattle.reading.proofs.PieceLaws.{never}
-use Rattle.grammar.specs.Spelling.{NoJump, EndsWell, Bounded}
+use Rattle.grammar.proofs.Spelling.{NoJump, EndsWell, Bounded}
 use Rattle.grammar.proofs.DigitLaws.{and-false}
 
 no-jump : (tok : Token) → isJump tok ≡ false → NoJump tok

@@ -11,7 +11,7 @@ use lib.Dec.{leb}
 use lib.ListN.{length}
 use Rattle.reading.specs.Pieces.{within, digit, decimals, numeral}
 use Rattle.reading.proofs.PieceLaws.{never, within-true}
-use Rattle.grammar.specs.Spelling.{Digit, decimal, upper, lower, Decimals, value}
+use Rattle.grammar.proofs.Spelling.{Digit, decimal, upper, lower, Decimals, value}
 
 pub in-within : (a b c : ℕ) → a ≤ c → c ≤ b → within a b c ≡ true
 unfolding within

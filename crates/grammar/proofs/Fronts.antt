@@ -9,7 +9,7 @@ use native.Mathlib.Omega.{arith}
 use lib.ListN.{length, drop}
 use Rattle.meaning.specs.Tokens.{Mask, left, right, all, Token, Tokens, Byte, NotByte, MaskedByte, NotMaskedByte, Jump, Alternatives, nothing, _then_, _or_}
 use Rattle.reading.specs.Blanks.{here, skip}
-use Rattle.grammar.specs.Spelling.{Language, _⨾_, Blank, Blanks, NoBlank, Spaced, Sign, Marked, Digit, decimal, upper, lower, HexDigit, Whole, Masked, Decimals, Numeral, Number, From, To, Single, Dashed, Bracketed, Bounds, AsJump, SpellsToken, SpellsTokens, SpellsLists}
+use Rattle.grammar.proofs.Spelling.{Language, _⨾_, Blank, Blanks, NoBlank, Spaced, Sign, Marked, Digit, decimal, upper, lower, HexDigit, Whole, Masked, Decimals, Numeral, Number, From, To, Single, Dashed, Bracketed, Bounds, AsJump, SpellsToken, SpellsTokens, SpellsLists}
 use Rattle.grammar.proofs.Standing.{after, here-is, skips}
 
 -- a string that begins with a byte past the blanks

@@ -1,4 +1,5 @@
--- What is read is spelled, and what is spelled within the limits is read; and a text has one spelling.
+-- What is read is spelled, and what is spelled within the limits is read; a text has one spelling; and to be spelled is to be derived.
+pub mod Spelling
 pub mod Standing
 pub mod DigitLaws
 pub mod BoundLaws
@@ -11,3 +12,6 @@ pub mod ListsRead
 pub mod TextRead
 pub mod OneSpelling
 pub mod Alike
+pub mod RulesSpell
+pub mod SpellingDerived
+pub mod Derivable

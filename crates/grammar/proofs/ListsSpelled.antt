@@ -11,7 +11,8 @@ use Rattle.meaning.specs.Tokens.{Token, Tokens, Lists, Byte, NotByte, MaskedByt
 use Rattle.reading.specs.Blanks.{here, skip}
 use Rattle.reading.specs.Pieces.{Seen, found, absent, refused, plainAt}
 use Rattle.reading.specs.Lists.{Parsed, read, missing, stopped, tokenOr, asToken, bracketed, before, thenMore, atBound, listOf, beside, thenLists, tokenF, moreF, listF, listsF}
-use Rattle.grammar.specs.Spelling.{Language, _⨾_, Marked, SpellsToken, SpellsTokens, SpellsLists, SpellsRest, SpellsList, depthIn, depth, depths, totalIn, total, totals}
+use Rattle.grammar.specs.Grammar.{totalIn, total, totals}
+use Rattle.grammar.proofs.Spelling.{Language, _⨾_, Marked, SpellsToken, SpellsTokens, SpellsLists, SpellsRest, SpellsList, depthIn, depth, depths}
 use Rattle.grammar.proofs.Standing.{Stands, seq, change, mark-stands}
 use Rattle.grammar.proofs.PiecesSpelled.{Sound, Plain, SpellsPlain, plain-sound, nothing-stands}
 use Rattle.grammar.proofs.BoundLaws.{bounded}

@@ -9,7 +9,7 @@ use lib.ListN.{length, drop}
 use Rattle.meaning.specs.Tokens.{Token, Tokens, Lists, Byte, NotByte, MaskedByte, NotMaskedByte, Jump, Alternatives, nothing, _then_, neither, _or_}
 use Rattle.reading.specs.Blanks.{here, skip}
 use Rattle.reading.proofs.PieceLaws.{never}
-use Rattle.grammar.specs.Spelling.{_⨾_, NoBlank, Marked, SpellsToken, SpellsTokens, SpellsLists, SpellsRest, SpellsString, SpellsText}
+use Rattle.grammar.proofs.Spelling.{_⨾_, NoBlank, Marked, SpellsToken, SpellsTokens, SpellsLists, SpellsRest, SpellsString, SpellsText}
 use Rattle.grammar.proofs.Standing.{cut, here-is}
 use Rattle.grammar.proofs.Fronts.{opens-clear, cons-clear, tokens-clear, marked-form, mark-seen}
 use Rattle.grammar.proofs.PiecesSpelled.{Plain}

@@ -13,7 +13,7 @@ use Rattle.meaning.specs.Tokens.{Mask, left, right, all, Token, Byte, NotByte, 
 use Rattle.reading.specs.Blanks.{here, skip}
 use Rattle.reading.specs.Pieces.{found, absent, _else_, within, digit, Hex, whole, masked, hexAt, plainly, negated, decimals, numeral, numberAt, between, checked, closedAt, upperAt, dashAt, lowerAt, rangeAt, jumpToken, jumped, plainAt}
 use Rattle.reading.proofs.PieceSteps.{byte-none, byte-half, byte-both, masked-all, masked-left, masked-right, masked-no-right, hex-byte, hex-masked, not-else, not-hex, number-absent, number-found, checked-open, checked-both, closed-at, dash-at, range-else, range-at, lower-closed, lower-dash, jumped-open, jumped-found}
-use Rattle.grammar.specs.Spelling.{_⨾_, Blank, Blanks, NoBlank, Spaced, Sign, Marked, HexDigit, Whole, Masked, Decimals, value, Numeral, Number, From, To, Single, Dashed, Bracketed, Ordered, Bounds, Allowed, NotOne, AsJump, Negatable, SpellsToken}
+use Rattle.grammar.proofs.Spelling.{_⨾_, Blank, Blanks, NoBlank, Spaced, Sign, Marked, HexDigit, Whole, Masked, Decimals, value, Numeral, Number, From, To, Single, Dashed, Bracketed, Ordered, Bounds, Allowed, NotOne, AsJump, Negatable, SpellsToken}
 use Rattle.grammar.proofs.Standing.{after, cut, here-is, skips}
 use Rattle.grammar.proofs.DigitLaws.{digit-complete, digits-count, digits-value, in-within, below-within, and-false}
 use Rattle.grammar.proofs.Fronts.{digit-range, two-form, two-seen, mark-seen, marked-form, number-opens, mark-opens, opens-clear, opens-seq, cons-clear, from-clear, to-clear, OpensLow, whole-low, masked-low}

@@ -14,7 +14,7 @@ use Rattle.meaning.specs.Tokens.{left, right, all, Token, Byte, NotByte, Masked
 use Rattle.reading.specs.Blanks.{here, skip}
 use Rattle.reading.specs.Pieces.{Seen, found, absent, refused, upTo, _else_, within, digit, Hex, whole, masked, twoDigits, byteAt, oneDigit, maskedAt, hexAt, plainly, negated, notAt, decimals, numeral, numberAt, Range, between, checked, closedAt, upperAt, dashAt, lowerAt, rangeAt, jumpToken, jumped, plainAt}
 use Rattle.reading.proofs.PieceLaws.{within-true}
-use Rattle.grammar.specs.Spelling.{Language, _⨾_, Spaced, Sign, Marked, HexDigit, Whole, Masked, value, Numeral, Number, From, To, Single, Dashed, Bracketed, Ordered, Bounds, Allowed, NotOne, AsJump, Negatable, SpellsToken}
+use Rattle.grammar.proofs.Spelling.{Language, _⨾_, Spaced, Sign, Marked, HexDigit, Whole, Masked, value, Numeral, Number, From, To, Single, Dashed, Bracketed, Ordered, Bounds, Allowed, NotOne, AsJump, Negatable, SpellsToken}
 use Rattle.grammar.proofs.Standing.{Stands, stands, seq, change, here-cons, sign-stands, spaced-stands, mark-stands}
 use Rattle.grammar.proofs.DigitLaws.{digit-sound, digits-split}
 

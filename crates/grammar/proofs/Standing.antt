@@ -11,7 +11,7 @@ use lib.ListN.{length, drop, getD, length-append}
 use lib.Seq.{drop-cons, drop-drop, drop-append-seam}
 use Rattle.reading.specs.Blanks.{here, blank, blanks, skip}
 use Rattle.reading.proofs.PieceLaws.{never, here-at, first-drop}
-use Rattle.grammar.specs.Spelling.{Language, _⨾_, Blank, Blanks, NoBlank, Spaced, Sign, Marked}
+use Rattle.grammar.proofs.Spelling.{Language, _⨾_, Blank, Blanks, NoBlank, Spaced, Sign, Marked}
 
 -- at `at` stands a string of P, and it ends at e
 pub record Stands (P : Language) (t : List ℕ) (at e : ℕ) : Type 0 where

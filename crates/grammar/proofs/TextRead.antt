@@ -11,7 +11,8 @@ use Rattle.reading.specs.Blanks.{here, skip}
 use Rattle.reading.specs.Lists.{read, list, Outcome, accepted, rejected, closing, reading}
 use Rattle.base.specs.declared.Refusal.{Refusal}
 use Rattle.reading.proofs.PieceLaws.{never}
-use Rattle.grammar.specs.Spelling.{_⨾_, NoBlank, SpellsString, SpellsText, Spelled, depth, total}
+use Rattle.grammar.specs.Grammar.{total}
+use Rattle.grammar.proofs.Spelling.{_⨾_, NoBlank, SpellsString, SpellsText, Spelled, depth}
 use Rattle.grammar.proofs.Standing.{cut}
 use Rattle.grammar.proofs.Fronts.{marked-form, mark-seen}
 use Rattle.grammar.proofs.TextSpelled.{accepted-spelled}

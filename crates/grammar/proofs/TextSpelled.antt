@@ -11,7 +11,8 @@ use Rattle.base.specs.declared.Refusal.the-variants.{Unexpected, TextTooLong}
 use Rattle.meaning.specs.Tokens.{Tokens}
 use Rattle.reading.specs.Blanks.{here, skip}
 use Rattle.reading.specs.Lists.{Parsed, read, missing, stopped, list, enough, Outcome, accepted, rejected, closing, reading}
-use Rattle.grammar.specs.Spelling.{Marked, SpellsString, SpellsText, Spelled, total}
+use Rattle.grammar.specs.Grammar.{total}
+use Rattle.grammar.proofs.Spelling.{Marked, SpellsString, SpellsText, Spelled}
 use Rattle.grammar.proofs.Standing.{Stands, seq, skip-clear, mark-stands}
 use Rattle.grammar.proofs.ListsSpelled.{Right, ListRight, list-right-all}
 

@@ -1,2 +1,2 @@
--- 01's 'Reading the text' as a grammar: which byte strings spell which tokens.
-pub mod Spelling
+-- 01's 'Reading the text' as a grammar: which texts are patterns, and which tokens they mean.
+pub mod Grammar

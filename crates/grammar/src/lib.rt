@@ -1,1 +1,1 @@
-// How a text is spelled. It holds no function: the grammar stands in specs/, and proofs/ shows that reading follows it.
+// Which texts are patterns. It holds no function: the grammar stands in specs/, and proofs/ shows that reading follows it.

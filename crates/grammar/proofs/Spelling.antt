@@ -1,5 +1,5 @@
--- How a hexadecimal string is spelled: 01's 'Reading the text' as a grammar over byte strings, with no offset, no fuel and no order of
--- trial. Assumes nothing: these are definitions.
+-- The grammar once more, as predicates on strings by recursion on the tokens: a tool, which the proofs about the reader take apart by its
+-- parts. RulesSpell and SpellingDerived say that it is specs/Grammar.antt. Assumes nothing: these are definitions.
 use mathlib.Core.Path.{_≡_}
 use mathlib.Core.Bool.{Bool, true, false}
 use mathlib.Core.Logic.{_⊎_}
@@ -7,6 +7,7 @@ use mathlib.Core.Option.{Option, none, some}
 use mathlib.Core.List.{List, [], _∷_, _++_}
 use Prim.Native.Nat.{ℕ, suc, _+_, _-_, _*_, _^_, _≤_, _<_, max}
 use lib.ListN.{length}
+use Rattle.grammar.specs.Grammar.{total}
 use Rattle.meaning.specs.Tokens.{Mask, left, right, all, Token, Tokens, Lists, Byte, NotByte, MaskedByte, NotMaskedByte, Jump, Alternatives, nothing, _then_, neither, _or_}
 
 -- some of the byte strings
@@ -208,24 +209,6 @@ unfoldable mutual
   pub depths : Lists → ℕ
   depths neither = 0
   depths (ts or ls) = max (depth ts) (depths ls)
-
--- all tokens: alternatives count themselves and what is inside
-unfoldable mutual
-  pub totalIn : Token → ℕ
-  totalIn (Byte v) = 1
-  totalIn (NotByte v) = 1
-  totalIn (MaskedByte v m) = 1
-  totalIn (NotMaskedByte v m) = 1
-  totalIn (Jump from to) = 1
-  totalIn (Alternatives ls) = suc (totals ls)
-
-  pub total : Tokens → ℕ
-  total nothing = 0
-  total (tok then ts) = totalIn tok + total ts
-
-  pub totals : Lists → ℕ
-  totals neither = 0
-  totals (ts or ls) = total ts + totals ls
 
 -- a text that is spelled within 01's limits: 8 list levels, 512 tokens, 4,096 bytes
 abbrev pub Spelled : List ℕ → ℕ → Tokens → Type 0
