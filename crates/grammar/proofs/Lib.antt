@@ -15,3 +15,4 @@ pub mod Alike
 pub mod RulesSpell
 pub mod SpellingDerived
 pub mod Derivable
+pub mod Samples
