@@ -4,3 +4,5 @@ pub mod MatchLaws
 pub mod NumberLaws
 pub mod LengthLaws
 pub mod RefusalLaws
+pub mod KeepLaws
+pub mod ChosenLaws
