@@ -1,4 +1,4 @@
--- What is chosen: few literals. Assumes nothing.
+-- What is chosen: at most 256 literals, of tokens that stand in the given ones and of which none is `??` or a jump. Assumes nothing.
 use mathlib.Core.Path.{_≡_, refl, sym, ap, ap₂, _∙_, subst}
 use mathlib.Core.Bool.{Bool, true, false, cond, _&&_}
 use mathlib.Core.List.{List, [], _∷_}
@@ -8,13 +8,15 @@ use native.Mathlib.Nat.{mul-assoc, one-mul}
 use lib.Dec.{leb, ltb}
 use lib.ListN.{length}
 use borrow.Author.Tests.{ltb-false}
-use Rattle.meaning.specs.Tokens.{Token, Tokens, Byte, NotByte, MaskedByte, NotMaskedByte, Jump, Alternatives, nothing, _then_, _⊕_}
-use Rattle.picking.specs.Literals.{taken, isByte, literals, combinations, lengthIn}
-use Rattle.picking.specs.Runs.{isLiteral, joins, partBefore, parts, Slice, slice, literalOnly, longer, slices}
-use Rattle.picking.specs.Choice.{ranked, skipped, excessive, counted, combined, rank, chosen, widened, rankOf, inRun}
+use Rattle.meaning.specs.Tokens.{left, right, all, Token, Tokens, Lists, Byte, NotByte, MaskedByte, NotMaskedByte, Jump, Alternatives, nothing, _then_, neither, _or_, _⊕_}
+use Rattle.meaning.proofs.SoundLaws.{and-left, and-right, and-both, false-true}
+use Rattle.picking.specs.Literals.{taken, isByte, isPlain, plainList, plainLists, literals, combinations, lengthIn, listableOf, listable, listableIn}
+use Rattle.picking.specs.Runs.{isAlternatives, closes, plainInside, plain, runs, isLiteral, joins, partBefore, parts, Slice, slice, literalOnly, longer, slices}
+use Rattle.picking.specs.Choice.{ranked, skipped, excessive, counted, combined, rank, chosen, widened, rankOf, inRun, choice}
 use Rattle.picking.specs.Numbers.{countOf, count}
 use Rattle.picking.proofs.NumberLaws.{count-literals}
-use Rattle.picking.proofs.KeepLaws.{Every, every-append, every-map, Holds, Literally, Widely, run-holds}
+use Rattle.picking.proofs.KeepLaws.{Every, every-append, every-map, Holds, Literally, Widely, run-holds, choice-holds}
+use Rattle.picking.proofs.FactorLaws.{Factor, Filled, Open, Taken, choice-taken}
 
 -- ---- few literals
 
@@ -26,11 +28,11 @@ count-join (t then ts) us = ap (λ (n : ℕ). countOf t * n) (count-join ts us) 
 count-byte : (t : Token) → isByte t ≡ true → countOf t ≡ 1
 unfolding isByte countOf taken
 count-byte (Byte v) h = refl
-count-byte (NotByte v) h = absurd (let z : _≡_ {A = ℕ} 0 1 = cc in omega arith)
-count-byte (MaskedByte v m) h = absurd (let z : _≡_ {A = ℕ} 0 1 = cc in omega arith)
-count-byte (NotMaskedByte v m) h = absurd (let z : _≡_ {A = ℕ} 0 1 = cc in omega arith)
-count-byte (Jump from to) h = absurd (let z : _≡_ {A = ℕ} 0 1 = cc in omega arith)
-count-byte (Alternatives ls) h = absurd (let z : _≡_ {A = ℕ} 0 1 = cc in omega arith)
+count-byte (NotByte v) h = false-true h
+count-byte (MaskedByte v m) h = false-true h
+count-byte (NotMaskedByte v m) h = false-true h
+count-byte (Jump from to) h = false-true h
+count-byte (Alternatives ls) h = false-true h
 
 -- a literal part has one literal
 abbrev Single : Tokens → Type 0
@@ -102,12 +104,94 @@ widened-few (slice prior own next) h n e =
     let b = ranked-few own n e in
     omega arith
 
--- at most 256 literals are taken
-pub chosen-few : (run : Tokens) (n : ℕ) (us : Tokens) → inRun run ≡ chosen n us → count us ≤ 256
-unfolding Holds count
-chosen-few run n us e =
+few-in : (run : Tokens) → Holds Few (inRun run)
+unfolding count
+few-in run =
     let ps = parts-single run in
-    subst (Holds Few) e
-    (run-holds Few run
+    run-holds Few run
     (every-map Single (Literally Few) (λ p h k. let l = h k in omega arith) (parts run) ps)
-    (every-map Sides (Widely Few) widened-few (slices (parts run) nothing) (slices-sides (parts run) nothing ps refl)))
+    (every-map Sides (Widely Few) widened-few (slices (parts run) nothing) (slices-sides (parts run) nothing ps refl))
+
+-- in a run at most 256 literals are taken
+pub chosen-few : (run : Tokens) (n : ℕ) (us : Tokens) → inRun run ≡ chosen n us → count us ≤ 256
+unfolding Holds
+chosen-few run n us e = subst (Holds Few) e (few-in run)
+
+-- and so among all
+pub choice-few : (ts : Tokens) (n : ℕ) (us : Tokens) → choice ts ≡ chosen n us → count us ≤ 256
+unfolding Holds Every
+choice-few ts n us e = subst (Holds Few) e (choice-holds Few ts (go (runs ts)))
+  where
+    go : (rs : List Tokens) → Every (λ r. Holds Few (inRun r)) rs
+    go [] = tt
+    go (r ∷ rs) = (few-in r, go rs)
+
+-- ---- part of the tokens
+
+-- what is chosen stands in the tokens, one token after another
+pub chosen-factor : (ts : Tokens) (n : ℕ) (us : Tokens) → choice ts ≡ chosen n us → Factor us ts
+unfolding Holds
+chosen-factor ts n us e = subst (Holds (Taken ts)) e (choice-taken ts) .0
+
+-- it is not nothing
+pub chosen-filled : (ts : Tokens) (n : ℕ) (us : Tokens) → choice ts ≡ chosen n us → Filled us
+unfolding Holds
+chosen-filled ts n us e = subst (Holds (Taken ts)) e (choice-taken ts) .1
+
+-- no `??` and no jump is in it
+pub chosen-open : (ts : Tokens) (n : ℕ) (us : Tokens) → choice ts ≡ chosen n us → Open us
+unfolding Holds
+chosen-open ts n us e = subst (Holds (Taken ts)) e (choice-taken ts) .2
+
+plain-left : (ts us : Tokens) → plain (ts ⊕ us) ≡ true → plain ts ≡ true
+unfolding plain _⊕_
+plain-left nothing us h = refl
+plain-left (t then ts) us h = and-both (and-left (plainInside t) _ h) (plain-left ts us (and-right (plainInside t) _ h))
+
+plain-right : (ts us : Tokens) → plain (ts ⊕ us) ≡ true → plain us ≡ true
+unfolding plain _⊕_
+plain-right nothing us h = h
+plain-right (t then ts) us h = plain-right ts us (and-right (plainInside t) _ h)
+
+plain-listable : (t : Token) → isPlain t ≡ true → listableOf t ≡ true
+unfolding isPlain listableOf
+plain-listable (Byte v) h = refl
+plain-listable (NotByte v) h = refl
+plain-listable (MaskedByte v m) h = h
+plain-listable (NotMaskedByte v m) h = h
+plain-listable (Jump from to) h = h
+plain-listable (Alternatives ls) h = false-true h
+
+list-listable : (ts : Tokens) → plainList ts ≡ true → listable ts ≡ true
+unfolding plainList listable
+list-listable nothing h = refl
+list-listable (t then ts) h = and-both (plain-listable t (and-left (isPlain t) _ h)) (list-listable ts (and-right (isPlain t) _ h))
+
+lists-listable : (ls : Lists) → plainLists ls ≡ true → listableIn ls ≡ true
+unfolding plainLists listableIn
+lists-listable neither h = refl
+lists-listable (ts or ls) h = and-both (list-listable ts (and-left (plainList ts) _ h)) (lists-listable ls (and-right (plainList ts) _ h))
+
+open-one : (t : Token) → closes t ≡ false → plainInside t ≡ true → listableOf t ≡ true
+unfolding isPlain isAlternatives plainInside listableOf
+open-one (Byte v) o h = refl
+open-one (NotByte v) o h = refl
+open-one (MaskedByte v left) o h = refl
+open-one (MaskedByte v right) o h = refl
+open-one (MaskedByte v all) o h = sym o
+open-one (NotMaskedByte v left) o h = refl
+open-one (NotMaskedByte v right) o h = refl
+open-one (NotMaskedByte v all) o h = sym o
+open-one (Jump from to) o h = sym o
+open-one (Alternatives ls) o h = lists-listable ls h
+
+open-listable : (ts : Tokens) → Open ts → plain ts ≡ true → listable ts ≡ true
+unfolding Open plain listable
+open-listable nothing o h = refl
+open-listable (t then ts) o h = and-both (open-one t (o .0) (and-left (plainInside t) _ h)) (open-listable ts (o .1) (and-right (plainInside t) _ h))
+
+-- where all alternatives are plain, none is at any depth of it
+pub chosen-listable : (ts : Tokens) (n : ℕ) (us : Tokens) → choice ts ≡ chosen n us → plain ts ≡ true → listable us ≡ true
+chosen-listable ts n us e h =
+    let (a, b, f) = chosen-factor ts n us e in
+    open-listable us (chosen-open ts n us e) (plain-left us b (plain-right a (us ⊕ b) (subst (λ (x : Tokens). plain x ≡ true) f h)))

@@ -89,3 +89,10 @@ module _ (Good : Tokens → Type 0) where
   pub choice-holds : (ts : Tokens) → Every (λ r. Holds (inRun r)) (runs ts) → Holds (choice ts)
   unfolding choice Holds
   choice-holds ts w = among-holds (runs ts) unranked w tt
+
+-- and so does what follows from it
+pub holds-map : (asked told : Tokens → Type 0) → ((us : Tokens) → asked us → told us) → (c : Choice) → Holds asked c → Holds told c
+unfolding Holds
+holds-map asked told f unranked h = tt
+holds-map asked told f (chosen n us) h = f us h
+holds-map asked told f tooMany h = tt

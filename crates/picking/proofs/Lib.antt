@@ -5,4 +5,5 @@ pub mod NumberLaws
 pub mod LengthLaws
 pub mod RefusalLaws
 pub mod KeepLaws
+pub mod FactorLaws
 pub mod ChosenLaws
