@@ -7,3 +7,4 @@ pub mod RefusalLaws
 pub mod KeepLaws
 pub mod FactorLaws
 pub mod ChosenLaws
+pub mod PickedLaws
