@@ -82,7 +82,7 @@ slices-sides : (ps : List Tokens) (prior : Tokens) → Every Single ps → count
 unfolding slices Every
 slices-sides [] prior h e = tt
 slices-sides (p ∷ ps) prior h e =
-    every-append Sides (longer ps prior p 0) _ (longer-sides ps prior p 0 (h .1) e) (slices-sides ps (literalOnly p) (h .1) (only-single p (h .0)))
+    every-append Sides (longer ps prior p _) _ (longer-sides ps prior p _ (h .1) e) (slices-sides ps (literalOnly p) (h .1) (only-single p (h .0)))
 
 -- a slice with a rank has at most 256 literals
 ranked-few : (ts : Tokens) (n : ℕ) → rank ts ≡ ranked n → count ts ≤ 256

@@ -210,7 +210,7 @@ module _ (run : Tokens) where
   slices-inside a [] prior e f = tt
   slices-inside a (p ∷ ps) prior e f =
       let r = only-prior p (joined ps) in
-      every-append (λ s. Inside (widened s)) (longer ps prior p 0) _ (longer-inside a ps prior p 0 e (f .0))
+      every-append (λ s. Inside (widened s)) (longer ps prior p _) _ (longer-inside a ps prior p _ e (f .0))
       (slices-inside (a ⊕ (prior ⊕ r .0)) ps (literalOnly p) (e ∙ ap (λ (x : Tokens). a ⊕ (prior ⊕ x)) (r .1) ∙ three a prior (r .0) (literalOnly p ⊕ joined ps)) (f .1))
 
   -- what is chosen in a run stands in it, and is not nothing
