@@ -4,3 +4,7 @@ pub mod MatchLaws
 pub mod NumberLaws
 pub mod LengthLaws
 pub mod RefusalLaws
+pub mod KeepLaws
+pub mod FactorLaws
+pub mod ChosenLaws
+pub mod PickedLaws

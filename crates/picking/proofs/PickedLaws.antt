@@ -1,0 +1,117 @@
+-- What is picked: none, or the literals of successive tokens of the pattern, and how many and how long they are. Assumes nothing.
+use mathlib.Core.Path.{_≡_, refl, sym, ap, _∙_, subst}
+use mathlib.Core.Bool.{Bool, true, false, cond}
+use mathlib.Core.Logic.{_⊎_, inl, inr, ⊎-elim, _↔_}
+use mathlib.Core.List.{List, [], List·Memᴰ, List·Memᴰ·not-nil}
+use Prim.Native.Nat.{ℕ, _+_, _≤_}
+use native.Mathlib.Omega.{arith}
+use lib.ListN.{length}
+use Rattle.base.specs.declared.Refusal.the-variants.{NotPlain}
+use Rattle.meaning.specs.Tokens.{Token, Tokens, Byte, NotByte, MaskedByte, NotMaskedByte, Jump, Alternatives, nothing, _then_, Spans, _⊕_}
+use Rattle.picking.specs.Literals.{literals, lengthOf, lengthIn, Bytes, size, listedOf, listed}
+use Rattle.picking.specs.Runs.{plain}
+use Rattle.picking.specs.Choice.{Choice, unranked, chosen, tooMany, choice, picked, unpicked, taking, pick}
+use Rattle.picking.proofs.MatchLaws.{literals-are-spans}
+use Rattle.picking.proofs.NumberLaws.{count-literals}
+use Rattle.picking.proofs.LengthLaws.{literal-lengths}
+use Rattle.picking.proofs.FactorLaws.{Factor, Filled}
+use Rattle.picking.proofs.ChosenLaws.{choice-few, chosen-factor, chosen-filled, chosen-listable}
+
+-- the tokens whose literals are picked
+pub record Source (ts us : Tokens) (n : ℕ) (ls : List (List ℕ)) : Type 0 where
+  pub plainly : plain ts ≡ true
+  pub given : choice ts ≡ chosen n us
+  pub theirs : ls ≡ literals us
+
+-- no literals and rank 0, or the literals of what is chosen
+pub picked-from : (ts : Tokens) (n : ℕ) (ls : List (List ℕ)) → pick ts ≡ picked n ls → ((n ≡ 0) × (ls ≡ [])) ⊎ ((us : Tokens) × Source ts us n ls)
+unfolding pick taking
+picked-from ts n ls h = go (plain ts) (choice ts) refl refl h
+  where
+    go : (b : Bool) (c : Choice) → plain ts ≡ b → choice ts ≡ c → cond b (taking c) (unpicked NotPlain) ≡ picked n ls → ((n ≡ 0) × (ls ≡ [])) ⊎ ((us : Tokens) × Source ts us n ls)
+    go true unranked p e q = let a : 0 ≡ n = cc in let b : [] ≡ ls = cc in inl (sym a, sym b)
+    go true (chosen m us) p e q =
+        let a : m ≡ n = cc in
+        let b : literals us ≡ ls = cc in
+        inr (us, record { plainly = p; given = e ∙ ap (λ (k : ℕ). chosen k us) a; theirs = sym b })
+    go true tooMany p e q = absurd (let z : _≡_ {A = ℕ} 0 1 = cc in omega arith)
+    go false c p e q = absurd (let z : _≡_ {A = ℕ} 0 1 = cc in omega arith)
+
+-- at most 256 literals are picked
+pub picked-few : (ts : Tokens) (n : ℕ) (ls : List (List ℕ)) → pick ts ≡ picked n ls → length ls ≤ 256
+picked-few ts n ls h = ⊎-elim none-few some-few (picked-from ts n ls h)
+  where
+    none-few : (n ≡ 0) × (ls ≡ []) → length ls ≤ 256
+    none-few (a, e) = let l : length ls ≡ 0 = ap length e in omega arith
+
+    some-few : (us : Tokens) × Source ts us n ls → length ls ≤ 256
+    some-few (us, s) =
+        let l : length ls ≡ _ = ap length (s .theirs) ∙ count-literals us in
+        let k = choice-few ts n us (s .given) in
+        omega arith
+
+-- the literals are exactly the byte strings that some successive tokens of the pattern match
+pub picked-are-spans : (ts : Tokens) (n : ℕ) (ls : List (List ℕ)) → pick ts ≡ picked n ls
+    → (ls ≡ []) ⊎ ((us : Tokens) × Factor us ts × Filled us × ((s : List ℕ) → Bytes s → List·Memᴰ s ls ↔ Spans us s))
+picked-are-spans ts n ls h = ⊎-elim (λ (z : (n ≡ 0) × (ls ≡ [])). inl (z .1)) (λ (z : (us : Tokens) × Source ts us n ls). inr (of z)) (picked-from ts n ls h)
+  where
+    of : (us : Tokens) × Source ts us n ls → (us : Tokens) × Factor us ts × Filled us × ((s : List ℕ) → Bytes s → List·Memᴰ s ls ↔ Spans us s)
+    of (us, z) = (
+      us,
+      chosen-factor ts n us (z .given),
+      chosen-filled ts n us (z .given),
+      λ s b. subst (λ (l : List (List ℕ)). List·Memᴰ s l ↔ Spans us s) (sym (z .theirs)) (literals-are-spans us s (chosen-listable ts n us (z .given) (z .plainly)) b),
+    )
+
+-- ---- lengths
+
+size-join : (ts us : Tokens) → size (ts ⊕ us) ≡ size ts + size us
+unfolding size _⊕_
+size-join nothing us = omega arith
+size-join (t then ts) us = let e = size-join ts us in omega arith
+
+listed-left : (ts us : Tokens) → listed (ts ⊕ us) → listed ts
+unfolding listed _⊕_
+listed-left nothing us h = tt
+listed-left (t then ts) us h = (h .0, listed-left ts us (h .1))
+
+listed-right : (ts us : Tokens) → listed (ts ⊕ us) → listed us
+unfolding listed _⊕_
+listed-right nothing us h = h
+listed-right (t then ts) us h = listed-right ts us (h .1)
+
+one-long : (t : Token) → listedOf t → 1 ≤ lengthOf t
+unfolding listedOf lengthOf
+one-long (Byte v) h = omega arith
+one-long (NotByte v) h = omega arith
+one-long (MaskedByte v m) h = omega arith
+one-long (NotMaskedByte v m) h = omega arith
+one-long (Jump from to) h = omega arith
+one-long (Alternatives ls) h = h .0
+
+-- tokens that are not nothing have a length of at least 1
+pub filled-long : (ts : Tokens) → Filled ts → listed ts → 1 ≤ lengthIn ts
+unfolding Filled listed lengthIn
+filled-long nothing f h = absurd f
+filled-long (t then ts) f h = let l = one-long t (h .0) in omega arith
+
+-- a literal is not empty, and no longer than the pattern has tokens
+pub picked-lengths : (ts : Tokens) → listed ts → (n : ℕ) (ls : List (List ℕ)) → pick ts ≡ picked n ls → (l : List ℕ) → List·Memᴰ l ls → (1 ≤ length l) × (length l ≤ size ts)
+picked-lengths ts g n ls h l m = ⊎-elim (λ (z : (n ≡ 0) × (ls ≡ [])). absurd (List·Memᴰ·not-nil (subst (λ (k : List (List ℕ)). List·Memᴰ l k) (z .1) m))) of (picked-from ts n ls h)
+  where
+    of : (us : Tokens) × Source ts us n ls → (1 ≤ length l) × (length l ≤ size ts)
+    of (us, z) =
+        let (a, b, e) = chosen-factor ts n us (z .given) in
+        let k = literal-lengths us l (subst (λ (x : List (List ℕ)). List·Memᴰ l x) (z .theirs) m) in
+        let low = k .0 in
+        let high = k .1 in
+        let long = filled-long us (chosen-filled ts n us (z .given)) (listed-left us b (listed-right a (us ⊕ b) (subst listed e g))) in
+        let wide : size ts ≡ size a + (size us + size b) = ap size e ∙ size-join a (us ⊕ b) ∙ ap (λ (x : ℕ). size a + x) (size-join us b) in
+        (omega arith, omega arith)
+
+-- so 512 tokens bound it
+pub literal-bounds : (ts : Tokens) → listed ts → size ts ≤ 512 → (n : ℕ) (ls : List (List ℕ)) → pick ts ≡ picked n ls → (l : List ℕ) → List·Memᴰ l ls → (1 ≤ length l) × (length l ≤ 512)
+literal-bounds ts g s n ls h l m =
+    let k = picked-lengths ts g n ls h l m in
+    let high = k .1 in
+    (k .0, omega arith)
