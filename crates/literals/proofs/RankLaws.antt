@@ -14,7 +14,7 @@ use Rattle.meaning.specs.Tokens.{Tokens}
 use Rattle.atoms.specs.Score.{literalScore}
 use Rattle.picking.specs.Literals.{literals, combinations, size, sizeOf, sizeIn}
 use Rattle.picking.specs.Numbers.{count, literalAt}
-use Rattle.picking.specs.Choice.{lowest, leastScore, penalty, score, counted, combined, rank, Ranked, ranked, skipped, excessive}
+use Rattle.picking.specs.Choice.{lowest, least, penalty, score, counted, combined, rank, Ranked, ranked, skipped, excessive}
 use Rattle.picking.proofs.NumberLaws.{count-literals, literal-numbered}
 use Rattle.picking.proofs.LengthLaws.{literal-lengths}
 use Rattle.spelling.specs.Words.{firstEntry, flatIn, ends, inside, listsIn, tokenIn, width, tokensIn}
@@ -35,35 +35,33 @@ literal-fits ws k h =
     let s = tokens-size ws in
     omega arith
 
-module _ (ts : Tokens) where
-  lits : List (List ℕ)
-  lits = literals ts
-
-  pub lowest-end : (k n least : ℕ) → n ≡ count ts → n ≤ k → lowest (drop k (literals ts)) least ≡ least
+-- the least of a measure, literal by literal
+module _ (of : List ℕ → ℕ) (ts : Tokens) where
+  pub lowest-end : (k n x : ℕ) → n ≡ count ts → n ≤ k → lowest of (drop k (literals ts)) x ≡ x
   unfolding lowest
-  lowest-end k n least e h = rw (drop-of-length-le (literals ts) {i = k} (let c = count-literals ts in omega arith))
+  lowest-end k n x e h = rw (drop-of-length-le (literals ts) {i = k} (let c = count-literals ts in omega arith))
 
-  pub lowest-more : (k n least : ℕ) → n ≡ count ts → k < n → lowest (drop k (literals ts)) least ≡ lowest (drop (k + 1) (literals ts)) (min least (literalScore (literalAt ts k)))
+  pub lowest-more : (k n x : ℕ) → n ≡ count ts → k < n → lowest of (drop k (literals ts)) x ≡ lowest of (drop (k + 1) (literals ts)) (min x (of (literalAt ts k)))
   unfolding lowest
-  lowest-more k n least e h =
-      ap (λ (l : List (List ℕ)). lowest l least) (drop-cons (literals ts) k [] (let c = count-literals ts in omega arith))
-      ∙ ap₂ (λ (x : ℕ) (l : List ℕ). lowest (drop x (literals ts)) (min least (literalScore l))) (sym (add-one k)) (literal-numbered ts k (omega arith))
+  lowest-more k n x e h =
+      ap (λ (l : List (List ℕ)). lowest of l x) (drop-cons (literals ts) k [] (let c = count-literals ts in omega arith))
+      ∙ ap₂ (λ (y : ℕ) (l : List ℕ). lowest of (drop y (literals ts)) (min x (of l))) (sym (add-one k)) (literal-numbered ts k (omega arith))
 
-  pub least-none : (n : ℕ) → n ≡ count ts → n ≡ 0 → leastScore (literals ts) ≡ 0
-  unfolding leastScore
+  pub least-none : (n : ℕ) → n ≡ count ts → n ≡ 0 → least of (literals ts) ≡ 0
+  unfolding least
   least-none n e z = go (literals ts) (let c = count-literals ts in omega arith)
     where
-      go : (l : List (List ℕ)) → length l ≡ 0 → leastScore l ≡ 0
+      go : (l : List (List ℕ)) → length l ≡ 0 → least of l ≡ 0
       go [] h = refl
       go (x ∷ l) h = absurd (omega arith)
 
-  pub least-first : (n : ℕ) → n ≡ count ts → (n ≡ 0 → ⊥) → leastScore (literals ts) ≡ lowest (drop 1 (literals ts)) (literalScore (literalAt ts 0))
-  unfolding leastScore
-  least-first n e z = go (literals ts) refl (let c = count-literals ts in omega arith) ∙ ap (λ (l : List ℕ). lowest (drop 1 (literals ts)) (literalScore l)) (literal-numbered ts 0 (omega arith))
+  pub least-first : (n : ℕ) → n ≡ count ts → (n ≡ 0 → ⊥) → least of (literals ts) ≡ lowest of (drop 1 (literals ts)) (of (literalAt ts 0))
+  unfolding least
+  least-first n e z = go (literals ts) refl (let c = count-literals ts in omega arith) ∙ ap (λ (l : List ℕ). lowest of (drop 1 (literals ts)) (of l)) (literal-numbered ts 0 (omega arith))
     where
-      go : (l : List (List ℕ)) → literals ts ≡ l → 0 < length l → leastScore l ≡ lowest (drop 1 (literals ts)) (literalScore (getD (literals ts) 0 []))
+      go : (l : List (List ℕ)) → literals ts ≡ l → 0 < length l → least of l ≡ lowest of (drop 1 (literals ts)) (of (getD (literals ts) 0 []))
       go [] q h = absurd (omega arith)
-      go (x ∷ l) q h = sym (ap (λ (y : List (List ℕ)). lowest (drop 1 y) (literalScore (getD y 0 []))) q)
+      go (x ∷ l) q h = sym (ap (λ (y : List (List ℕ)). lowest of (drop 1 y) (of (getD y 0 []))) q)
 
 -- ---- the penalty
 
@@ -97,7 +95,7 @@ module _ (ts : Tokens) (n c : ℕ) (n-is : n ≡ min 257 (count ts)) (c-is : c �
   pub count-exact : n ≤ 256 → n ≡ count ts
   count-exact h = omega arith
 
-  pub rank-given : c ≤ 256 → n ≤ 256 → (s p : ℕ) → s ≡ leastScore (literals ts) → p ≡ penalty c → ranked (s - p) ≡ rank ts
+  pub rank-given : c ≤ 256 → n ≤ 256 → (s p : ℕ) → s ≡ least literalScore (literals ts) → p ≡ penalty c → ranked (s - p) ≡ rank ts
   unfolding rank combined counted score
   rank-given h g s p e f =
       let k : c ≡ combinations ts = omega arith in

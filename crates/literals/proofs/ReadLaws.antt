@@ -9,7 +9,8 @@ use lib.ListN.{length}
 use Rattle.meaning.specs.Tokens.{Token, Tokens, Lists, Byte, NotByte, MaskedByte, NotMaskedByte, Jump, Alternatives, nothing, _then_, neither, _or_}
 use Rattle.reading.specs.Lists.{accepted, reading}
 use Rattle.reading.proofs.Kept.{Keeps, accepted-keeps}
-use Rattle.grammar.specs.Spelling.{_⨾_, Bounded, SpellsToken, SpellsTokens, SpellsLists, SpellsRest, SpellsString, SpellsText, totalIn, total, totals}
+use Rattle.grammar.specs.Grammar.{totalIn, total, totals}
+use Rattle.grammar.proofs.Spelling.{_⨾_, Bounded, SpellsToken, SpellsTokens, SpellsLists, SpellsRest, SpellsString, SpellsText}
 use Rattle.grammar.proofs.TextSpelled.{accepted-spelled}
 use Rattle.picking.specs.Literals.{lengthIn, shortest, shorter, sizeOf, size, sizeIn, listedOf, listed, listedIn}
 use Rattle.picking.specs.Choice.{picked, pick}

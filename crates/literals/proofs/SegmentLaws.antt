@@ -14,13 +14,8 @@ use Rattle.spelling.specs.Words.{entryToken, tokenIn, width, tokensIn}
 use Rattle.spelling.proofs.StepLaws.{tokens-end, tokens-step, width-le, width-long, walk-end, walk-step}
 use Rattle.spelling.proofs.PlainLaws.{token-alternatives, token-entry, value-plain}
 use Rattle.spelling.proofs.TallyLaws.{entry-cases}
-use Rattle.literals.specs.Whole.{Entire, Whole, none, more, runEnd}
+use Rattle.literals.specs.Whole.{Entire, Whole, none, more, runEnd, afterward}
 use Rattle.literals.proofs.WholeLaws.{split, both-whole, front-whole, front-token}
-
--- what follows the token that closed a run
-unfoldable pub afterward : Tokens → List Tokens
-afterward nothing = []
-afterward (t then ts) = segments ts
 
 pub record Segment (ws : List ℕ) (n : ℕ) : Type 0 where
   pub fits : n ≤ length ws

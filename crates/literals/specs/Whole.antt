@@ -1,11 +1,12 @@
 -- Words that are whole entries of tokens, and the parts of a run. Assumes nothing: these are definitions.
 use mathlib.Core.Path.{_≡_}
 use mathlib.Core.Bool.{cond}
-use mathlib.Core.List.{List, []}
+use mathlib.Core.List.{List, [], _∷_}
 use Prim.Native.Nat.{ℕ, _+_, _-_, _*_, _≤_}
 use lib.Dec.{eqb}
 use lib.ListN.{length, getD, take, drop}
-use Rattle.picking.specs.Runs.{closes}
+use Rattle.meaning.specs.Tokens.{Tokens, nothing, _then_}
+use Rattle.picking.specs.Runs.{closes, segments}
 use Rattle.spelling.specs.Words.{walk, width, tokenIn}
 
 -- the token at the front has all its words
@@ -37,3 +38,8 @@ pub record Placed (run : List ℕ) (prior at : ℕ) : Type 0 where
 -- the words before the first token that closes a run
 unfoldable pub runEnd : List ℕ → ℕ
 runEnd ws = walk 0 (λ w n. cond (closes (tokenIn w)) 0 (width w + n)) width (length ws) ws
+
+-- the segments after the token that closed a run
+unfoldable pub afterward : Tokens → List Tokens
+afterward nothing = []
+afterward (t then ts) = segments ts

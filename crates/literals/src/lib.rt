@@ -11,7 +11,7 @@ ghost use Rattle.picking.specs.Literals.{literals};
 ghost use Rattle.picking.specs.Numbers.{count, literalAt};
 ghost use Rattle.meaning.specs.Tokens.{Tokens, nothing};
 ghost use Rattle.picking.specs.Runs.{Slice, parts, longer, slices, closes};
-ghost use Rattle.picking.specs.Choice.{leastScore, penalty, rank, ranked, widened, against, best as bestOf, unranked, strong, aloneOr, inRun};
+ghost use Rattle.picking.specs.Choice.{least, penalty, rank, ranked, widened, against, best as bestOf, unranked, strong, aloneOr, inRun};
 ghost use Rattle.spelling.specs.Words.{tokenIn, tokensIn};
 ghost use Rattle.literals.specs.Ranks.{rankSays, choiceSays};
 ghost use Rattle.literals.specs.Whole.{byteEnd, partEnd, Placed, Whole, runEnd};
@@ -41,7 +41,7 @@ fn smaller(a: u32, b: u32) -> u32
 
 fn least_score(ws: &[u32], n: usize) -> u32
     requires { ⌜ (length (now ws) ≤ 4096) × (n ≡ count (tokensIn (now ws))) × (n ≤ 256) ⌝ }
-    ensures { λ r. ⌜ r ≡ leastScore (literals (tokensIn (now (ws .entry)))) ⌝ }
+    ensures { λ r. ⌜ r ≡ least literalScore (literals (tokensIn (now (ws .entry)))) ⌝ }
 {
     if n == 0 {
         return 0;
@@ -248,7 +248,7 @@ fn closes_run(ws: &[u32]) -> bool
 }
 
 // The words before the first token that closes a run.
-fn run_words(ws: &[u32]) -> usize
+pub fn run_words(ws: &[u32]) -> usize
     ensures { λ r. ⌜ (r ≡ runEnd (now (ws .entry))) × (r ≤ length (now (ws .entry))) ⌝ }
 {
     let mut rest = ws;

@@ -12,14 +12,14 @@ use Rattle.atoms.specs.Score.{literalScore}
 use Rattle.picking.specs.Literals.{literals, combinations}
 use Rattle.picking.specs.Runs.{plain, runs, parts, isLiteral, Slice, slice, slices}
 
--- the least score of some literals
-unfoldable pub lowest : List (List ℕ) → ℕ → ℕ
-lowest [] n = n
-lowest (l ∷ ls) n = lowest ls (min n (literalScore l))
+-- the least that a measure gives of some literals
+unfoldable pub lowest : (List ℕ → ℕ) → List (List ℕ) → ℕ → ℕ
+lowest of [] n = n
+lowest of (l ∷ ls) n = lowest of ls (min n (of l))
 
-unfoldable pub leastScore : List (List ℕ) → ℕ
-leastScore [] = 0
-leastScore (l ∷ ls) = lowest ls (literalScore l)
+unfoldable pub least : (List ℕ → ℕ) → List (List ℕ) → ℕ
+least of [] = 0
+least of (l ∷ ls) = lowest of ls (of l)
 
 -- less 10 above 1 combination, 20 above 16, 40 from 100
 unfoldable pub penalty : ℕ → ℕ
@@ -33,7 +33,7 @@ pub data Ranked : Type 0 where
 
 -- the rank is the least score less the penalty, not below 0
 unfoldable pub score : Tokens → ℕ
-score ts = leastScore (literals ts) - penalty (combinations ts)
+score ts = least literalScore (literals ts) - penalty (combinations ts)
 
 -- literals that exceed 256 are refused with 17
 unfoldable pub counted : Bool → Tokens → Ranked
@@ -102,18 +102,9 @@ aloneOr none c = c
 unfoldable pub inRun : Tokens → Choice
 inRun run = aloneOr (strong (parts run)) (best unranked (slices (parts run) nothing))
 
--- the length of the shortest of some literals
-unfoldable pub lowestLength : List (List ℕ) → ℕ → ℕ
-lowestLength [] n = n
-lowestLength (l ∷ ls) n = lowestLength ls (min n (length l))
-
-unfoldable pub shortestLiteral : List (List ℕ) → ℕ
-shortestLiteral [] = 0
-shortestLiteral (l ∷ ls) = lowestLength ls (length l)
-
 -- a higher rank, then a longer shortest literal
 unfoldable pub beats : ℕ → Tokens → ℕ → Tokens → Bool
-beats n us m ts = ltb m n || (eqb m n && ltb (shortestLiteral (literals ts)) (shortestLiteral (literals us)))
+beats n us m ts = ltb m n || (eqb m n && ltb (least length (literals ts)) (least length (literals us)))
 
 -- between runs: the one that beats the other, else the earlier
 unfoldable pub between : Choice → Choice → Choice

@@ -1,5 +1,5 @@
 use Rattle.spelling.specs.Words.{tokensIn}
-use Rattle.picking.specs.Choice.{lowest, leastScore, penalty, rank, ranked}
+use Rattle.picking.specs.Choice.{lowest, least, penalty, rank, ranked}
 use Rattle.picking.specs.Numbers.{count, literalAt}
 use Rattle.picking.specs.Literals.{literals, combinations}
 use Rattle.atoms.specs.Score.{literalScore}
@@ -18,14 +18,14 @@ use Rattle.literals.proofs.score_at.Reads as score-at-reads
 use Rattle.literals.proofs.smaller.Reads as smaller-reads
 
 abbrev Inv-loop : tie.InvT-loop
-Inv-loop ws n least₀ k₀ least k = (k ≤ n) × (leastScore (literals (tokensIn ws)) ≡ lowest (drop k (literals (tokensIn ws))) least)
+Inv-loop ws n x₀ k₀ x k = (k ≤ n) × (least literalScore (literals (tokensIn ws)) ≡ lowest literalScore (drop k (literals (tokensIn ws))) x)
 
 abbrev μ-loop : tie.MeasureT-loop
-μ-loop ws n least₀ k₀ least k = n - k
+μ-loop ws n x₀ k₀ x k = n - k
 
 -- src/lib.rt:41:9
 returns : tie.Need-returns Inv-loop μ-loop
-returns c = sym (law.least-none (tokensIn (c .before .before .args .ws .now)) (c .before .before .args .n) ((c .before .before .pre) .1) (c .if1 .taken))
+returns c = sym (law.least-none literalScore (tokensIn (c .before .before .args .ws .now)) (c .before .before .args .n) ((c .before .before .pre) .1) (c .if1 .taken))
 
 -- src/lib.rt:43:9
 score-at-requires : tie.Need-score-at-requires Inv-loop μ-loop
@@ -33,7 +33,7 @@ score-at-requires c κs = ((c .before .before .pre) .0, omega (arith, (c .before
 
 -- src/lib.rt:45:5
 loop-holds : tie.Need-loop-holds Inv-loop μ-loop
-loop-holds c = (omega (arith, c .before .if1 .left), law.least-first (tokensIn (c .before .before .before .args .ws .now)) (c .before .before .before .args .n) ((c .before .before .before .pre) .1) (c .before .if1 .left) ∙ ap (lowest (drop 1 (literals (tokensIn (c .before .before .before .args .ws .now))))) (sym (c .score-at .ensures)))
+loop-holds c = (omega (arith, c .before .if1 .left), law.least-first literalScore (tokensIn (c .before .before .before .args .ws .now)) (c .before .before .before .args .n) ((c .before .before .before .pre) .1) (c .before .if1 .left) ∙ ap (lowest literalScore (drop 1 (literals (tokensIn (c .before .before .before .args .ws .now))))) (sym (c .score-at .ensures)))
 
 -- src/lib.rt:46:13
 score-at-requires-2 : tie.Need-score-at-requires-2 Inv-loop μ-loop
@@ -53,11 +53,11 @@ loop-less c = omega (arith, c .before .before .loop-test .taken)
 
 -- src/lib.rt:45:5
 loop-again : tie.Need-loop-again Inv-loop μ-loop
-loop-again c = (omega (arith, c .before .before .loop-test .taken), c .before .before .before .loop .inv .1 ∙ law.lowest-more (tokensIn (c .before .before .before .before .before .before .before .args .ws .now)) (c .before .before .before .loop .k) (c .before .before .before .before .before .before .before .args .n) (c .before .before .before .loop .least) ((c .before .before .before .before .before .before .before .pre) .1) (c .before .before .loop-test .taken) ∙ ap (lowest (drop (c .before .before .before .loop .k + 1) (literals (tokensIn (c .before .before .before .before .before .before .before .args .ws .now))))) (ap (min (c .before .before .before .loop .least)) (sym (c .before .score-at2 .ensures)) ∙ sym (c .smaller .ensures)))
+loop-again c = (omega (arith, c .before .before .loop-test .taken), c .before .before .before .loop .inv .1 ∙ law.lowest-more literalScore (tokensIn (c .before .before .before .before .before .before .before .args .ws .now)) (c .before .before .before .loop .k) (c .before .before .before .before .before .before .before .args .n) (c .before .before .before .loop .least) ((c .before .before .before .before .before .before .before .pre) .1) (c .before .before .loop-test .taken) ∙ ap (lowest literalScore (drop (c .before .before .before .loop .k + 1) (literals (tokensIn (c .before .before .before .before .before .before .before .args .ws .now))))) (ap (min (c .before .before .before .loop .least)) (sym (c .before .score-at2 .ensures)) ∙ sym (c .smaller .ensures)))
 
 -- src/lib.rt:36:1
 returns-2 : tie.Need-returns-2 Inv-loop μ-loop
-returns-2 c = sym (c .before .loop .inv .1 ∙ law.lowest-end (tokensIn (c .before .before .before .before .before .args .ws .now)) (c .before .loop .k) (c .before .before .before .before .before .args .n) (c .before .loop .least) ((c .before .before .before .before .before .pre) .1) (c .loop-test .left))
+returns-2 c = sym (c .before .loop .inv .1 ∙ law.lowest-end literalScore (tokensIn (c .before .before .before .before .before .args .ws .now)) (c .before .loop .k) (c .before .before .before .before .before .args .n) (c .before .loop .least) ((c .before .before .before .before .before .pre) .1) (c .loop-test .left))
 
 pub least-score-spec : {M : Type 1} → statement M
 least-score-spec =
