@@ -1,0 +1,4 @@
+-- The laws of the choice between runs.
+pub mod RunsLaws
+pub mod ShiftLaws
+pub mod BetweenLaws

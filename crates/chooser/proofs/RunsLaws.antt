@@ -1,0 +1,148 @@
+-- The runs of a pattern, one after another, and the first segment last. Assumes nothing.
+use mathlib.Core.Path.{_≡_, refl, sym, ap, ap₂, _∙_, subst}
+use mathlib.Core.List.{List, [], _∷_, _++_}
+use Prim.Native.Nat.{ℕ, zero, suc, _+_, _-_, _≤_, _<_}
+use native.Mathlib.Omega.{arith}
+use lib.ListN.{length, take, drop, length-drop}
+use lib.Seq.{drop-drop}
+use Rattle.meaning.specs.Tokens.{Tokens, nothing, _then_}
+use Rattle.picking.specs.Runs.{segments, filledOnes, firstLast, runs}
+use Rattle.picking.specs.Choice.{Choice, unranked, inRun, between, among, choice}
+use Rattle.spelling.specs.Words.{tokenIn, width, tokensIn}
+use Rattle.spelling.proofs.StepLaws.{tokens-end, tokens-step, width-le, width-long}
+use Rattle.spelling.proofs.PartLaws.{part-all}
+use Rattle.literals.specs.declared.Pick.{Pick}
+use Rattle.literals.specs.declared.Pick.the-variants.{Nothing, Taken, TooMany}
+use Rattle.literals.specs.Ranks.{choiceSays}
+use Rattle.literals.specs.Whole.{Entire, Whole, none, more, runEnd, afterward}
+use Rattle.literals.proofs.WholeLaws.{whole-first, whole-short}
+use Rattle.literals.proofs.SegmentLaws.{Segment, first-segment}
+use Rattle.chooser.specs.Kept.{Kept, Stretch, laterRuns}
+
+among-first : (c : Choice) (s : Tokens) (ss : List Tokens) → among c (filledOnes (s ∷ ss)) ≡ among (among c (filledOnes (s ∷ []))) (filledOnes ss)
+unfolding among filledOnes
+among-first c nothing ss = refl
+among-first c (t then s) ss = refl
+
+among-last : (c : Choice) (ss : List Tokens) (s : Tokens) → among c (filledOnes (ss ++ (s ∷ []))) ≡ among (among c (filledOnes ss)) (filledOnes (s ∷ []))
+unfolding among filledOnes
+among-last c [] s = refl
+among-last c (nothing ∷ ss) s = among-last c ss s
+among-last c ((t then r) ∷ ss) s = among-last (between c (inRun (t then r))) ss s
+
+-- the first segment, which is asked last
+module _ (ws : List ℕ) (n : ℕ) (e : n ≡ runEnd ws) (w : Whole ws) where
+  first-is : Segment ws n
+  first-is = subst (Segment ws) (sym e) (first-segment ws w)
+
+  pub first-fits : n ≤ length ws
+  first-fits = first-is .fits
+
+  pub rest-whole : Whole (drop n ws)
+  rest-whole = first-is .rest-whole
+
+  front : n - 0 ≡ n
+  front = omega arith
+
+  pub first-stretch : length ws ≤ 4096 → Stretch ws 0 n
+  first-stretch few =
+      record {
+        few = few;
+        ordered = (omega arith);
+        inside = first-is .fits;
+        stretch-whole = subst (λ (x : ℕ). Whole (take x ws)) (sym front) (first-is .segment-whole);
+      }
+
+  pub first-asked-last : (c : Choice) → c ≡ among unranked (laterRuns (drop n ws)) → among c (filledOnes (tokensIn (take (n - 0) ws) ∷ [])) ≡ choice (tokensIn ws)
+  unfolding choice runs firstLast
+  first-asked-last c h =
+      ap₂ (λ (x : Choice) (m : ℕ). among x (filledOnes (tokensIn (take m ws) ∷ []))) h front
+      ∙ sym (ap (λ (ss : List Tokens). among unranked (filledOnes (firstLast ss))) (first-is .segment-is)
+      ∙ among-last unranked (afterward (tokensIn (drop n ws))) (tokensIn (take n ws)))
+
+-- a token that closed a run, and the run after it
+module _ (us : List ℕ) (w : Whole us) (long : 4 ≤ length us) where
+  rest-after : Whole (drop (width us) us)
+  rest-after = whole-first us w (omega arith) .1
+
+  after-token : (n : ℕ) → n ≡ runEnd (drop (width us) us) → (c : Choice)
+      → among c (laterRuns us) ≡ among (among c (filledOnes (tokensIn (take n (drop (width us) us)) ∷ []))) (laterRuns (drop n (drop (width us) us)))
+  unfolding afterward
+  after-token n e c =
+      subst
+      (λ (x : ℕ). among c (laterRuns us) ≡ among (among c (filledOnes (tokensIn (take x (drop (width us) us)) ∷ []))) (laterRuns (drop x (drop (width us) us)))) (sym e)
+      (ap (λ (ts : Tokens). among c (filledOnes (afterward ts))) (tokens-step us long)
+      ∙ ap (λ (ss : List Tokens). among c (filledOnes ss)) (first-segment (drop (width us) us) rest-after .segment-is)
+      ∙ among-first c (tokensIn (take (runEnd (drop (width us) us)) (drop (width us) us))) (afterward (tokensIn (drop (runEnd (drop (width us) us)) (drop (width us) us)))))
+
+-- the runs up to `at` are asked, and `top` is the choice among them
+pub record Asked (ws : List ℕ) (first at : ℕ) (top : Pick) : Type 0 where
+  pub here : at ≤ length ws
+  pub rest-whole : Whole (drop at ws)
+  pub kept : Kept ws top
+  pub same : among unranked (laterRuns (drop first ws)) ≡ among (choiceSays ws top) (laterRuns (drop at ws))
+
+pub asked-none : (ws : List ℕ) (first : ℕ) → first ≤ length ws → Whole (drop first ws) → Asked ws first first Nothing
+asked-none ws first h w = record { here = h; rest-whole = w; kept = tt; same = refl }
+
+pub asked-all : (ws : List ℕ) (first at : ℕ) (top : Pick) → Asked ws first at top → length ws - at < 4
+    → (choiceSays ws top ≡ among unranked (laterRuns (drop first ws))) × Kept ws top
+unfolding afterward filledOnes among
+asked-all ws first at top a h =
+    let l = length-drop at ws in
+    (sym (a .same ∙ ap (λ (ts : Tokens). among (choiceSays ws top) (filledOnes (afterward ts))) (tokens-end (drop at ws) (omega arith))), a .kept)
+
+module _ (ws : List ℕ) (first at from : ℕ) (top : Pick) (a : Asked ws first at top) (few : length ws ≤ 4096) (long : 4 ≤ length ws - at)
+    (f : from ≡ at + width (take (length ws - at) (drop at ws))) where
+  there : 4 ≤ length (drop at ws)
+  there = rw (length-drop at ws) long
+
+  from-is : from ≡ at + width (drop at ws)
+  from-is = f ∙ ap (λ (l : List ℕ). at + width l) (part-all at ws)
+
+  pub from-fits : (from ≤ length ws) × (at + 4 ≤ from)
+  from-fits =
+      let e = from-is in
+      let l = length-drop at ws in
+      let b = width-le (drop at ws) there in
+      let c = width-long (drop at ws) there in
+      (omega arith, omega arith)
+
+  after-is : drop (width (drop at ws)) (drop at ws) ≡ drop from ws
+  after-is = drop-drop (width (drop at ws)) at ws ∙ ap (λ (x : ℕ). drop x ws) (sym from-is)
+
+  rest : Whole (drop from ws)
+  rest = subst Whole after-is (rest-after (drop at ws) (a .rest-whole) there)
+
+  module _ (n to : ℕ) (t : to ≡ from + n) (e : n ≡ runEnd (take (length ws - from) (drop from ws))) where
+    run-is : n ≡ runEnd (drop from ws)
+    run-is = e ∙ ap runEnd (part-all from ws)
+
+    seg : Segment (drop from ws) n
+    seg = subst (Segment (drop from ws)) (sym run-is) (first-segment (drop from ws) rest)
+
+    words-are : take (to - from) (drop from ws) ≡ take n (drop from ws)
+    words-are = ap (λ (x : ℕ). take x (drop from ws)) (let q : to - from ≡ n = omega (arith, t) in q)
+
+    pub run-stretch : Stretch ws from to
+    run-stretch =
+        let q = t in
+        let l = length-drop from ws in
+        let s = seg .fits in
+        let k = from-fits .0 in
+        record { few = few; ordered = (omega arith); inside = (omega arith); stretch-whole = subst Whole (sym words-are) (seg .segment-whole) }
+
+    pub asked-more : (next : Pick) → choiceSays ws next ≡ among (choiceSays ws top) (filledOnes (tokensIn (take (to - from) (drop from ws)) ∷ [])) → Kept ws next
+        → Asked ws first to next
+    asked-more next h k =
+        record {
+          here = run-stretch .inside;
+          rest-whole = subst Whole (drop-drop n from ws ∙ ap (λ (x : ℕ). drop x ws) (sym t)) (seg .rest-whole);
+          kept = k;
+          same =
+              a .same ∙ after-token (drop at ws) (a .rest-whole) there n (run-is ∙ ap runEnd (sym after-is)) (choiceSays ws top)
+              ∙ ap₂ (λ (c : Choice) (l : List ℕ). among c (laterRuns l))
+              (ap (λ (l : List ℕ). among (choiceSays ws top) (filledOnes (tokensIn (take n l) ∷ []))) after-is
+              ∙ ap (λ (l : List ℕ). among (choiceSays ws top) (filledOnes (tokensIn l ∷ []))) (sym words-are) ∙ sym h)
+              (ap (drop n) after-is ∙ drop-drop n from ws ∙ ap (λ (x : ℕ). drop x ws) (sym t));
+        }

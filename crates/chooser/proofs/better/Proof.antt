@@ -1,0 +1,57 @@
+use native.Mathlib.Omega.{arith}
+use borrow.Author.Needs.{needs}
+use mathlib.Core.Path.{_≡_, refl, sym, ap, ap₂, _∙_, subst}
+use mathlib.Core.Bool.{Bool, true, false}
+use mathlib.Core.List.{List}
+use Prim.Native.Nat.{ℕ, _+_, _-_, _≤_, _<_}
+use lib.ListN.{length, take, drop}
+use Rattle.spelling.specs.Words.{tokensIn}
+use Rattle.chooser.specs.Kept.{Kept, Stretch}
+use Rattle.chooser.proofs.ShiftLaws as shift
+use Rattle.chooser.proofs.BetweenLaws as law
+use Rattle.chooser.proofs.RunsLaws as run
+use Rattle.chooser.proofs.better.Statement.{statement}
+use Rattle.chooser.proofs.better.Tie as tie
+use Rattle.chooser.proofs.better.Reads as reads
+use Rattle.chooser.proofs.better.Lts as lts
+use Rattle.chooser.proofs.against_taken.Reads as against-taken-reads
+
+-- src/lib.rt:88:26
+enum-told : tie.Need-enum-told
+enum-told c = search needs
+
+-- src/lib.rt:89:21
+enum-known-top : tie.Need-enum-known-top
+enum-known-top c = search needs
+
+-- src/lib.rt:89:37
+against-taken-requires : tie.Need-against-taken-requires
+against-taken-requires c κs = (c .before .before .before .before .pre .0, subst (Kept (c .before .before .before .before .args .ws .now)) (c .before .top .given .1) (c .before .before .before .before .pre .1), c .before .before .before .before .pre .2)
+
+-- src/lib.rt:90:26
+enum-told-2 : tie.Need-enum-told-2
+enum-told-2 c = search needs
+
+-- src/lib.rt:83:1
+returns : tie.Need-returns
+returns c = law.nothing-yet (c .before .before .before .args .ws .now) (c .before .before .before .args .top) (c .before .before .before .args .next) (c .enum-told .given .1) (c .before .before .before .pre .2)
+
+-- src/lib.rt:83:1
+returns-2 : tie.Need-returns-2
+returns-2 c = law.taken-yet (c .before .before .before .before .before .args .ws .now) (c .before .before .before .before .before .args .top) (c .before .before .before .before .before .args .next) _ _ _ (c .against-taken .result) (c .before .before .top .given .1) (c .against-taken .ensures)
+
+-- src/lib.rt:83:1
+returns-3 : tie.Need-returns-3
+returns-3 c = law.full-yet (c .before .before .before .args .ws .now) (c .before .before .before .args .top) (c .before .before .before .args .next) (c .enum-told2 .given .1)
+
+pub better-spec : {M : Type 1} → statement M
+better-spec =
+    tie.close
+    (tie.spec
+    enum-told
+    enum-known-top
+    against-taken-requires
+    enum-told-2
+    returns
+    returns-2
+    returns-3)

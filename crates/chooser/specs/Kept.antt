@@ -1,0 +1,34 @@
+-- Choices by the words that they name. Assumes nothing: these are definitions.
+use mathlib.Core.List.{List}
+use Prim.Native.Nat.{ℕ, _-_, _≤_}
+use lib.ListN.{length, take, drop}
+use Rattle.meaning.specs.Tokens.{Tokens}
+use Rattle.picking.specs.Numbers.{count}
+use Rattle.picking.specs.Runs.{filledOnes}
+use Rattle.spelling.specs.Words.{tokensIn}
+use Rattle.literals.specs.declared.Pick.{Pick}
+use Rattle.literals.specs.declared.Pick.the-variants.{Nothing, Taken, TooMany}
+use Rattle.literals.specs.Whole.{Whole, afterward}
+
+-- words that are there, of the first n
+abbrev pub Inside : ℕ → Pick → Type 0
+Inside n Nothing = Unit {0}
+Inside n (Taken from to m) = (from ≤ to) × (to ≤ n)
+Inside n TooMany = Unit {0}
+
+-- and that have at most 256 literals
+abbrev pub Kept : List ℕ → Pick → Type 0
+Kept ws Nothing = Unit {0}
+Kept ws (Taken from to m) = (from ≤ to) × (to ≤ length ws) × (count (tokensIn (take (to - from) (drop from ws))) ≤ 256)
+Kept ws TooMany = Unit {0}
+
+-- whole words of a pool
+pub record Stretch (ws : List ℕ) (from to : ℕ) : Type 0 where
+  pub few : length ws ≤ 4096
+  pub ordered : from ≤ to
+  pub inside : to ≤ length ws
+  pub stretch-whole : Whole (take (to - from) (drop from ws))
+
+-- the runs after the token that closed one
+abbrev pub laterRuns : List ℕ → List Tokens
+laterRuns ws = filledOnes (afterward (tokensIn ws))

@@ -1,0 +1,146 @@
+// Translated from boreal's boreal/src/matcher/literals.rs (MIT OR Apache-2.0), commit 7010b5e967; see NOTICE.
+// The choice between the runs of a pattern, over token entries.
+ghost use mathlib.Core.Path.{_≡_};
+ghost use mathlib.Core.List.{List, [], _∷_};
+ghost use Prim.Native.Nat.{ℕ, _+_, _-_, _≤_, min};
+ghost use lib.ListN.{length, take, drop};
+ghost use Rattle.picking.specs.Literals.{literals};
+ghost use Rattle.picking.specs.Numbers.{count};
+ghost use Rattle.picking.specs.Runs.{filledOnes};
+ghost use Rattle.picking.specs.Choice.{least, beats, between, among, choice, unranked};
+ghost use Rattle.spelling.specs.Words.{tokensIn};
+ghost use Rattle.literals.specs.Ranks.{choiceSays};
+ghost use Rattle.literals.specs.Whole.{Whole};
+ghost use Rattle.literals.specs.declared.Pick.the-variants.{Taken};
+ghost use Rattle.chooser.specs.Kept.{Inside, Kept, Stretch, laterRuns};
+use literals::Pick;
+
+fn smaller(a: usize, b: usize) -> usize
+    ensures { λ r. ⌜ r ≡ min a b ⌝ }
+{
+    if a < b { a } else { b }
+}
+
+// The bytes of the shortest of n literals.
+fn shortest_of(ws: &[u32], n: usize) -> usize
+    requires { ⌜ (length (now ws) ≤ 4096) × (n ≡ count (tokensIn (now ws))) × (n ≤ 256) ⌝ }
+    ensures { λ r. ⌜ r ≡ least length (literals (tokensIn (now (ws .entry)))) ⌝ }
+{
+    if n == 0 {
+        return 0;
+    }
+    let mut shortest = generator::length_at(ws, 0);
+    let mut k = 1;
+    while k < n {
+        let s = generator::length_at(ws, k);
+        shortest = smaller(shortest, s);
+        k += 1;
+    }
+    shortest
+}
+
+// The bytes of the shortest literal.
+fn shortest_in(ws: &[u32]) -> usize
+    requires { ⌜ (length (now ws) ≤ 4096) × (count (tokensIn (now ws)) ≤ 256) ⌝ }
+    ensures { λ r. ⌜ r ≡ least length (literals (tokensIn (now (ws .entry)))) ⌝ }
+{
+    let t = spelling::tally_tokens(ws);
+    shortest_of(ws, t.literals)
+}
+
+// A higher rank, then a longer shortest literal.
+fn wins(new: &[u32], n: u32, old: &[u32], m: u32) -> bool
+    requires { ⌜ (length (now new) ≤ 4096) × (count (tokensIn (now new)) ≤ 256) × (length (now old) ≤ 4096) × (count (tokensIn (now old)) ≤ 256) ⌝ }
+    ensures { λ r. ⌜ r ≡ beats n (tokensIn (now (new .entry))) m (tokensIn (now (old .entry))) ⌝ }
+{
+    if m < n {
+        return true;
+    }
+    if n < m {
+        return false;
+    }
+    shortest_in(old) < shortest_in(new)
+}
+
+// A run's choice against what was taken so far from `from` to `to`, with rank m.
+fn against_taken(ws: &[u32], from: usize, to: usize, m: u32, next: Pick) -> Pick
+    requires { ⌜ (length (now ws) ≤ 4096) × Kept (now ws) (Taken from to m) × Kept (now ws) next ⌝ }
+    ensures { λ r. ⌜ (choiceSays (now (ws .entry)) r ≡ between (choiceSays (now (ws .entry)) (Taken from to m)) (choiceSays (now (ws .entry)) next)) × Kept (now (ws .entry)) r ⌝ }
+{
+    match next {
+        Pick::Nothing => Pick::Taken(from, to, m),
+        Pick::Taken(a, b, n) => {
+            if wins(&ws[a..b], n, &ws[from..to], m) {
+                return Pick::Taken(a, b, n);
+            }
+            Pick::Taken(from, to, m)
+        }
+        Pick::TooMany => Pick::TooMany,
+    }
+}
+
+// Between two runs: the one that beats the other, else the earlier.
+fn better(ws: &[u32], top: Pick, next: Pick) -> Pick
+    requires { ⌜ (length (now ws) ≤ 4096) × Kept (now ws) top × Kept (now ws) next ⌝ }
+    ensures { λ r. ⌜ (choiceSays (now (ws .entry)) r ≡ between (choiceSays (now (ws .entry)) top) (choiceSays (now (ws .entry)) next)) × Kept (now (ws .entry)) r ⌝ }
+{
+    match top {
+        Pick::Nothing => next,
+        Pick::Taken(from, to, m) => against_taken(ws, from, to, m, next),
+        Pick::TooMany => Pick::TooMany,
+    }
+}
+
+// A choice in a run of n words from `from` on, as one in all words. It is cut to the run, past whose end there is nothing to choose.
+fn shifted(p: Pick, from: usize, n: usize) -> Pick
+    requires { ⌜ from + n ≤ 4096 ⌝ }
+    ensures { λ r. ⌜ ((ws : List ℕ) → from + n ≤ length ws → choiceSays ws r ≡ choiceSays (take n (drop from ws)) p) × Inside (from + n) r ⌝ }
+{
+    match p {
+        Pick::Nothing => Pick::Nothing,
+        Pick::Taken(a, b, m) => {
+            let e = smaller(b, n);
+            let s = smaller(a, e);
+            Pick::Taken(from + s, from + e, m)
+        }
+        Pick::TooMany => Pick::TooMany,
+    }
+}
+
+// One more run, from `from` to `to`; an empty one is dropped.
+fn with_run(ws: &[u32], from: usize, to: usize, top: Pick) -> Pick
+    requires { ⌜ Stretch (now ws) from to × Kept (now ws) top ⌝ }
+    ensures { λ r. ⌜ (choiceSays (now (ws .entry)) r ≡ among (choiceSays (now (ws .entry)) top) (filledOnes (tokensIn (take (to - from) (drop from (now (ws .entry)))) ∷ []))) × Kept (now (ws .entry)) r ⌝ }
+{
+    if to <= from {
+        return top;
+    }
+    let p = literals::in_run(&ws[from..to]);
+    better(ws, top, shifted(p, from, to - from))
+}
+
+// What is chosen among the runs after the first segment, which ends at `first`.
+fn later_runs(ws: &[u32], first: usize) -> Pick
+    requires { ⌜ (length (now ws) ≤ 4096) × (first ≤ length (now ws)) × Whole (drop first (now ws)) ⌝ }
+    ensures { λ r. ⌜ (choiceSays (now (ws .entry)) r ≡ among unranked (laterRuns (drop first (now (ws .entry))))) × Kept (now (ws .entry)) r ⌝ }
+{
+    let mut at = first;
+    let mut top = Pick::Nothing;
+    while 4 <= ws.len() - at {
+        let from = at + spelling::width_of(&ws[at..]);
+        let to = from + literals::run_words(&ws[from..]);
+        top = with_run(ws, from, to, top);
+        at = to;
+    }
+    top
+}
+
+// What is chosen in a pattern: among the second run, the third and so on, the first last.
+pub fn choose(ws: &[u32]) -> Pick
+    requires { ⌜ (length (now ws) ≤ 4096) × Whole (now ws) ⌝ }
+    ensures { λ r. ⌜ (choiceSays (now (ws .entry)) r ≡ choice (tokensIn (now (ws .entry)))) × Kept (now (ws .entry)) r ⌝ }
+{
+    let first = literals::run_words(ws);
+    let later = later_runs(ws, first);
+    with_run(ws, 0, first, later)
+}
