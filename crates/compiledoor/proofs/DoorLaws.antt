@@ -24,6 +24,7 @@ use Rattle.reading.proofs.Kept.{Keeps, accepted-keeps}
 use Rattle.readdoor.specs.declared.ReadAnswer.{ReadAnswer}
 use Rattle.readdoor.specs.declared.ReadAnswer.the-variants as reads
 use Rattle.readdoor.specs.Door as read
+use Rattle.readdoor.proofs.Got as into
 use Rattle.compiling.specs.Compile.{Compiled, compiled, refused, compile}
 use Rattle.compiling.proofs.TokenSpans.{any-spelled}
 use Rattle.compiler.specs.declared.Made.{Made}
@@ -62,54 +63,21 @@ pub record Got (t q : List ℕ) (e u : ℕ) : Type 0 where
   pub whole : Entered (take (u - 0) (drop 0 q))
 
 module _ (t p q : List ℕ) (r : ReadAnswer) (a : read.said r ≡ read.readSays t p) (b : q ≡ read.readLeaves t p) (l : 4096 ≤ length p) where
-  says-it : read.said r ≡ read.outcomeSays (reading t)
-  unfolding read.readSays
-  says-it = a ∙ rw (le-leb 4096 (length p) l)
-
-  leaves-it : q ≡ read.outcomeLeaves (reading t) p
-  unfolding read.readLeaves
-  leaves-it = b ∙ rw (le-leb 4096 (length p) l)
-
-  got-from : (e u : ℕ) → r ≡ reads.Read e u → (x : Outcome) → reading t ≡ x → Got t q e u
-  unfolding read.outcomeSays read.outcomeLeaves filled
-  got-from e u f (accepted e′ ts) g =
-      let s : read.gives e u ≡ read.gives e′ (length (entries ts)) = sym (ap read.said f) ∙ says-it ∙ ap read.outcomeSays g in
-      let ee : e ≡ e′ = cc in
-      let eu : u ≡ length (entries ts) = cc in
-      let h : reading t ≡ accepted e ts = g ∙ ap (λ (x : ℕ). accepted x ts) (sym ee) in
-      let m : length (entries ts) ≤ 4092 = accepted-words t e ts h in
-      let z : u - 0 ≡ u = omega arith in
-      let w : take (u - 0) (drop 0 q) ≡ entries ts =
-      ap₂ take z (leaves-it ∙ ap (λ (x : Outcome). read.outcomeLeaves x p) g) ∙ take-at (entries ts) (replicate (4096 - length (entries ts)) 0 ++ drop 4096 p) u (sym eu) in
-      let s′ : Spelled ts = accepted-spelled t e ts h in
-      record {
-        tokens = ts;
-        outcome = h;
-        spelled = s′;
-        words = w;
-        fits = omega arith;
-        whole = record { tokens = ts; entered = w; spelled = s′; short = omega (arith, ap length w) };
-      }
-  got-from e u f (rejected x y) g =
-      let s : read.gives e u ≡ read.refuses (numberOf x) y = sym (ap read.said f) ∙ says-it ∙ ap read.outcomeSays g in
-      never (cc)
-
   pub got : (e u : ℕ) → r ≡ reads.Read e u → Got t q e u
-  got e u f = got-from e u f (reading t) refl
-
-  refused-from : (c : Refusal) (y : ℕ) → r ≡ reads.Refused c y → (x : Outcome) → reading t ≡ x → reading t ≡ rejected c y
-  unfolding read.outcomeSays
-  refused-from c y f (accepted e ts) g =
-      let s : read.refuses (numberOf c) y ≡ read.gives e (length (entries ts)) = sym (ap read.said f) ∙ says-it ∙ ap read.outcomeSays g in
-      never (cc)
-  refused-from c y f (rejected x z) g =
-      let s : read.refuses (numberOf c) y ≡ read.refuses (numberOf x) z = sym (ap read.said f) ∙ says-it ∙ ap read.outcomeSays g in
-      let n : numberOf c ≡ numberOf x = cc in
-      let m : y ≡ z = cc in
-      g ∙ ap₂ rejected (sym (number-one c x n)) (sym m)
+  got e u f =
+      let g = into.got t p q r a b l e u f in
+      let s : Spelled (g .tokens) = accepted-spelled t e (g .tokens) (g .outcome) in
+      record {
+        tokens = g .tokens;
+        outcome = g .outcome;
+        spelled = s;
+        words = g .words;
+        fits = g .fits;
+        whole = record { tokens = g .tokens; entered = g .words; spelled = s; short = omega (arith, ap length (g .words), g .few) };
+      }
 
   pub got-refused : (c : Refusal) (y : ℕ) → r ≡ reads.Refused c y → reading t ≡ rejected c y
-  got-refused c y f = refused-from c y f (reading t) refl
+  got-refused c y f = into.got-refused t p q r a b l c y f
 
 -- compiled
 made-text : (c : Compiled) (m : Made) (p p′ q q′ : List ℕ) → Makes c m p p′ q q′ → (madeSays m ≡ compiledSays c) × (p′ ≡ compiledForward c p) × (q′ ≡ compiledReverse c q)

@@ -2,3 +2,4 @@
 pub mod DoorLaws
 pub mod Single
 pub mod Tokens
+pub mod Got

@@ -1,0 +1,74 @@
+-- What a caller knows of a pool that a text was read into, in each arm of a match on the answer. Assumes nothing.
+use mathlib.Core.Path.{_≡_, refl, sym, ap, ap₂, _∙_}
+use mathlib.Core.List.{List, _++_}
+use Prim.Native.Nat.{ℕ, _-_, _≤_}
+use native.Mathlib.Omega.{arith}
+use lib.ListN.{length, take, drop, replicate}
+use lib.Seq.{take-at}
+use borrow.Author.Tests.{le-leb}
+use Rattle.base.specs.declared.Refusal.{Refusal}
+use Rattle.base.specs.Refusals.{numberOf}
+use Rattle.base.specs.Pools.{filled}
+use Rattle.base.proofs.RefusalLaws.{number-one}
+use Rattle.meaning.specs.Tokens.{Tokens}
+use Rattle.meaning.specs.Entries.{entries}
+use Rattle.reading.specs.Lists.{Outcome, accepted, rejected, reading}
+use Rattle.reading.proofs.PieceLaws.{never}
+use Rattle.reading.proofs.TextLaws.{accepted-words}
+use Rattle.readdoor.specs.declared.ReadAnswer.{ReadAnswer}
+use Rattle.readdoor.specs.declared.ReadAnswer.the-variants.{Read, Refused}
+use Rattle.readdoor.specs.Door.{gives, refuses, said, outcomeSays, outcomeLeaves, readSays, readLeaves}
+
+-- the text is accepted, and its entries are the first u words of the pool q
+pub record Got (t q : List ℕ) (e u : ℕ) : Type 0 where
+  pub tokens : Tokens
+  pub outcome : reading t ≡ accepted e tokens
+  pub words : take (u - 0) (drop 0 q) ≡ entries tokens
+  pub few : length (entries tokens) ≤ 4092
+  pub fits : u ≤ 4096
+
+module _ (t p q : List ℕ) (r : ReadAnswer) (a : said r ≡ readSays t p) (b : q ≡ readLeaves t p) (l : 4096 ≤ length p) where
+  says-it : said r ≡ outcomeSays (reading t)
+  unfolding readSays
+  says-it = a ∙ rw (le-leb 4096 (length p) l)
+
+  leaves-it : q ≡ outcomeLeaves (reading t) p
+  unfolding readLeaves
+  leaves-it = b ∙ rw (le-leb 4096 (length p) l)
+
+  got-from : (e u : ℕ) → r ≡ Read e u → (x : Outcome) → reading t ≡ x → Got t q e u
+  unfolding outcomeSays outcomeLeaves filled
+  got-from e u f (accepted e′ ts) g =
+      let s : gives e u ≡ gives e′ (length (entries ts)) = sym (ap said f) ∙ says-it ∙ ap outcomeSays g in
+      let ee : e ≡ e′ = cc in
+      let eu : u ≡ length (entries ts) = cc in
+      let h : reading t ≡ accepted e ts = g ∙ ap (λ (x : ℕ). accepted x ts) (sym ee) in
+      let m : length (entries ts) ≤ 4092 = accepted-words t e ts h in
+      let z : u - 0 ≡ u = omega arith in
+      record {
+        tokens = ts;
+        outcome = h;
+        words = ap₂ take z (leaves-it ∙ ap (λ (x : Outcome). outcomeLeaves x p) g) ∙ take-at (entries ts) (replicate (4096 - length (entries ts)) 0 ++ drop 4096 p) u (sym eu);
+        few = m;
+        fits = omega arith;
+      }
+  got-from e u f (rejected x y) g =
+      let s : gives e u ≡ refuses (numberOf x) y = sym (ap said f) ∙ says-it ∙ ap outcomeSays g in
+      never (cc)
+
+  pub got : (e u : ℕ) → r ≡ Read e u → Got t q e u
+  got e u f = got-from e u f (reading t) refl
+
+  refused-from : (c : Refusal) (y : ℕ) → r ≡ Refused c y → (x : Outcome) → reading t ≡ x → reading t ≡ rejected c y
+  unfolding outcomeSays
+  refused-from c y f (accepted e ts) g =
+      let s : refuses (numberOf c) y ≡ gives e (length (entries ts)) = sym (ap said f) ∙ says-it ∙ ap outcomeSays g in
+      never (cc)
+  refused-from c y f (rejected x z) g =
+      let s : refuses (numberOf c) y ≡ refuses (numberOf x) z = sym (ap said f) ∙ says-it ∙ ap outcomeSays g in
+      let n : numberOf c ≡ numberOf x = cc in
+      let m : y ≡ z = cc in
+      g ∙ ap₂ rejected (sym (number-one c x n)) (sym m)
+
+  pub got-refused : (c : Refusal) (y : ℕ) → r ≡ Refused c y → reading t ≡ rejected c y
+  got-refused c y f = refused-from c y f (reading t) refl
