@@ -1,0 +1,102 @@
+-- From what was read and chosen to what the door says. Assumes nothing.
+use mathlib.Core.Path.{_≡_, refl, sym, ap, ap₂, _∙_, subst}
+use mathlib.Core.Bool.{Bool, true, false, cond, not, _&&_}
+use mathlib.Core.List.{List, [], _∷_, _++_}
+use Prim.Native.Nat.{ℕ, _-_, _≤_}
+use native.Mathlib.Omega.{arith}
+use lib.Dec.{leb}
+use lib.ListN.{length, take, drop}
+use borrow.Author.Tests.{le-leb}
+use Rattle.base.specs.declared.Refusal.{Refusal}
+use Rattle.base.specs.Refusals.{numberOf}
+use Rattle.meaning.specs.Tokens.{Tokens}
+use Rattle.meaning.specs.Entries.{entries}
+use Rattle.reading.specs.Lists.{Outcome, accepted, rejected, reading}
+use Rattle.picking.specs.Literals.{literals}
+use Rattle.picking.specs.Runs.{plain, segments, firstLast, filledOnes, runs}
+use Rattle.picking.specs.Choice.{Choice, unranked, chosen, tooMany, among, choice, Picked, picked, unpicked, taking, pick}
+use Rattle.spelling.specs.Words.{tokensIn}
+use Rattle.generator.specs.declared.Wrote.{Wrote}
+use Rattle.generator.specs.declared.Wrote.the-variants.{All, NoRoom}
+use Rattle.generator.specs.Output as output
+use Rattle.generator.proofs.Arms.{wrote-all, wrote-none}
+use Rattle.literals.specs.declared.Pick.{Pick}
+use Rattle.literals.specs.declared.Pick.the-variants.{Nothing, Taken, TooMany}
+use Rattle.literals.specs.Ranks.{choiceSays}
+use Rattle.literals.specs.Whole.{Whole}
+use Rattle.literals.proofs.EntryLaws.{whole-entries, plain-entries, ranged, segments-entries}
+use Rattle.literals.proofs.ReadLaws.{accepted-ranged}
+use Rattle.literaldoor.specs.Door.{Said, gives, refuses, pickedSays, pickedBytes, pickedLengths, outcomeSays, outcomeBytes, outcomeLengths, literalsSays, bytesLeft, lengthsLeft, Picks}
+
+-- ---- what was written
+
+module _ (ls : List (List ℕ)) (rank : ℕ) (w : Wrote) (b l b′ l′ : List ℕ) (g : output.Generated ls w b l b′ l′) where
+  pub all-written : (n : ℕ) → w ≡ All n → Picks (picked rank ls) (gives n rank) b l b′ l′
+  unfolding pickedSays pickedBytes pickedLengths
+  all-written n e =
+      let a = wrote-all ls w b l b′ l′ g n e in
+      (ap (λ (x : ℕ). gives x rank) (a .number) ∙ sym (ap (λ (t : Bool). cond t (gives (length ls) rank) (refuses 18 0)) (a .fitting)), g .bytes-are, g .lengths-are)
+
+  pub none-written : w ≡ NoRoom → Picks (picked rank ls) (refuses 18 0) b l b′ l′
+  unfolding pickedSays pickedBytes pickedLengths
+  none-written e =
+      let a = wrote-none ls w b l b′ l′ g e in
+      (sym (ap (λ (t : Bool). cond t (gives (length ls) rank) (refuses 18 0)) (a .short)), g .bytes-are, g .lengths-are)
+
+-- ---- what was chosen
+
+module _ (ws : List ℕ) (p : Pick) (b l : List ℕ) where
+  pub nothing-chosen : p ≡ Nothing → Picks (taking (choiceSays ws p)) (gives 0 0) b l b l
+  unfolding taking pickedSays pickedBytes pickedLengths output.fits output.joined output.lengthsOf output.bytesLeft output.lengthsLeft
+  nothing-chosen e = subst (λ (x : Pick). Picks (taking (choiceSays ws x)) (gives 0 0) b l b l) (sym e) none-needed
+    where
+      room : (leb 0 (length l) && leb 0 (length b)) ≡ true
+      room = rw (le-leb 0 (length l) (let z : 0 ≤ length l = omega arith in z), le-leb 0 (length b) (let z : 0 ≤ length b = omega arith in z))
+
+      none-needed : Picks (picked 0 []) (gives 0 0) b l b l
+      none-needed = rw room (refl, refl, refl)
+
+  pub too-many : p ≡ TooMany → Picks (taking (choiceSays ws p)) (refuses 17 0) b l b l
+  unfolding taking pickedSays pickedBytes pickedLengths
+  too-many e = subst (λ (x : Pick). Picks (taking (choiceSays ws x)) (refuses 17 0) b l b l) (sym e) (refl, refl, refl)
+
+  pub words-chosen : (from to rank : ℕ) (s : Said) (b′ l′ : List ℕ) → p ≡ Taken from to rank → Picks (picked rank (literals (tokensIn (take (to - from) (drop from ws))))) s b l b′ l′ → Picks (taking (choiceSays ws p)) s b l b′ l′
+  unfolding taking
+  words-chosen from to rank s b′ l′ e h = subst (λ (x : Pick). Picks (taking (choiceSays ws x)) s b l b′ l′) (sym e) h
+
+-- ---- 19, or the choice
+
+pub not-plain : (ts : Tokens) (b l : List ℕ) → plain ts ≡ false → Picks (pick ts) (refuses 19 0) b l b l
+unfolding pick pickedSays pickedBytes pickedLengths
+not-plain ts b l e = rw e (refl, refl, refl)
+
+pub plain-chosen : (ts : Tokens) (c : Choice) (s : Said) (b l b′ l′ : List ℕ) → plain ts ≡ true → c ≡ choice ts → Picks (taking c) s b l b′ l′ → Picks (pick ts) s b l b′ l′
+unfolding pick
+plain-chosen ts c s b l b′ l′ e f h = rw e (subst (λ (x : Choice). Picks (taking x) s b l b′ l′) f h)
+
+-- ---- the entries of a text are taken for its tokens
+
+pub pick-entries : (ts : Tokens) → ranged ts → pick (tokensIn (entries ts)) ≡ pick ts
+unfolding pick choice runs
+pick-entries ts h = go (plain ts) refl
+  where
+    go : (t : Bool) → plain ts ≡ t → pick (tokensIn (entries ts)) ≡ pick ts
+    go true e =
+        rw (plain-entries ts, e) (ap (λ (ss : List Tokens). taking (among unranked (filledOnes (firstLast ss)))) (segments-entries ts e h))
+    go false e = rw (plain-entries ts, e)
+
+-- the door
+abbrev pub Door : List ℕ → Said → List ℕ → List ℕ → List ℕ → List ℕ → Type 0
+Door t s b l b′ l′ = (s ≡ literalsSays t b l) × (b′ ≡ bytesLeft t b l) × (l′ ≡ lengthsLeft t b l)
+
+pub text-refused : (t : List ℕ) (c : Refusal) (y : ℕ) (b l : List ℕ) → reading t ≡ rejected c y → Door t (refuses (numberOf c) y) b l b l
+unfolding outcomeSays outcomeBytes outcomeLengths
+text-refused t c y b l g = rw g (refl, refl, refl)
+
+pub text-picked : (t : List ℕ) (e : ℕ) (ts : Tokens) (ws : List ℕ) (s : Said) (b l b′ l′ : List ℕ) → reading t ≡ accepted e ts → ws ≡ entries ts → Picks (pick (tokensIn ws)) s b l b′ l′ → Door t s b l b′ l′
+unfolding outcomeSays outcomeBytes outcomeLengths
+text-picked t e ts ws s b l b′ l′ g w h =
+    rw g (subst (λ (x : Picked). Picks x s b l b′ l′) (ap (λ (x : List ℕ). pick (tokensIn x)) w ∙ pick-entries ts (accepted-ranged t e ts g)) h)
+
+pub entries-whole : (ts : Tokens) (ws : List ℕ) → ws ≡ entries ts → length (entries ts) ≤ 4092 → (length ws ≤ 4096) × Whole ws
+entries-whole ts ws w h = (let l = ap length w in omega arith, subst Whole (sym w) (whole-entries ts))

@@ -1,0 +1,2 @@
+-- The laws of the literal door.
+pub mod DoorLaws

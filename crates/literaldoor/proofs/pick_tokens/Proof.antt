@@ -1,0 +1,63 @@
+use native.Mathlib.Omega.{arith}
+use borrow.Author.Needs.{needs}
+use Rattle.literaldoor.proofs.DoorLaws as law
+use Rattle.literaldoor.specs.Door.{said}
+use Rattle.readdoor.proofs.Got as into
+use Rattle.chooser.proofs.BetweenLaws.{part-few}
+use Rattle.spelling.proofs.PartLaws.{not-true, not-false}
+use Rattle.literals.specs.Ranks.{choiceSays}
+use Rattle.chooser.specs.Kept.{Kept}
+use Rattle.picking.specs.Literals.{literals as literalsOf}
+use Rattle.spelling.specs.Words.{tokensIn}
+use lib.ListN.{length, take, drop}
+use native.Mathlib.Nat.{le-refl}
+use Prim.Native.Nat.{ℕ, _+_, _-_, _≤_, _<_}
+use mathlib.Core.List.{List}
+use mathlib.Core.Path.{_≡_, refl, sym, ap, ap₂, _∙_, subst}
+use Rattle.literaldoor.proofs.pick_tokens.Statement.{statement}
+use Rattle.literaldoor.proofs.pick_tokens.Tie as tie
+use Rattle.literaldoor.proofs.pick_tokens.Reads as reads
+use Rattle.literaldoor.proofs.pick_tokens.Lts as lts
+use Rattle.chooser.proofs.choose.Reads as choose-reads
+use Rattle.literaldoor.proofs.write_choice.Reads as write-choice-reads
+use Rattle.spelling.proofs.is_plain.Reads as is-plain-reads
+
+-- src/lib.rt:54:9
+is-plain-requires : tie.Need-is-plain-requires
+is-plain-requires c κs = search needs
+
+-- src/lib.rt:55:9
+returns : tie.Need-returns
+returns c = law.not-plain (tokensIn (c .before .before .before .before .before .args .ws .now)) (c .before .before .before .before .before .args .bytes .now) (c .before .before .before .before .before .args .lengths .now) (sym (c .before .is-plain .ensures) ∙ not-true _ (c .if1 .taken))
+
+-- src/lib.rt:57:9
+choose-requires : tie.Need-choose-requires
+choose-requires c κs = search needs
+
+-- src/lib.rt:58:5
+write-choice-requires : tie.Need-write-choice-requires
+write-choice-requires c κs = (c .before .before .before .before .before .before .before .before .pre .0, c .before .before .choose .ensures .1)
+
+-- src/lib.rt:50:1
+same-length : tie.Need-same-length
+same-length c = search needs
+
+-- src/lib.rt:50:1
+same-length-2 : tie.Need-same-length-2
+same-length-2 c = search needs
+
+-- src/lib.rt:50:1
+returns-2 : tie.Need-returns-2
+returns-2 c = law.plain-chosen (tokensIn (c .before .before .before .before .before .before .before .before .before .before .before .before .before .args .ws .now)) (choiceSays (c .before .before .before .before .before .before .before .before .before .before .before .before .before .args .ws .now) (c .before .before .before .before .before .before .before .choose .result)) (said (c .before .before .before .before .write-choice .result)) (c .before .before .before .before .before .before .before .before .before .before .before .before .before .args .bytes .now) (c .before .before .before .before .before .before .before .before .before .before .before .before .before .args .lengths .now) (c .before .before .before .before .write-choice .last .1 .1 .0) (c .before .before .before .before .write-choice .last .1 .1 .1 .0) (sym (c .before .before .before .before .before .before .before .before .before .is-plain .ensures) ∙ not-false _ (c .before .before .before .before .before .before .before .before .if1 .left)) (c .before .before .before .before .before .before .before .choose .ensures .0) (c .before .before .before .before .write-choice .ensures)
+
+pub pick-tokens-spec : {M : Type 1} → statement M
+pick-tokens-spec =
+    tie.close
+    (tie.spec
+    is-plain-requires
+    returns
+    choose-requires
+    write-choice-requires
+    same-length
+    same-length-2
+    returns-2)

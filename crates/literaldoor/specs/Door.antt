@@ -1,0 +1,61 @@
+-- What the literal door answers, and what it leaves in the two buffers. Assumes nothing: these are definitions.
+use mathlib.Core.Path.{_≡_}
+use mathlib.Core.Bool.{cond}
+use mathlib.Core.List.{List}
+use Prim.Native.Nat.{ℕ}
+use lib.ListN.{length}
+use Rattle.base.specs.Refusals.{numberOf}
+use Rattle.reading.specs.Lists.{Outcome, accepted, rejected, reading}
+use Rattle.picking.specs.Choice.{Picked, picked, unpicked, pick}
+use Rattle.generator.specs.Output as output
+use Rattle.literaldoor.specs.declared.LiteralsAnswer.{LiteralsAnswer}
+use Rattle.literaldoor.specs.declared.LiteralsAnswer.the-variants as answer
+
+-- 01's values: how many literals and their rank; or the refusal's number and its place
+pub data Said : Type 0 where
+  gives : ℕ → ℕ → Said
+  refuses : ℕ → ℕ → Said
+
+abbrev pub said : LiteralsAnswer → Said
+said (answer.Picked count rank) = gives count rank
+said (answer.Refused x place) = refuses (numberOf x) place
+
+-- a text's refusals have their places; 19, 17 and 18 have place 0, and 18 comes last
+unfoldable pub pickedSays : Picked → List ℕ → List ℕ → Said
+pickedSays (picked rank ls) b l = cond (output.fits ls b l) (gives (length ls) rank) (refuses 18 0)
+pickedSays (unpicked x) b l = refuses (numberOf x) 0
+
+unfoldable pub outcomeSays : Outcome → List ℕ → List ℕ → Said
+outcomeSays (accepted end ts) b l = pickedSays (pick ts) b l
+outcomeSays (rejected x place) b l = refuses (numberOf x) place
+
+-- the literals one after another, and the length of each; on a refusal nothing is written
+unfoldable pub pickedBytes : Picked → List ℕ → List ℕ → List ℕ
+pickedBytes (picked rank ls) b l = output.bytesLeft ls b l
+pickedBytes (unpicked x) b l = b
+
+unfoldable pub pickedLengths : Picked → List ℕ → List ℕ → List ℕ
+pickedLengths (picked rank ls) b l = output.lengthsLeft ls b l
+pickedLengths (unpicked x) b l = l
+
+unfoldable pub outcomeBytes : Outcome → List ℕ → List ℕ → List ℕ
+outcomeBytes (accepted end ts) b l = pickedBytes (pick ts) b l
+outcomeBytes (rejected x place) b l = b
+
+unfoldable pub outcomeLengths : Outcome → List ℕ → List ℕ → List ℕ
+outcomeLengths (accepted end ts) b l = pickedLengths (pick ts) b l
+outcomeLengths (rejected x place) b l = l
+
+-- of a text, and buffers that were b and l
+abbrev pub literalsSays : List ℕ → List ℕ → List ℕ → Said
+literalsSays t b l = outcomeSays (reading t) b l
+
+abbrev pub bytesLeft : List ℕ → List ℕ → List ℕ → List ℕ
+bytesLeft t b l = outcomeBytes (reading t) b l
+
+abbrev pub lengthsLeft : List ℕ → List ℕ → List ℕ → List ℕ
+lengthsLeft t b l = outcomeLengths (reading t) b l
+
+-- below the door: what is said of a pick, and the buffers that were b and l
+abbrev pub Picks : Picked → Said → List ℕ → List ℕ → List ℕ → List ℕ → Type 0
+Picks p s b l b′ l′ = (s ≡ pickedSays p b l) × (b′ ≡ pickedBytes p b l) × (l′ ≡ pickedLengths p b l)
