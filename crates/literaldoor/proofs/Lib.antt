@@ -1,2 +1,3 @@
 -- The laws of the literal door.
 pub mod DoorLaws
+pub mod Promises

@@ -8,8 +8,9 @@ use native.Mathlib.Omega.{arith}
 use native.Mathlib.Nat.{eq-or-lt-of-le}
 use lib.Dec.{eqb}
 use borrow.Author.Tests.{eqb-true, eqb-false, eq-eqb, ne-eqb}
+use Rattle.meaning.specs.Values.{Bytes}
 use Rattle.meaning.specs.Tokens.{Mask, left, right, all, Token, Tokens, Lists, Byte, NotByte, MaskedByte, NotMaskedByte, Jump, Alternatives, nothing, _then_, neither, _or_, Agrees, One, Matches, Spans, MatchesOne}
-use Rattle.picking.specs.Literals.{kept, passing, bytesThat, taken, isPlain, before, _⊗_, singles, followed, spelt, branched, literals, listableOf, listable, listableIn, Bytes}
+use Rattle.picking.specs.Literals.{kept, passing, bytesThat, taken, isPlain, before, _⊗_, singles, followed, spelt, branched, literals, listableOf, listable, listableIn}
 
 -- two pieces, the first of some literals and the second as asked
 abbrev pub Pieces : List (List ℕ) → (List ℕ → Type 0) → List ℕ → Type 0

@@ -7,8 +7,9 @@ use Prim.Native.Nat.{ℕ, _+_, _≤_}
 use native.Mathlib.Omega.{arith}
 use lib.ListN.{length}
 use Rattle.base.specs.declared.Refusal.the-variants.{NotPlain}
+use Rattle.meaning.specs.Values.{Bytes}
 use Rattle.meaning.specs.Tokens.{Token, Tokens, Byte, NotByte, MaskedByte, NotMaskedByte, Jump, Alternatives, nothing, _then_, Spans, _⊕_}
-use Rattle.picking.specs.Literals.{literals, lengthOf, lengthIn, Bytes, size, listedOf, listed}
+use Rattle.picking.specs.Literals.{literals, lengthOf, lengthIn, size, listedOf, listed}
 use Rattle.picking.specs.Runs.{plain}
 use Rattle.picking.specs.Choice.{Choice, unranked, chosen, tooMany, choice, picked, unpicked, taking, pick}
 use Rattle.picking.proofs.MatchLaws.{literals-are-spans}

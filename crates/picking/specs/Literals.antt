@@ -162,11 +162,6 @@ unfoldable mutual
   listableIn neither = true
   listableIn (ts or ls) = listable ts && listableIn ls
 
--- bytes, as a haystack has them
-unfoldable pub Bytes : List ℕ → Type 0
-Bytes [] = Unit {0}
-Bytes (b ∷ s) = (b < 256) × Bytes s
-
 unfoldable mutual
   -- tokens at every depth
   pub sizeOf : Token → ℕ

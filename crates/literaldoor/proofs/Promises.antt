@@ -1,0 +1,155 @@
+-- What picking a text's literals promises: its refusals exactly in their cases, the literals, and a single outcome. Assumes nothing.
+use mathlib.Core.Path.{_≡_, refl, sym, ap, ap₂, _∙_}
+use mathlib.Core.Bool.{Bool, true, false, cond}
+use mathlib.Core.Logic.{_↔_}
+use mathlib.Core.List.{List, List·Memᴰ}
+use Prim.Native.Nat.{ℕ, _≤_}
+use native.Mathlib.Omega.{arith}
+use lib.ListN.{length}
+use Rattle.base.specs.declared.Refusal.{Refusal}
+use Rattle.base.specs.declared.Refusal.the-variants.{TooManyLiterals, NotPlain}
+use Rattle.base.specs.Refusals.{numberOf}
+use Rattle.base.proofs.RefusalLaws.{number-one}
+use Rattle.meaning.specs.Tokens.{Tokens}
+use Rattle.reading.specs.Lists.{Outcome, accepted, rejected, reading}
+use Rattle.reading.proofs.PieceLaws.{never}
+use Rattle.picking.specs.Runs.{plain, runs}
+use Rattle.picking.specs.Choice.{Choice, unranked, chosen, tooMany, choice, Picked, picked, unpicked, taking, pick}
+use Rattle.picking.proofs.RefusalLaws.{Some, not-plain-is, too-many-given, too-many-only}
+use Rattle.picking.proofs.PickedLaws.{picked-few}
+use Rattle.generator.specs.Output as output
+use Rattle.literals.proofs.ReadLaws.{read-literal-bounds}
+use Rattle.literaldoor.specs.declared.LiteralsAnswer.{LiteralsAnswer}
+use Rattle.literaldoor.specs.declared.LiteralsAnswer.the-variants as answer
+use Rattle.literaldoor.specs.Door.{Said, gives, refuses, said, pickedSays, pickedBytes, pickedLengths, outcomeSays, outcomeBytes, outcomeLengths, literalsSays, bytesLeft, lengthsLeft}
+
+-- ---- what a pick says
+
+pick-refused : (p : Picked) (b l : List ℕ) (x : Refusal) → (numberOf x ≡ 18 → ⊥) → pickedSays p b l ≡ refuses (numberOf x) 0 → p ≡ unpicked x
+unfolding pickedSays
+pick-refused (picked rank ls) b l x n h = go (output.fits ls b l) refl
+  where
+    go : (t : Bool) → output.fits ls b l ≡ t → picked rank ls ≡ unpicked x
+    go true e = let k : gives (length ls) rank ≡ refuses (numberOf x) 0 = sym (ap (λ (t : Bool). cond t (gives (length ls) rank) (refuses 18 0)) e) ∙ h in never (cc)
+    go false e =
+        let k : refuses 18 0 ≡ refuses (numberOf x) 0 = sym (ap (λ (t : Bool). cond t (gives (length ls) rank) (refuses 18 0)) e) ∙ h in
+        let m : numberOf x ≡ 18 = cc in
+        absurd (n m)
+pick-refused (unpicked y) b l x n h = let m : numberOf y ≡ numberOf x = cc in ap unpicked (number-one y x m)
+
+refused-pick : (p : Picked) (b l : List ℕ) (x : Refusal) → p ≡ unpicked x → pickedSays p b l ≡ refuses (numberOf x) 0
+unfolding pickedSays
+refused-pick p b l x e = ap (λ (q : Picked). pickedSays q b l) e
+
+short-says : (rank : ℕ) (ls : List (List ℕ)) (b l : List ℕ) → output.fits ls b l ≡ false → pickedSays (picked rank ls) b l ≡ refuses 18 0
+unfolding pickedSays
+short-says rank ls b l e = ap (λ (t : Bool). cond t (gives (length ls) rank) (refuses 18 0)) e
+
+says-short : (rank : ℕ) (ls : List (List ℕ)) (b l : List ℕ) → pickedSays (picked rank ls) b l ≡ refuses 18 0 → output.fits ls b l ≡ false
+unfolding pickedSays
+says-short rank ls b l h = go (output.fits ls b l) refl
+  where
+    go : (t : Bool) → output.fits ls b l ≡ t → output.fits ls b l ≡ false
+    go true e = let k : gives (length ls) rank ≡ refuses 18 0 = sym (ap (λ (t : Bool). cond t (gives (length ls) rank) (refuses 18 0)) e) ∙ h in never (cc)
+    go false e = e
+
+-- a pick is never refused with 18: that is a matter of room
+never-eighteen : (ts : Tokens) (x : Refusal) → pick ts ≡ unpicked x → numberOf x ≡ 18 → ⊥
+unfolding pick taking
+never-eighteen ts x h n = go (plain ts) (choice ts) refl refl h
+  where
+    other : (y : Refusal) → (numberOf y ≡ 18 → ⊥) → unpicked y ≡ unpicked x → ⊥
+    other y f e = let k : y ≡ x = cc in f (ap numberOf k ∙ n)
+
+    go : (t : Bool) (c : Choice) → plain ts ≡ t → choice ts ≡ c → cond t (taking c) (unpicked NotPlain) ≡ unpicked x → ⊥
+    go true unranked p e q = let z : _≡_ {A = ℕ} 0 1 = cc in omega arith
+    go true (chosen m us) p e q = let z : _≡_ {A = ℕ} 0 1 = cc in omega arith
+    go true tooMany p e q = other TooManyLiterals (λ z. omega arith) q
+    go false c p e q = other NotPlain (λ z. omega arith) q
+
+refused-number : (x : Refusal) (b l : List ℕ) → pickedSays (unpicked x) b l ≡ refuses 18 0 → numberOf x ≡ 18
+unfolding pickedSays
+refused-number x b l h = cc
+
+-- literals that do not fit
+pub record Short (ts : Tokens) (b l : List ℕ) : Type 0 where
+  pub rank : ℕ
+  pub texts : List (List ℕ)
+  pub picks : pick ts ≡ picked rank texts
+  pub short : output.fits texts b l ≡ false
+
+-- Literals that were handed out: at most 256 of 1 to 512 bytes each, one after another at the front of the buffers, which else hold what they
+-- held.
+pub record Handed (t : List ℕ) (ts : Tokens) (b l : List ℕ) (n rank : ℕ) : Type 0 where
+  pub texts : List (List ℕ)
+  pub picks : pick ts ≡ picked rank texts
+  pub number : n ≡ length texts
+  pub few : n ≤ 256
+  pub sized : (s : List ℕ) → List·Memᴰ s texts → (1 ≤ length s) × (length s ≤ 512)
+  pub bytes-are : bytesLeft t b l ≡ output.over (output.joined texts) b
+  pub lengths-are : lengthsLeft t b l ≡ output.over (output.lengthsOf texts) l
+
+-- of a text that is read as the tokens ts, and any buffers
+module _ (t : List ℕ) (e : ℕ) (ts : Tokens) (read : reading t ≡ accepted e ts) (b l : List ℕ) where
+  says-pick : literalsSays t b l ≡ pickedSays (pick ts) b l
+  unfolding outcomeSays
+  says-pick = ap (λ (x : Outcome). outcomeSays x b l) read
+
+  -- 19 exactly if some alternatives hold more than bytes and classes
+  pub nineteen : (literalsSays t b l ≡ refuses 19 0) ↔ (plain ts ≡ false)
+  nineteen =
+      (λ h. not-plain-is ts .0 (pick-refused (pick ts) b l NotPlain (λ z. omega arith) (sym says-pick ∙ h)), λ h. says-pick ∙ refused-pick (pick ts) b l NotPlain (not-plain-is ts .1 h))
+
+  -- 17 exactly if they do not, and some candidate has more than 256 literals
+  pub seventeen : (literalsSays t b l ≡ refuses 17 0) ↔ ((plain ts ≡ true) × Some (runs ts))
+  seventeen = (
+    λ h. too-many-only ts (pick-refused (pick ts) b l TooManyLiterals (λ z. omega arith) (sym says-pick ∙ h)),
+    λ h. says-pick ∙ refused-pick (pick ts) b l TooManyLiterals (too-many-given ts (h .0) (h .1)),
+  )
+
+  -- 18 exactly if neither is given, and the literals or their lengths do not fit
+  pub eighteen : (literalsSays t b l ≡ refuses 18 0) ↔ Short ts b l
+  eighteen = (λ h. go (pick ts) refl (sym says-pick ∙ h), λ k. says-pick ∙ ap (λ (q : Picked). pickedSays q b l) (k .picks) ∙ short-says (k .rank) (k .texts) b l (k .short))
+    where
+      go : (p : Picked) → pick ts ≡ p → pickedSays (pick ts) b l ≡ refuses 18 0 → Short ts b l
+      go (picked rank ls) g h = record { rank = rank; texts = ls; picks = g; short = says-short rank ls b l (sym (ap (λ (q : Picked). pickedSays q b l) g) ∙ h) }
+      go (unpicked x) g h = absurd (never-eighteen ts x g (refused-number x b l (sym (ap (λ (q : Picked). pickedSays q b l) g) ∙ h)))
+
+  -- otherwise the literals are handed out
+  pub handed : (n rank : ℕ) → literalsSays t b l ≡ gives n rank → Handed t ts b l n rank
+  unfolding outcomeBytes outcomeLengths pickedSays pickedBytes pickedLengths output.bytesLeft output.lengthsLeft
+  handed n rank h = go (pick ts) refl
+    where
+      fitting : (m : ℕ) (ls : List (List ℕ)) → pick ts ≡ picked m ls → (x : Bool) → output.fits ls b l ≡ x → Handed t ts b l n rank
+      fitting m ls g true f =
+          let k : gives (length ls) m ≡ gives n rank = sym (says-pick ∙ ap (λ (q : Picked). pickedSays q b l) g ∙ ap (λ (x : Bool). cond x (gives (length ls) m) (refuses 18 0)) f) ∙ h in
+          let p : length ls ≡ n = cc in
+          let q : m ≡ rank = cc in
+          let g′ : pick ts ≡ picked rank ls = g ∙ ap (λ (x : ℕ). picked x ls) q in
+          record {
+            texts = ls;
+            picks = g′;
+            number = sym p;
+            few = (let z = picked-few ts m ls g in omega arith);
+            sized = λ s i. read-literal-bounds t e ts read m ls g s i;
+            bytes-are = ap (λ (x : Outcome). outcomeBytes x b l) read ∙ ap (λ (x : Picked). pickedBytes x b l) g ∙ ap (λ (x : Bool). cond x (output.over (output.joined ls) b) b) f;
+            lengths-are = ap (λ (x : Outcome). outcomeLengths x b l) read ∙ ap (λ (x : Picked). pickedLengths x b l) g ∙ ap (λ (x : Bool). cond x (output.over (output.lengthsOf ls) l) l) f;
+          }
+      fitting m ls g false f =
+          let k : refuses 18 0 ≡ gives n rank = sym (says-pick ∙ ap (λ (q : Picked). pickedSays q b l) g ∙ ap (λ (x : Bool). cond x (gives (length ls) m) (refuses 18 0)) f) ∙ h in
+          never (cc)
+
+      go : (p : Picked) → pick ts ≡ p → Handed t ts b l n rank
+      go (picked m ls) g = fitting m ls g (output.fits ls b l) refl
+      go (unpicked x) g = let k : refuses (numberOf x) 0 ≡ gives n rank = sym (says-pick ∙ ap (λ (q : Picked). pickedSays q b l) g) ∙ h in never (cc)
+
+-- an answer is known by what it says
+said-one : (a b : LiteralsAnswer) → said a ≡ said b → a ≡ b
+said-one (answer.Picked n r) (answer.Picked m s) h = let x : n ≡ m = cc in let y : r ≡ s = cc in ap₂ answer.Picked x y
+said-one (answer.Picked n r) (answer.Refused c x) h = never (cc)
+said-one (answer.Refused c x) (answer.Picked m s) h = never (cc)
+said-one (answer.Refused c x) (answer.Refused d y) h = let a : numberOf c ≡ numberOf d = cc in let b : x ≡ y = cc in ap₂ answer.Refused (number-one c d a) b
+
+-- the door's promise leaves one answer and one content of each buffer
+pub literals-single : (t b l : List ℕ) (a c : LiteralsAnswer) (u v x y : List ℕ) → said a ≡ literalsSays t b l → said c ≡ literalsSays t b l → u ≡ bytesLeft t b l → v ≡ bytesLeft t b l → x ≡ lengthsLeft t b l → y ≡ lengthsLeft t b l → (a ≡ c) × (u ≡ v) × (x ≡ y)
+literals-single t b l a c u v x y h k i j m n = (said-one a c (h ∙ sym k), i ∙ sym j, m ∙ sym n)
