@@ -13,6 +13,7 @@ use Rattle.reading.specs.Lists.{Outcome as Read, accepted, rejected, reading}
 use Rattle.compiling.specs.Compile.{Compiled, compiled as programs, refused as uncompiled, compile}
 use Rattle.picking.specs.Choice.{Picked as Choice, picked as chosen, unpicked as unchosen, pick}
 use Rattle.meaning.proofs.SoundLaws.{and-left}
+use Rattle.printing.specs.Laid.{Put}
 use Rattle.printing.specs.Lines.{literalsLines, joined, cut, refusedLine, literalsRefusedLine, picked, unpicked, pickedLines, compiled, refused, programsLines, listing}
 use Rattle.printing.proofs.ListingLaws.{cut-joined, programs-fit}
 use Rattle.base.specs.declared.Refusal.{Refusal}
@@ -199,8 +200,12 @@ made-sizes {o} {n} {m} {f} {r} d =
     let b : m ≤ 512 = d .reverse-few in
     (rw (length-take (n - 0) f) (omega arith), rw (length-take (m - 0) r) (omega arith))
 
-pub made-short : {o : Read} {n m : ℕ} {f r : List ℕ} → Made o n m f r → length (programsLines (take (n - 0) (drop 0 f)) (take (m - 0) (drop 0 r))) ≤ 14360
-made-short {o} {n} {m} {f} {r} d = programs-fit (take (n - 0) f) (take (m - 0) r) (made-sizes d .0) (made-sizes d .1)
+-- the lines of programs that small end early
+pub programs-end : {p q : List ℕ} (f r : List ℕ) {n : ℕ} → Put p 0 (programsLines f r) n q → length f ≤ 512 → length r ≤ 512 → n ≤ 14360
+programs-end {p} {q} f r {n} w h k =
+    let l : length (programsLines f r) ≤ 14360 = programs-fit f r h k in
+    let e : n ≡ 0 + length (programsLines f r) = w .next in
+    omega arith
 
 pub taken-size : {o : Read} {n rank : ℕ} {b l : List ℕ} → Taken o n rank b l → length (take (n - 0) (drop 0 l)) ≤ 256
 taken-size {o} {n} {rank} {b} {l} t = let a : n ≤ 256 = t .few in rw (length-take (n - 0) l) (omega arith)

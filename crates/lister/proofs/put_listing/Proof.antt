@@ -6,7 +6,7 @@ use Rattle.reading.specs.Lists.{reading}
 use Rattle.printing.specs.Lines.{refusedLine}
 use Rattle.printing.proofs.LaidLaws.{put-then, put-same}
 use Rattle.lister.specs.Listings.{listingOf}
-use Rattle.lister.proofs.DoorLaws.{Made, made-door, refused-door, made-lines, refused-lines, made-sizes, made-short, zeros, length-zeros}
+use Rattle.lister.proofs.DoorLaws.{Made, made-door, refused-door, made-lines, refused-lines, made-sizes, programs-end, zeros, length-zeros}
 use native.Mathlib.Omega.{arith}
 use borrow.Author.Needs.{needs}
 use Rattle.lister.proofs.put_listing.Statement.{statement}
@@ -72,8 +72,8 @@ put-programs-requires c κs =
 put-picked-requires : tie.Need-put-picked-requires
 put-picked-requires c κs =
     let t = made-here (c .before .before .before .before .before .before .before .before .before .before) in
-    let l = made-short t in
-    let m = c .before .before .before .put-programs .ensures .next in
+    let s = made-sizes t in
+    let l = programs-end _ _ (c .before .before .before .put-programs .ensures) (omega arith) (omega arith) in
     omega arith
 
 enum-known-got-2 : tie.Need-enum-known-got-2
