@@ -1,1 +1,4 @@
 pub mod Samples
+pub mod DoorLaws
+pub mod RankLaws
+pub mod Promises

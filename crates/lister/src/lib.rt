@@ -1,1 +1,57 @@
 // The listing of a text, as the listing program writes it.
+use compiledoor::CompileAnswer;
+use literaldoor::LiteralsAnswer;
+use printing::Listed;
+ghost use mathlib.Core.Path.{_≡_};
+ghost use Prim.Native.Nat.{_<_, _^_};
+ghost use lib.ListN.{length};
+ghost use Rattle.reading.specs.Lists.{reading};
+ghost use Rattle.printing.specs.Laid.{laid, Put};
+ghost use Rattle.printing.specs.Lines.{pickedLines};
+ghost use Rattle.printing.specs.Listed.{listedOf};
+ghost use Rattle.lister.specs.Listings.{pickedOf, listingOf};
+
+// Picks the literals, into bytes and lengths of its own, and writes their lines.
+fn put_picked(text: &[u8], out: &mut [u8], at: usize) -> usize
+    requires { ⌜ at < 2 ^ 32 ⌝ }
+    ensures { λ r. ⌜ Put (now (out .entry)) at (pickedLines (pickedOf (reading (now (text .entry))))) r (now (out .exit)) ⌝ }
+{
+    let mut bytes = [0u8; 32768];
+    let mut lens = [0u16; 256];
+    let got = literaldoor::literals(text, &mut bytes, &mut lens);
+    match got {
+        LiteralsAnswer::Picked { count, rank } => {
+            printing::put_literals(out, at, rank as usize, &lens[0..count], &bytes)
+        }
+        LiteralsAnswer::Refused(why, _) => {
+            printing::put_literals_refused(out, at, why.number() as usize)
+        }
+    }
+}
+
+// Compiles the text, into pools of its own, and writes all the lines.
+fn put_listing(text: &[u8], out: &mut [u8]) -> usize
+    ensures { λ r. ⌜ Put (now (out .entry)) 0 (listingOf (now (text .entry))) r (now (out .exit)) ⌝ }
+{
+    let mut forward = [0u32; 512];
+    let mut reverse = [0u32; 512];
+    let got = compiledoor::compile(text, &mut forward, &mut reverse);
+    match got {
+        CompileAnswer::Compiled(n, m) => {
+            let k = printing::put_programs(out, &forward[0..n], &reverse[0..m]);
+            put_picked(text, out, k)
+        }
+        CompileAnswer::Refused(why, place) => {
+            printing::put_refused(out, 0, why.number() as usize, place)
+        }
+    }
+}
+
+// Writes the listing of a text: its length, and whether it fits. What fits is written in either case.
+pub fn list_pattern(text: &[u8], out: &mut [u8]) -> Listed
+    ensures { λ r. ⌜ (r ≡ listedOf (length (listingOf (now (text .entry)))) (length (now (out .entry))))
+        × (now (out .exit) ≡ laid (now (out .entry)) 0 (listingOf (now (text .entry)))) ⌝ }
+{
+    let n = put_listing(text, out);
+    printing::room_for(n, out.len())
+}

@@ -1,0 +1,211 @@
+-- What the doors' answers mean for the listing. Assumes nothing.
+use mathlib.Core.Path.{_≡_, refl, sym, ap, ap₂, _∙_}
+use mathlib.Core.Bool.{Bool, true, false, _&&_}
+use mathlib.Core.List.{List, [], _∷_, _++_, map}
+use Prim.Native.Nat.{ℕ, _+_, _-_, _≤_}
+use native.Mathlib.Omega.{arith}
+use lib.Dec.{leb}
+use borrow.Author.Tests.{leb-true}
+use lib.ListN.{length, take, drop, replicate, length-append, length-replicate, length-take, length-map}
+use lib.Seq.{take-at}
+use Rattle.base.specs.Pools.{filled}
+use Rattle.reading.specs.Lists.{Outcome as Read, accepted, rejected, reading}
+use Rattle.compiling.specs.Compile.{Compiled, compiled as programs, refused as uncompiled, compile}
+use Rattle.picking.specs.Choice.{Picked as Choice, picked as chosen, unpicked as unchosen, pick}
+use Rattle.meaning.proofs.SoundLaws.{and-left}
+use Rattle.printing.specs.Laid.{Put}
+use Rattle.printing.specs.Lines.{literalsLines, joined, cut, refusedLine, literalsRefusedLine, picked, unpicked, pickedLines, compiled, refused, programsLines, listing}
+use Rattle.printing.proofs.ListingLaws.{cut-joined, programs-fit}
+use Rattle.base.specs.declared.Refusal.{Refusal}
+use Rattle.base.specs.Refusals.{numberOf}
+use Rattle.compiledoor.specs.declared.CompileAnswer.{CompileAnswer}
+use Rattle.compiledoor.specs.declared.CompileAnswer.the-variants.{Compiled as Compiled', Refused as Unmade}
+use Rattle.literaldoor.specs.declared.LiteralsAnswer.{LiteralsAnswer}
+use Rattle.literaldoor.specs.declared.LiteralsAnswer.the-variants.{Picked as Picked', Refused as Untaken}
+use Rattle.compiledoor.specs.Door as made
+use Rattle.literaldoor.specs.Door as taken
+use Rattle.generator.specs.Output as output
+use Rattle.lister.specs.Listings.{withRoom, withPrograms, pickedOf, outcome, listingOf}
+
+-- the used words stand first in a pool that was filled
+filled-front : (ws p q : List ℕ) (n : ℕ) → n ≡ length ws → q ≡ filled 512 ws p → take n q ≡ ws
+unfolding filled
+filled-front ws p q n h e = ap (take n) e ∙ take-at ws (replicate (512 - length ws) 0 ++ drop 512 p) n (sym h)
+
+-- and are no more than it has
+filled-few : (ws p q : List ℕ) (n : ℕ) → n ≡ length ws → q ≡ filled 512 ws p → length q ≡ 512 → n ≤ 512
+unfolding filled
+filled-few ws p q n h e l =
+    let k : length (ws ++ (replicate (512 - length ws) 0 ++ drop 512 p)) ≡ length ws + length (replicate (512 - length ws) 0 ++ drop 512 p) = length-append ws (replicate (512 - length ws) 0 ++ drop 512 p) in
+    let m : length q ≡ length (ws ++ (replicate (512 - length ws) 0 ++ drop 512 p)) = ap length e in
+    omega arith
+
+-- both programs are in the pools
+pub record Made (o : Read) (n m : ℕ) (f r : List ℕ) : Type 0 where
+  pub forward-few : n ≤ 512
+  pub reverse-few : m ≤ 512
+  pub lists : outcome o ≡ compiled (take n f) (take m r) (pickedOf o)
+
+pub says-made : (o : Read) (f r f' r' : List ℕ) (n m : ℕ) → length f' ≡ 512 → length r' ≡ 512 → made.gives n m ≡ made.outcomeSays o → f' ≡ made.outcomeForward o f → r' ≡ made.outcomeReverse o r → Made o n m f' r'
+unfolding made.outcomeSays made.outcomeForward made.outcomeReverse made.compiledSays made.compiledForward made.compiledReverse outcome pickedOf withPrograms
+says-made (rejected x place) f r f' r' n m lf lr e ef er = let z : _≡_ {A = ℕ} 0 1 = cc in absurd (omega arith)
+says-made (accepted end ts) f r f' r' n m lf lr e ef er = go (compile ts) refl
+  where
+    go : (c : Compiled) → compile ts ≡ c → Made (accepted end ts) n m f' r'
+    go (uncompiled x) h = let e' : made.gives n m ≡ made.compiledSays (uncompiled x) = rw h at e in let z : _≡_ {A = ℕ} 0 1 = cc in absurd (omega arith)
+    go (programs fw rv) h =
+        let e' : made.gives n m ≡ made.gives (length fw) (length rv) = rw h at e in
+        let ef' : f' ≡ filled 512 fw f = rw h at ef in
+        let er' : r' ≡ filled 512 rv r = rw h at er in
+        let hn : n ≡ length fw = cc in
+        let hm : m ≡ length rv = cc in record {
+          forward-few = filled-few fw f f' n hn ef' lf;
+          reverse-few = filled-few rv r r' m hm er' lr;
+          lists = rw h (ap (λ (x : List ℕ). compiled x rv (withRoom (pick ts))) (sym (filled-front fw f f' n hn ef')) ∙ ap (λ (x : List ℕ). compiled (take n f') x (withRoom (pick ts))) (sym (filled-front rv r r' m hm er')));
+        }
+
+pub says-refused : (o : Read) (k place : ℕ) → made.refuses k place ≡ made.outcomeSays o → outcome o ≡ refused k place
+unfolding made.outcomeSays made.compiledSays outcome withPrograms
+says-refused (rejected x p) k place e = cc
+says-refused (accepted end ts) k place e = go (compile ts) refl
+  where
+    go : (c : Compiled) → compile ts ≡ c → withPrograms (compile ts) (withRoom (pick ts)) ≡ refused k place
+    go (uncompiled x) h = let e' : made.refuses k place ≡ made.compiledSays (uncompiled x) = rw h at e in rw h (cc)
+    go (programs fw rv) h = let e' : made.refuses k place ≡ made.compiledSays (programs fw rv) = rw h at e in let z : _≡_ {A = ℕ} 0 1 = cc in absurd (omega arith)
+
+-- the literals are in the buffers
+pub record Taken (o : Read) (n rank : ℕ) (b l : List ℕ) : Type 0 where
+  pub few : n ≤ 256
+  pub lists : pickedOf o ≡ picked rank (cut (take n l) b)
+
+-- the two crates join the literals' bytes alike, and have the same lengths
+same-joined : (ls : List (List ℕ)) → output.joined ls ≡ joined ls
+unfolding output.joined joined
+same-joined [] = refl
+same-joined (l ∷ ls) = ap (λ (x : List ℕ). l ++ x) (same-joined ls)
+
+same-lengths : (ls : List (List ℕ)) → output.lengthsOf ls ≡ map length ls
+unfolding output.lengthsOf
+same-lengths [] = refl
+same-lengths (l ∷ ls) = ap (λ (x : List ℕ). length l ∷ x) (same-lengths ls)
+
+-- of buffers of the lent sizes
+module _ (b l : List ℕ) (lb : length b ≡ 32768) (ll : length l ≡ 256) where
+  -- room there is room here
+  same-room : (ls : List (List ℕ)) → output.fits ls b l ≡ (leb (length ls) 256 && leb (length (joined ls)) 32768)
+  unfolding output.fits
+  same-room ls =
+      ap₂ (λ (x y : ℕ). leb (length ls) x && leb (length (output.joined ls)) y) ll lb
+      ∙ ap (λ (x : List ℕ). leb (length ls) 256 && leb (length x) 32768) (same-joined ls)
+
+  -- all literals are cut out of what was written
+  cut-written : (ls : List (List ℕ)) (b' l' : List ℕ) (n : ℕ) → n ≡ length ls → b' ≡ output.over (output.joined ls) b → l' ≡ output.over (output.lengthsOf ls) l → cut (take n l') b' ≡ ls
+  cut-written ls b' l' n hn eb el =
+      let e = same-lengths ls in
+      let ml : length (output.lengthsOf ls) ≡ n = ap length e ∙ length-map ls length ∙ sym hn in
+      let tl : take n l' ≡ map length ls = ap (take n) el ∙ take-at (output.lengthsOf ls) (drop (length (output.lengthsOf ls)) l) n ml ∙ e in
+      let bl : b' ≡ joined ls ++ drop (length (output.joined ls)) b = eb ∙ ap (λ (x : List ℕ). x ++ drop (length (output.joined ls)) b) (same-joined ls) in
+      ap₂ (λ (x y : List ℕ). cut x y) tl bl ∙ cut-joined ls (drop (length (output.joined ls)) b)
+
+  pub says-taken : (o : Read) (b' l' : List ℕ) (n rank : ℕ) → taken.gives n rank ≡ taken.outcomeSays o b l → b' ≡ taken.outcomeBytes o b l → l' ≡ taken.outcomeLengths o b l → Taken o n rank b' l'
+  unfolding taken.outcomeSays taken.outcomeBytes taken.outcomeLengths taken.pickedSays taken.pickedBytes taken.pickedLengths output.bytesLeft output.lengthsLeft pickedOf withRoom
+  says-taken (rejected x place) b' l' n rank e eb el = let z : _≡_ {A = ℕ} 0 1 = cc in absurd (omega arith)
+  says-taken (accepted end ts) b' l' n rank e eb el = go (pick ts) refl
+    where
+      fit : (r : ℕ) (ls : List (List ℕ)) (t : Bool) → output.fits ls b l ≡ t → pick ts ≡ chosen r ls → Taken (accepted end ts) n rank b' l'
+      fit r ls false f h = let e' : taken.gives n rank ≡ taken.refuses 18 0 = rw (h, f) at e in let z : _≡_ {A = ℕ} 0 1 = cc in absurd (omega arith)
+      fit r ls true f h =
+          let e' : taken.gives n rank ≡ taken.gives (length ls) r = rw (h, f) at e in
+          let hn : n ≡ length ls = cc in
+          let hr : rank ≡ r = cc in
+          let eb' : b' ≡ output.over (output.joined ls) b = rw (h, f) at eb in
+          let el' : l' ≡ output.over (output.lengthsOf ls) l = rw (h, f) at el in
+          let g : (leb (length ls) 256 && leb (length (joined ls)) 32768) ≡ true = sym (same-room ls) ∙ f in record {
+            few = let k : length ls ≤ 256 = leb-true (length ls) 256 (and-left (leb (length ls) 256) (leb (length (joined ls)) 32768) g) in omega arith;
+            lists = rw (h, g) (ap₂ picked (sym hr) (sym (cut-written ls b' l' n hn eb' el')));
+          }
+
+      go : (c : Choice) → pick ts ≡ c → Taken (accepted end ts) n rank b' l'
+      go (unchosen x) h = let e' : taken.gives n rank ≡ taken.pickedSays (unchosen x) b l = rw h at e in let z : _≡_ {A = ℕ} 0 1 = cc in absurd (omega arith)
+      go (chosen r ls) h = fit r ls (output.fits ls b l) refl h
+
+  pub says-untaken : (o : Read) (k place : ℕ) → taken.refuses k place ≡ taken.outcomeSays o b l → pickedOf o ≡ unpicked k
+  unfolding taken.outcomeSays taken.pickedSays pickedOf withRoom
+  says-untaken (rejected x p) k place e = cc
+  says-untaken (accepted end ts) k place e = go (pick ts) refl
+    where
+      fit : (r : ℕ) (ls : List (List ℕ)) (t : Bool) → output.fits ls b l ≡ t → pick ts ≡ chosen r ls → withRoom (pick ts) ≡ unpicked k
+      fit r ls true f h = let e' : taken.refuses k place ≡ taken.gives (length ls) r = rw (h, f) at e in let z : _≡_ {A = ℕ} 0 1 = cc in absurd (omega arith)
+      fit r ls false f h =
+          let e' : taken.refuses k place ≡ taken.refuses 18 0 = rw (h, f) at e in
+          let hk : k ≡ 18 = cc in
+          let g : (leb (length ls) 256 && leb (length (joined ls)) 32768) ≡ false = sym (same-room ls) ∙ f in
+          rw (h, g) (ap unpicked (sym hk))
+
+      go : (c : Choice) → pick ts ≡ c → withRoom (pick ts) ≡ unpicked k
+      go (unchosen x) h = let e' : taken.refuses k place ≡ taken.pickedSays (unchosen x) b l = rw h at e in rw h (cc)
+      go (chosen r ls) h = fit r ls (output.fits ls b l) refl h
+
+  -- at the door
+  pub taken-door : (t b' l' : List ℕ) (n rank : ℕ) (r : LiteralsAnswer) → r ≡ Picked' n rank → taken.said r ≡ taken.literalsSays t b l → b' ≡ taken.bytesLeft t b l → l' ≡ taken.lengthsLeft t b l → Taken (reading t) n rank b' l'
+  taken-door t b' l' n rank r h e eb el = says-taken (reading t) b' l' n rank (ap taken.said (sym h) ∙ e) eb el
+
+  pub untaken-door : (t : List ℕ) (why : Refusal) (place : ℕ) (r : LiteralsAnswer) → r ≡ Untaken why place → taken.said r ≡ taken.literalsSays t b l → pickedOf (reading t) ≡ unpicked (numberOf why)
+  untaken-door t why place r h e = says-untaken (reading t) (numberOf why) place (ap taken.said (sym h) ∙ e)
+
+-- at the compiling door, for pools of the lent sizes
+pub made-door : (t f r f' r' : List ℕ) (n m : ℕ) (a : CompileAnswer) → length f ≡ 512 → length r ≡ 512 → length f' ≡ 512 → length r' ≡ 512 → a ≡ Compiled' n m → made.said a ≡ made.compileSays t f r → f' ≡ made.forwardLeaves t f r → r' ≡ made.reverseLeaves t f r → Made (reading t) n m f' r'
+unfolding made.compileSays made.forwardLeaves made.reverseLeaves
+made-door t f r f' r' n m a lf lr lf' lr' h e ef er =
+    says-made (reading t) f r f' r' n m lf' lr' (ap made.said (sym h) ∙ (rw (lf, lr) at e)) (rw (lf, lr) at ef) (rw (lf, lr) at er)
+
+pub refused-door : (t f r : List ℕ) (why : Refusal) (place : ℕ) (a : CompileAnswer) → length f ≡ 512 → length r ≡ 512 → a ≡ Unmade why place → made.said a ≡ made.compileSays t f r → outcome (reading t) ≡ refused (numberOf why) place
+unfolding made.compileSays
+refused-door t f r why place a lf lr h e = says-refused (reading t) (numberOf why) place (ap made.said (sym h) ∙ (rw (lf, lr) at e))
+
+-- the parts that are handed to the writers
+pub taken-lines : {o : Read} {n rank : ℕ} {b l : List ℕ} → Taken o n rank b l → literalsLines rank (cut (take (n - 0) (drop 0 l)) b) ≡ pickedLines (pickedOf o)
+unfolding pickedLines
+taken-lines {o} {n} {rank} {b} {l} t =
+    let e : n - 0 ≡ n = omega arith in
+    ap (λ (x : ℕ). literalsLines rank (cut (take x l) b)) e ∙ sym (ap pickedLines (t .lists))
+
+pub untaken-lines : (o : Read) (k : ℕ) → pickedOf o ≡ unpicked k → literalsRefusedLine k ≡ pickedLines (pickedOf o)
+unfolding pickedLines
+untaken-lines o k e = sym (ap pickedLines e)
+
+pub made-lines : (t : List ℕ) {n m : ℕ} {f r : List ℕ} → Made (reading t) n m f r → programsLines (take (n - 0) (drop 0 f)) (take (m - 0) (drop 0 r)) ++ pickedLines (pickedOf (reading t)) ≡ listingOf t
+unfolding listingOf listing
+made-lines t {n} {m} {f} {r} d =
+    let e : n - 0 ≡ n = omega arith in
+    let h : m - 0 ≡ m = omega arith in
+    ap (λ (x : ℕ). programsLines (take x f) (take (m - 0) r) ++ pickedLines (pickedOf (reading t))) e
+    ∙ ap (λ (x : ℕ). programsLines (take n f) (take x r) ++ pickedLines (pickedOf (reading t))) h
+    ∙ sym (ap listing (d .lists))
+
+pub refused-lines : (t : List ℕ) (k place : ℕ) → outcome (reading t) ≡ refused k place → refusedLine k place ≡ listingOf t
+unfolding listingOf listing
+refused-lines t k place e = sym (ap listing e)
+
+-- a buffer that is new
+abbrev pub zeros : ℕ → List ℕ
+zeros n = replicate n 0
+
+pub length-zeros : (n : ℕ) → length (zeros n) ≡ n
+length-zeros n = length-replicate n 0
+
+pub made-sizes : {o : Read} {n m : ℕ} {f r : List ℕ} → Made o n m f r → (length (take (n - 0) (drop 0 f)) ≤ 512) × (length (take (m - 0) (drop 0 r)) ≤ 512)
+made-sizes {o} {n} {m} {f} {r} d =
+    let a : n ≤ 512 = d .forward-few in
+    let b : m ≤ 512 = d .reverse-few in
+    (rw (length-take (n - 0) f) (omega arith), rw (length-take (m - 0) r) (omega arith))
+
+-- the lines of programs that small end early
+pub programs-end : {p q : List ℕ} (f r : List ℕ) {n : ℕ} → Put p 0 (programsLines f r) n q → length f ≤ 512 → length r ≤ 512 → n ≤ 14360
+programs-end {p} {q} f r {n} w h k =
+    let l : length (programsLines f r) ≤ 14360 = programs-fit f r h k in
+    let e : n ≡ 0 + length (programsLines f r) = w .next in
+    omega arith
+
+pub taken-size : {o : Read} {n rank : ℕ} {b l : List ℕ} → Taken o n rank b l → length (take (n - 0) (drop 0 l)) ≤ 256
+taken-size {o} {n} {rank} {b} {l} t = let a : n ≤ 256 = t .few in rw (length-take (n - 0) l) (omega arith)
