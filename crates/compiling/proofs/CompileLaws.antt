@@ -43,7 +43,8 @@ module _ (ts : Tokens) (w : Spelled ts) (f r : List ℕ) (e : compile ts ≡ com
   simply : simple ts ≡ true
   simply = programs-tests ts f r e .0
 
-  forward-says : (sound f ≡ true) × (prog f ≡ forwardProgram ts)
+  -- the words of both programs are sound, and say these programs
+  pub forward-says : (sound f ≡ true) × (prog f ≡ forwardProgram ts)
   unfolding forwardWords
   forward-says =
       let q = programs-tests ts f r e in
@@ -53,7 +54,7 @@ module _ (ts : Tokens) (w : Spelled ts) (f r : List ℕ) (e : compile ts ≡ com
       let l : few p ≡ true = and-left (few p) (few (reverseProgram ts)) (q .2) in
       (ap sound (sym (q .3)) ∙ limits-sound p h g l, ap prog (sym (q .3)) ∙ limits-say p h g l)
 
-  reverse-says : (sound r ≡ true) × (prog r ≡ reverseProgram ts)
+  pub reverse-says : (sound r ≡ true) × (prog r ≡ reverseProgram ts)
   unfolding reverseWords
   reverse-says =
       let q = programs-tests ts f r e in

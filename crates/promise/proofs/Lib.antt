@@ -1,3 +1,4 @@
 pub mod Cuts
 pub mod Answers
 pub mod Pattern
+pub mod OneWording
