@@ -12,14 +12,15 @@ use Rattle.meaning.specs.Values.{Bytes}
 use Rattle.meaning.specs.Programs.{Prog, Span}
 use Rattle.meaning.specs.Choices.{FirstForward, FirstReverse}
 use Rattle.meaning.specs.Rows.{forward, backward}
-use Rattle.meaning.specs.Words.{prog, sound, SoundProgram}
+use Rattle.meaning.specs.Words.{prog, sound}
 use Rattle.meaning.proofs.ChoiceLaws.{span-fits, fits-span}
-use Rattle.meaning.proofs.SaysLaws.{sound-program, program-one}
 use Rattle.meaning.proofs.WordSpans.{sound-length}
 use Rattle.checkdoors.specs.Doors.{Outcome, found, noMatch, refused, window, refusal, endAt, startAt, forwardSays, reverseSays}
 use Rattle.checkdoors.proofs.DoorLaws.{passed, forward-checked, reverse-checked}
 use Rattle.checkdoors.proofs.Theorems.{forward-finds, finds-forward, forward-misses, reverse-finds, finds-reverse, reverse-misses}
+use Rattle.promise.specs.NodeWords.{SoundWords}
 use Rattle.promise.specs.Pattern.{SpanAt, FirstEnd, FirstStart, AnswersForward, AnswersReverse}
+use Rattle.promise.proofs.NodeWords.{sound-listed, program-listed}
 use Rattle.promise.proofs.Cuts.{part-length, part-bytes, parts, Cut, cut}
 
 end-fine : (e k : ℕ) (x : Option (List ℕ)) → endAt e x ≡ refused k → ⊥
@@ -42,12 +43,12 @@ missed-or noMatch a b = refl
 missed-or (refused k) a b = absurd (a k refl)
 
 module _ (ts : Tokens) (ws hay : List ℕ) (s e : ℕ) (h : sound ws ≡ true) (y : Bytes hay) (d : s ≤ e) (l : e ≤ length hay) where
-  words : SoundProgram ws
-  words = sound-program ws h
+  words : SoundWords ws
+  words = sound-listed ws .0 h
 
   -- the words' program, by computing and by what they say
   same : prog ws ≡ words .program
-  same = program-one (words .says)
+  same = program-listed (words .nodes)
 
   ok : none ≡ refusal ws (length hay) s e
   ok = passed ws (length hay) s e d l (sound-length ws h) (sym h)

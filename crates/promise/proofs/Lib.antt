@@ -1,4 +1,6 @@
+pub mod NodeWords
+pub mod OneWording
+pub mod Cases
 pub mod Cuts
 pub mod Answers
 pub mod Pattern
-pub mod OneWording

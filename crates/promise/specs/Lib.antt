@@ -1,1 +1,3 @@
+pub mod NodeWords
+pub mod Cases
 pub mod Pattern

@@ -7,9 +7,9 @@ use lib.ListN.{length}
 use Rattle.meaning.specs.Tokens.{Tokens, Spans}
 use Rattle.meaning.specs.Programs.{Prog}
 use Rattle.meaning.specs.Choices.{FirstForward, FirstReverse}
-use Rattle.meaning.specs.Words.{SoundProgram}
 use Rattle.reading.specs.Lists.{accepted, reading}
 use Rattle.checkdoors.specs.Doors.{found, noMatch, refused, window, forwardSays, reverseSays}
+use Rattle.promise.specs.NodeWords.{SoundWords}
 
 -- the text t is accepted, and its pattern is ts
 abbrev pub ReadAs : List ℕ → Tokens → Type 0
@@ -29,7 +29,7 @@ FirstStart p hay s e n = (s ≤ n) × (n ≤ e) × FirstReverse p (window hay s 
 
 -- the forward door, asked with the words ws about the window from s to e, answers for the pattern
 pub record AnswersForward (ts : Tokens) (ws hay : List ℕ) (s e : ℕ) : Type 0 where
-  pub words-sound : SoundProgram ws
+  pub words-sound : SoundWords ws
   -- it finds some end exactly if a span of the pattern starts at s and ends in the window
   pub finds : ((n : ℕ) × (forwardSays ws hay s e ≡ found n)) ↔ ((b : ℕ) × (b ≤ e) × SpanAt ts hay s b)
   -- what it finds is the end of a span of the pattern
@@ -42,7 +42,7 @@ pub record AnswersForward (ts : Tokens) (ws hay : List ℕ) (s e : ℕ) : Type 0
 
 -- the reverse door likewise: the spans that end at e, and their starts
 pub record AnswersReverse (ts : Tokens) (ws hay : List ℕ) (s e : ℕ) : Type 0 where
-  pub words-sound : SoundProgram ws
+  pub words-sound : SoundWords ws
   pub finds : ((n : ℕ) × (reverseSays ws hay s e ≡ found n)) ↔ ((a : ℕ) × (s ≤ a) × SpanAt ts hay a e)
   pub finds-span : (n : ℕ) → reverseSays ws hay s e ≡ found n → (s ≤ n) × SpanAt ts hay n e
   pub finds-first : (n : ℕ) → (reverseSays ws hay s e ≡ found n) ↔ FirstStart (words-sound .program) hay s e n
