@@ -1,3 +1,4 @@
 pub mod NodeWords
 pub mod Cases
+pub mod Literals
 pub mod Pattern
