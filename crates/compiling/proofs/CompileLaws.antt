@@ -1,21 +1,19 @@
 -- What compiling promises: sound words, and programs with exactly the spans of the tokens. Assumes nothing.
 use mathlib.Core.Path.{_≡_, refl, sym, ap, _∙_, subst}
-use mathlib.Core.Bool.{Bool, true, false, _&&_}
+use mathlib.Core.Bool.{true}
 use mathlib.Core.Logic.{_↔_, Iff·trans}
 use mathlib.Core.List.{List, reverse}
-use Prim.Native.Nat.{ℕ, _*_, _≤_}
+use Prim.Native.Nat.{ℕ, _≤_}
 use native.Mathlib.Omega.{arith}
-use lib.Dec.{leb}
-use lib.ListN.{length}
 use borrow.Author.Tests.{leb-true}
 use Rattle.meaning.specs.Tokens.{Tokens, Spans}
 use Rattle.meaning.specs.Values.{Bytes, Spelled}
 use Rattle.meaning.specs.Programs.{Prog, Span}
-use Rattle.meaning.specs.Words.{fieldSize, prog, soundWords, sound}
+use Rattle.meaning.specs.Words.{prog, sound}
 use Rattle.meaning.proofs.SoundLaws.{and-left, and-right}
 use Rattle.compiling.specs.ProgramWords.{wordsOf, nodes}
 use Rattle.compiling.specs.Compiling.{nodeLimit, backwards, forwardProgram, reverseProgram, forwardWords, reverseWords}
-use Rattle.compiling.specs.Compile.{simple, short, few, Compiled, compiled, compile}
+use Rattle.compiling.specs.Compile.{simple, short, few, compiled, compile}
 use Rattle.compiling.proofs.SaidLaws.{Fit, words-sound, words-say}
 use Rattle.compiling.proofs.FitLaws.{forward-fits, simple-bounded}
 use Rattle.compiling.proofs.TokenSpans.{forward-spans}

@@ -1,12 +1,12 @@
 -- Sound words whose program has exactly a pattern's spans: what the doors answer with them. Assumes nothing.
 use mathlib.Core.Path.{_≡_, refl, sym, ap, _∙_, subst}
-use mathlib.Core.Bool.{Bool, true}
+use mathlib.Core.Bool.{true}
 use mathlib.Core.Logic.{_↔_}
 use mathlib.Core.Option.{Option, none, some}
 use mathlib.Core.List.{List, _++_, reverse, reverse-append, reverse-reverse}
 use Prim.Native.Nat.{ℕ, _+_, _-_, _≤_}
 use native.Mathlib.Omega.{arith}
-use lib.ListN.{length, length-reverse}
+use lib.ListN.{length}
 use Rattle.meaning.specs.Tokens.{Tokens, Spans}
 use Rattle.meaning.specs.Values.{Bytes}
 use Rattle.meaning.specs.Programs.{Prog, Span}
@@ -21,7 +21,7 @@ use Rattle.checkdoors.proofs.Theorems.{forward-finds, finds-forward, forward-mi
 use Rattle.promise.specs.NodeWords.{SoundWords}
 use Rattle.promise.specs.Pattern.{SpanAt, FirstEnd, FirstStart, AnswersForward, AnswersReverse}
 use Rattle.promise.proofs.NodeWords.{sound-listed, program-listed}
-use Rattle.promise.proofs.Cuts.{part-length, part-bytes, parts, Cut, cut}
+use Rattle.promise.proofs.Cuts.{part-length, part-bytes, parts, cut}
 
 end-fine : (e k : ℕ) (x : Option (List ℕ)) → endAt e x ≡ refused k → ⊥
 end-fine e k none h = let z : _≡_ {A = ℕ} 0 1 = cc in omega arith

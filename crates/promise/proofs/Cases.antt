@@ -1,18 +1,16 @@
 -- Compiling refuses exactly in the listed cases. Assumes nothing.
 use mathlib.Core.Path.{_≡_, refl, sym, ap, ap₂, _∙_, subst}
-use mathlib.Core.Logic.{_⊎_, inl, inr, ⊎-elim, _↔_}
-use mathlib.Core.Option.{Option, none, some}
-use mathlib.Core.List.{List, [], _∷_, _++_}
+use mathlib.Core.Logic.{_⊎_, inl, inr, _↔_}
+use mathlib.Core.Option.{none, some}
 use Prim.Native.Nat.{ℕ, suc, _+_, _<_}
-use native.Mathlib.Omega.{arith}
 use lib.ListN.{length, length-append}
 use Rattle.base.specs.declared.Refusal.the-variants.{NotSimple, TooManyNodes, BranchTooLong}
 use Rattle.meaning.specs.Tokens.{Token, Tokens, Lists, Byte, NotByte, MaskedByte, NotMaskedByte, Jump, Alternatives, nothing, _then_, neither, _or_}
 use Rattle.meaning.specs.Programs.{Item, Prog, Branches, one, jump, range, alt, end, _▹_, stop, or as branch}
 use Rattle.compiling.specs.ProgramWords.{wordsFor, wordsOf, wordsIn, nodes}
 use Rattle.compiling.specs.Compiling as compiling
-use Rattle.compiling.specs.Compile.{Compiled, compiled, refused, compile}
-use Rattle.compiling.proofs.GivenLaws.{not-simple-given, branch-too-long-given, too-many-nodes-given, programs-given}
+use Rattle.compiling.specs.Compile.{refused, compile}
+use Rattle.compiling.proofs.GivenLaws.{not-simple-given, branch-too-long-given, too-many-nodes-given}
 use Rattle.promise.specs.Cases.{Far, unbounded, above, Unfit, a-jump, a-range, nested, Holds, OneHolds, this-list, other-list, Complex, far, inside, next, sizeOf, size, sizeIn, LongIn, this-branch, other-branch, Long, Large, Either}
 use Rattle.promise.specs.Cases as cases
 

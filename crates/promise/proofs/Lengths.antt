@@ -1,16 +1,15 @@
 -- The length that the choice of literals gives to tokens is that of their shortest literal. Assumes nothing.
-use mathlib.Core.Path.{_≡_, refl, sym, ap, ap₂, _∙_, subst}
-use mathlib.Core.Bool.{Bool, true, false, _&&_}
-use mathlib.Core.Logic.{_⊎_, inl, inr, ⊎-elim, _↔_}
-use mathlib.Core.Option.{Option, none, some}
-use mathlib.Core.List.{List, [], _∷_, _++_, List·Memᴰ}
-use Prim.Native.Nat.{ℕ, _+_, _*_, _/_, _%_, _≤_, _<_, min}
+use mathlib.Core.Path.{_≡_, refl, sym, ap₂, _∙_, subst}
+use mathlib.Core.Bool.{Bool, true, false}
+use mathlib.Core.Logic.{_⊎_, inl, inr}
+use mathlib.Core.List.{List, [], _∷_, _++_}
+use Prim.Native.Nat.{ℕ, _+_, _*_, _/_, _%_, _<_, min}
 use native.Mathlib.Omega.{arith}
 use native.Mathlib.Nat.{min-eq-left, min-eq-right}
-use lib.Dec.{leb, eqb}
-use borrow.Author.Tests.{leb-true, leb-false, eqb-true, eqb-false}
+use lib.Dec.{leb}
+use borrow.Author.Tests.{leb-true, leb-false}
 use lib.ListN.{length, length-append}
-use Rattle.meaning.specs.Tokens.{Mask, left, right, all, Token, Tokens, Lists, Byte, NotByte, MaskedByte, NotMaskedByte, Jump, Alternatives, nothing, _then_, neither, _or_, Agrees, Matches, Spans, MatchesOne}
+use Rattle.meaning.specs.Tokens.{left, right, all, Token, Tokens, Lists, Byte, NotByte, MaskedByte, NotMaskedByte, Jump, Alternatives, nothing, _then_, neither, _or_, Agrees, Matches, Spans, MatchesOne}
 use Rattle.meaning.specs.Values.{Bytes, SpelledOne, Spelled, SpelledFirst, SpelledMore}
 use Rattle.meaning.proofs.SoundLaws.{and-left, and-right, false-true}
 use Rattle.picking.specs.Literals as picking

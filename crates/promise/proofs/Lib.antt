@@ -1,5 +1,6 @@
 pub mod NodeWords
 pub mod OneWording
+pub mod Adding
 pub mod Cases
 pub mod Literals
 pub mod Lengths

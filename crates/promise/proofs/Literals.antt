@@ -1,7 +1,7 @@
 -- The functions by which the choice of literals is defined do what their names say. Assumes nothing.
 use mathlib.Core.Path.{_≡_, refl, sym, ap, ap₂, _∙_, subst}
 use mathlib.Core.Bool.{Bool, true, false}
-use mathlib.Core.Logic.{_⊎_, inl, inr, ⊎-elim, _↔_}
+use mathlib.Core.Logic.{_⊎_, ⊎-elim, _↔_}
 use mathlib.Core.List.{List, [], _∷_, _++_, append-nil, append-assoc, List·Memᴰ, List·Memᴰ·head, List·Memᴰ·tail, List·Memᴰ·not-nil, List·Memᴰ·cases-cons}
 use Prim.Native.Nat.{ℕ, zero, suc, _+_, _≤_, _<_, min}
 use native.Mathlib.Omega.{arith}
@@ -9,16 +9,16 @@ use native.Mathlib.Nat.{le-refl, le-trans, min-le-left, min-le-right, min-eq-lef
 use lib.Dec.{leb}
 use borrow.Author.Tests.{leb-true, leb-false}
 use lib.ListN.{length}
-use Rattle.meaning.specs.Tokens.{Mask, left, right, all, Token, Tokens, Lists, Byte, NotByte, MaskedByte, NotMaskedByte, Jump, Alternatives, nothing, _then_, neither, _or_, Matches, Spans}
+use Rattle.meaning.specs.Tokens.{Mask, left, right, all, Token, Tokens, Lists, Byte, NotByte, MaskedByte, NotMaskedByte, Jump, Alternatives, nothing, _then_, _or_, Matches, Spans}
 use Rattle.meaning.specs.Values.{SpelledOne}
 use Rattle.meaning.proofs.SoundLaws.{and-both, false-true}
 use Rattle.atoms.specs.Score.{literalScore}
 use Rattle.picking.specs.Literals as picking
-use Rattle.picking.specs.Literals.{kept, passing, taken, isByte, isPlain, plainLists, before, _⊗_, singles, followed, spelt, literals, listable}
+use Rattle.picking.specs.Literals.{kept, passing, taken, isByte, isPlain, plainLists, before, _⊗_, singles, spelt, literals, listable}
 use Rattle.picking.proofs.MatchLaws.{in-singles, literals-are-spans}
 use Rattle.picking.specs.Runs.{isAlternatives, plainInside}
 use Rattle.picking.specs.Choice.{lowest, leastScore, byteOf, bytesOf, lowestLength, shortestLiteral}
-use Rattle.promise.specs.Literals.{Rising, Members, Least}
+use Rattle.promise.specs.Literals.{Plain, Rising, Members, Least}
 use Rattle.promise.specs.Literals as said
 
 -- what a token is
@@ -57,6 +57,39 @@ is-plain-inside t = (λ h ls e. sym (ap plainInside e) ∙ h, go t)
     go (NotMaskedByte v m) h = refl
     go (Jump from to) h = refl
     go (Alternatives ls) h = h ls refl
+
+left-some : left ≡ all → ⊥
+left-some e = let z : _≡_ {A = ℕ} 0 1 = cc in omega arith
+
+right-some : right ≡ all → ⊥
+right-some e = let z : _≡_ {A = ℕ} 0 1 = cc in omega arith
+
+open-mask : (m : Mask) → (m ≡ all → ⊥) → (P : Mask → Type 0) → P left → P right → P m
+open-mask left h P a b = a
+open-mask right h P a b = b
+open-mask all h P a b = absurd (h refl)
+
+pub is-plain : (t : Token) → (isPlain t ≡ true) ↔ Plain t
+unfolding isPlain
+is-plain t = (go t, back)
+  where
+    go : (x : Token) → isPlain x ≡ true → Plain x
+    go (Byte v) h = said.byte
+    go (NotByte v) h = said.not-byte
+    go (MaskedByte v left) h = said.half left-some
+    go (MaskedByte v right) h = said.half right-some
+    go (MaskedByte v all) h = false-true h
+    go (NotMaskedByte v left) h = said.not-half left-some
+    go (NotMaskedByte v right) h = said.not-half right-some
+    go (NotMaskedByte v all) h = false-true h
+    go (Jump from to) h = false-true h
+    go (Alternatives ls) h = false-true h
+
+    back : {x : Token} → Plain x → isPlain x ≡ true
+    back said.byte = refl
+    back said.not-byte = refl
+    back (said.half {v = v} {m = m} h) = open-mask m h (λ (k : Mask). isPlain (MaskedByte v k) ≡ true) refl refl
+    back (said.not-half {v = v} {m = m} h) = open-mask m h (λ (k : Mask). isPlain (NotMaskedByte v k) ≡ true) refl refl
 
 -- the bytes of a list of bytes are its one literal
 abbrev pub OnlyBytes : Tokens → Type 0

@@ -1,16 +1,16 @@
 -- The listed sound words are the tested ones. Assumes nothing.
-use mathlib.Core.Path.{_≡_, refl, sym, ap, ap₂, _∙_, subst}
-use mathlib.Core.Bool.{Bool, true, false, cond, _&&_}
+use mathlib.Core.Path.{_≡_, refl, sym, ap, _∙_, subst}
+use mathlib.Core.Bool.{Bool, true, false, cond}
 use mathlib.Core.Logic.{_↔_}
-use mathlib.Core.List.{List, [], _∷_, _++_}
+use mathlib.Core.List.{List, _∷_, _++_}
 use Prim.Native.Nat.{ℕ, _+_, _*_, _/_, _%_, _≤_, _<_}
 use native.Mathlib.Omega.{arith}
-use lib.Dec.{eqb, leb, ltb}
+use lib.Dec.{eqb, ltb}
 use borrow.Author.Tests.{leb-true, le-leb}
 use lib.ListN.{length}
-use Rattle.meaning.specs.Programs.{Test, byte, mask, negatedMask, any, dot, Item, Prog, Branches, one, jump, range, alt, end, _▹_, stop, or}
+use Rattle.meaning.specs.Programs.{Test, byte, mask, negatedMask, any, dot, Item, Prog, Branches, one, jump, range, alt, _▹_, stop, or}
 use Rattle.meaning.specs.Words as words
-use Rattle.meaning.specs.Words.{fieldSize, kindOf, firstOf, secondOf, Shape, item, opens, mark, wrong, shapeBy, shape, properBy, proper, plain, plainProg, Says, SaysIn, SoundProgram, sound, prog}
+use Rattle.meaning.specs.Words.{fieldSize, kindOf, firstOf, secondOf, Shape, item, opens, mark, wrong, shapeBy, shape, properBy, proper, plain, plainProg, Says, SaysIn, sound, prog}
 use Rattle.meaning.proofs.KindLaws.{Seen, seen, kind-range}
 use Rattle.meaning.proofs.MadeLaws.{made-shape, made-proper}
 use Rattle.meaning.proofs.SoundLaws.{and-left, and-right, and-both, false-true}

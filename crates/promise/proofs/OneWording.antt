@@ -8,7 +8,7 @@ use native.Mathlib.Omega.{arith}
 use lib.ListN.{length}
 use Rattle.meaning.specs.Tokens.{Tokens}
 use Rattle.meaning.specs.Values.{Spelled}
-use Rattle.meaning.specs.Programs.{Item, Prog, Branches, alt, end, range, _▹_, stop, or, mirror}
+use Rattle.meaning.specs.Programs.{Item, Prog, Branches, mirror}
 use Rattle.meaning.specs.Words.{prog, sound, mirrorWords}
 use Rattle.meaning.proofs.WordSpans.{sound-words, mirrored-sound}
 use Rattle.meaning.proofs.MirrorWords.{mirror-says}

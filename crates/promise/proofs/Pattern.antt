@@ -3,18 +3,15 @@ use mathlib.Core.Path.{_≡_, refl, sym, ap, _∙_, subst}
 use mathlib.Core.Bool.{Bool, true, false, cond}
 use mathlib.Core.List.{List, _++_}
 use Prim.Native.Nat.{ℕ, _-_, _≤_}
-use native.Mathlib.Omega.{arith}
 use lib.ListN.{length, take, drop, replicate}
 use lib.Seq.{take-at}
-use Rattle.base.specs.Pools.{filled, cleared}
-use Rattle.base.specs.declared.Refusal.{Refusal}
-use Rattle.base.specs.Refusals.{numberOf}
+use Rattle.base.specs.Pools.{filled}
 use Rattle.meaning.specs.Tokens.{Tokens}
 use Rattle.meaning.specs.Values.{Bytes}
 use Rattle.reading.specs.Lists.{Outcome, accepted, rejected, reading}
 use Rattle.reading.proofs.PieceLaws.{never}
 use Rattle.compiling.specs.Compile.{Compiled, compiled, refused, compile}
-use Rattle.compiledoor.specs.Door.{Said, gives, refuses, room, compiledSays, outcomeSays, compiledForward, compiledReverse, outcomeForward, outcomeReverse, compileSays, forwardLeaves, reverseLeaves}
+use Rattle.compiledoor.specs.Door.{gives, refuses, room, compiledSays, outcomeSays, compiledForward, compiledReverse, outcomeForward, outcomeReverse, compileSays, forwardLeaves, reverseLeaves}
 use Rattle.compiledoor.proofs.Promises as promised
 use Rattle.promise.specs.Pattern.{ReadAs, AnswersForward, AnswersReverse}
 use Rattle.promise.proofs.Answers.{answers-forward, answers-reverse}

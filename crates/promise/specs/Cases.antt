@@ -1,6 +1,6 @@
 -- When compiling refuses, by 12, by 14 and by 13. Assumes nothing: these are definitions.
 use mathlib.Core.Logic.{_⊎_}
-use mathlib.Core.Option.{Option, none, some}
+use mathlib.Core.Option.{none, some}
 use Prim.Native.Nat.{ℕ, suc, _+_, _<_}
 use Rattle.meaning.specs.Tokens.{Token, Tokens, Lists, Jump, Alternatives, _then_, _or_}
 use Rattle.meaning.specs.Programs.{Item, Prog, Branches, one, jump, range, alt, end, _▹_, stop, or as branch}

@@ -1,4 +1,5 @@
 pub mod NodeWords
+pub mod Adding
 pub mod Cases
 pub mod Literals
 pub mod Pattern

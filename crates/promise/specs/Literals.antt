@@ -3,7 +3,14 @@ use mathlib.Core.Path.{_≡_}
 use mathlib.Core.Logic.{_↔_}
 use mathlib.Core.List.{List, [], _∷_, List·Memᴰ}
 use Prim.Native.Nat.{ℕ, _≤_, _<_}
-use Rattle.meaning.specs.Tokens.{Token, Matches}
+use Rattle.meaning.specs.Tokens.{Mask, all, Token, Byte, NotByte, MaskedByte, NotMaskedByte, Matches}
+
+-- a byte or a class: `~XX`, a half mask, or the negation of one
+pub data Plain : Token → Type 0 where
+  byte : {v : ℕ} → Plain (Byte v)
+  not-byte : {v : ℕ} → Plain (NotByte v)
+  half : {v : ℕ} {m : Mask} → (m ≡ all → ⊥) → Plain (MaskedByte v m)
+  not-half : {v : ℕ} {m : Mask} → (m ≡ all → ⊥) → Plain (NotMaskedByte v m)
 
 -- each number above the one before
 pub data Rising : List ℕ → Type 0 where
