@@ -2,4 +2,5 @@ pub mod NodeWords
 pub mod Adding
 pub mod Cases
 pub mod Literals
+pub mod Outcomes
 pub mod Pattern
