@@ -42,6 +42,48 @@ missed-or (found n) a b = absurd (b n refl)
 missed-or noMatch a b = refl
 missed-or (refused k) a b = absurd (a k refl)
 
+-- sound words and a window: what is found is the first choice, and there is no refusal
+module _ (ws hay : List ℕ) (s e : ℕ) (h : sound ws ≡ true) (d : s ≤ e) (l : e ≤ length hay) where
+  ok : none ≡ refusal ws (length hay) s e
+  ok = passed ws (length hay) s e d l (sound-length ws h) (sym h)
+
+  pub fine : (k : ℕ) → forwardSays ws hay s e ≡ refused k → ⊥
+  fine k g = end-fine e k (forward (prog ws) (window hay s e)) (forward-checked ws hay s e ok ∙ g)
+
+  pub to-first : (n : ℕ) → forwardSays ws hay s e ≡ found n → FirstEnd (prog ws) hay s e n
+  to-first n g =
+      let (v, f, k) = forward-finds ws hay s e h d l n g in
+      let c = cut hay (f .fits .0) v s e d l (f .fits .1) in
+      let m : c .at ≡ n = c .from-end ∙ sym k in
+      subst (FirstEnd (prog ws) hay s e) m (c .after, c .before, subst (FirstForward (prog ws) (window hay s e)) (c .back) f)
+
+  pub of-first : (n : ℕ) → FirstEnd (prog ws) hay s e n → forwardSays ws hay s e ≡ found n
+  of-first n (a, b, f) =
+      let k = part-length hay n e b l in
+      let m : e - length (window hay n e) ≡ n = omega (arith, k) in
+      finds-forward ws hay s e h d l (window hay n e) f ∙ ap found m
+
+  pub back-fine : (k : ℕ) → reverseSays ws hay s e ≡ refused k → ⊥
+  back-fine k g = start-fine s k (backward (prog ws) (window hay s e)) (reverse-checked ws hay s e ok ∙ g)
+
+  -- what the first choice takes, read forward again, is behind what it leaves
+  turned : (u x : List ℕ) → reverse (window hay s e) ≡ x ++ reverse u → window hay s e ≡ u ++ reverse x
+  turned u x g = sym (reverse-reverse (window hay s e)) ∙ ap reverse g ∙ reverse-append x (reverse u) ∙ ap (λ (z : List ℕ). z ++ reverse x) (reverse-reverse u)
+
+  pub to-start : (n : ℕ) → reverseSays ws hay s e ≡ found n → FirstStart (prog ws) hay s e n
+  to-start n g =
+      let (u, f, k) = reverse-finds ws hay s e h d l n g in
+      let c = cut hay u (reverse (f .fits .0)) s e d l (turned u (f .fits .0) (f .fits .1)) in
+      let m : c .at ≡ n = c .from-start ∙ sym k in
+      subst (FirstStart (prog ws) hay s e) m (c .after, c .before, subst (FirstReverse (prog ws) (window hay s e)) (c .front) f)
+
+  pub of-start : (n : ℕ) → FirstStart (prog ws) hay s e n → reverseSays ws hay s e ≡ found n
+  of-start n (a, b, f) =
+      let i : n ≤ length hay = omega arith in
+      let k = part-length hay s n a i in
+      let m : s + length (window hay s n) ≡ n = omega (arith, k) in
+      finds-reverse ws hay s e h d l (window hay s n) f ∙ ap found m
+
 module _ (ts : Tokens) (ws hay : List ℕ) (s e : ℕ) (h : sound ws ≡ true) (y : Bytes hay) (d : s ≤ e) (l : e ≤ length hay) where
   words : SoundWords ws
   words = sound-listed ws .0 h
@@ -50,26 +92,7 @@ module _ (ts : Tokens) (ws hay : List ℕ) (s e : ℕ) (h : sound ws ≡ true) (
   same : prog ws ≡ words .program
   same = program-listed (words .nodes)
 
-  ok : none ≡ refusal ws (length hay) s e
-  ok = passed ws (length hay) s e d l (sound-length ws h) (sym h)
-
   module _ (exact : (x : List ℕ) → Bytes x → Spans ts x ↔ Span (prog ws) x) where
-    fine : (k : ℕ) → forwardSays ws hay s e ≡ refused k → ⊥
-    fine k g = end-fine e k (forward (prog ws) (window hay s e)) (forward-checked ws hay s e ok ∙ g)
-
-    to-first : (n : ℕ) → forwardSays ws hay s e ≡ found n → FirstEnd (prog ws) hay s e n
-    to-first n g =
-        let (v, f, k) = forward-finds ws hay s e h d l n g in
-        let c = cut hay (f .fits .0) v s e d l (f .fits .1) in
-        let m : c .at ≡ n = c .from-end ∙ sym k in
-        subst (FirstEnd (prog ws) hay s e) m (c .after, c .before, subst (FirstForward (prog ws) (window hay s e)) (c .back) f)
-
-    of-first : (n : ℕ) → FirstEnd (prog ws) hay s e n → forwardSays ws hay s e ≡ found n
-    of-first n (a, b, f) =
-        let k = part-length hay n e b l in
-        let m : e - length (window hay n e) ≡ n = omega (arith, k) in
-        finds-forward ws hay s e h d l (window hay n e) f ∙ ap found m
-
     span-of : (n : ℕ) → FirstEnd (prog ws) hay s e n → SpanAt ts hay s n
     span-of n (a, b, f) =
         let c = cut hay (f .fits .0) (window hay n e) s e d l (f .fits .1) in
@@ -87,44 +110,23 @@ module _ (ts : Tokens) (ws hay : List ℕ) (s e : ℕ) (h : sound ws ≡ true) (
     answers-forward = record {
       words-sound = words;
       finds = (
-        λ (n, g). let f = to-first n g in (n, f .1, span-of n f),
-        λ (b, i, q). found-or (SpanAt ts hay s b) (forwardSays ws hay s e) fine (λ g. misses-span g b i) q,
+        λ (n, g). let f = to-first ws hay s e h d l n g in (n, f .1, span-of n f),
+        λ (b, i, q). found-or (SpanAt ts hay s b) (forwardSays ws hay s e) (fine ws hay s e h d l) (λ g. misses-span g b i) q,
       );
-      finds-span = λ n g. let f = to-first n g in (f .1, span-of n f);
+      finds-span = λ n g. let f = to-first ws hay s e h d l n g in (f .1, span-of n f);
       finds-first = λ n. (
-        λ g. subst (λ (p : Prog). FirstEnd p hay s e n) same (to-first n g),
-        λ g. of-first n (subst (λ (p : Prog). FirstEnd p hay s e n) (sym same) g),
+        λ g. subst (λ (p : Prog). FirstEnd p hay s e n) same (to-first ws hay s e h d l n g),
+        λ g. of-first ws hay s e h d l n (subst (λ (p : Prog). FirstEnd p hay s e n) (sym same) g),
       );
-      misses = (misses-span, λ g. missed-or (forwardSays ws hay s e) fine (λ n f. let x = to-first n f in g n (x .1) (span-of n x)));
-      never-refuses = fine;
+      misses = (misses-span, λ g. missed-or (forwardSays ws hay s e) (fine ws hay s e h d l) (λ n f. let x = to-first ws hay s e h d l n f in g n (x .1) (span-of n x)));
+      never-refuses = (fine ws hay s e h d l);
     }
 
   -- the same from the window's end; the reverse program has the spans read from their other side
   module _ (exact : (x : List ℕ) → Bytes x → Spans ts x ↔ Span (prog ws) (reverse x)) where
-    back-fine : (k : ℕ) → reverseSays ws hay s e ≡ refused k → ⊥
-    back-fine k g = start-fine s k (backward (prog ws) (window hay s e)) (reverse-checked ws hay s e ok ∙ g)
-
-    -- what the first choice takes, read forward again, is behind what it leaves
-    turned : (u x : List ℕ) → reverse (window hay s e) ≡ x ++ reverse u → window hay s e ≡ u ++ reverse x
-    turned u x g = sym (reverse-reverse (window hay s e)) ∙ ap reverse g ∙ reverse-append x (reverse u) ∙ ap (λ (z : List ℕ). z ++ reverse x) (reverse-reverse u)
-
-    to-start : (n : ℕ) → reverseSays ws hay s e ≡ found n → FirstStart (prog ws) hay s e n
-    to-start n g =
-        let (u, f, k) = reverse-finds ws hay s e h d l n g in
-        let c = cut hay u (reverse (f .fits .0)) s e d l (turned u (f .fits .0) (f .fits .1)) in
-        let m : c .at ≡ n = c .from-start ∙ sym k in
-        subst (FirstStart (prog ws) hay s e) m (c .after, c .before, subst (FirstReverse (prog ws) (window hay s e)) (c .front) f)
-
-    of-start : (n : ℕ) → FirstStart (prog ws) hay s e n → reverseSays ws hay s e ≡ found n
-    of-start n (a, b, f) =
-        let i : n ≤ length hay = omega arith in
-        let k = part-length hay s n a i in
-        let m : s + length (window hay s n) ≡ n = omega (arith, k) in
-        finds-reverse ws hay s e h d l (window hay s n) f ∙ ap found m
-
     span-to : (n : ℕ) → FirstStart (prog ws) hay s e n → SpanAt ts hay n e
     span-to n (a, b, f) =
-        let c = cut hay (window hay s n) (reverse (f .fits .0)) s e d l (turned (window hay s n) (f .fits .0) (f .fits .1)) in
+        let c = cut hay (window hay s n) (reverse (f .fits .0)) s e d l (turned ws hay s e h d l (window hay s n) (f .fits .0) (f .fits .1)) in
         let i : n ≤ length hay = omega arith in
         let k = part-length hay s n a i in
         let m : c .at ≡ n = omega (arith, c .from-start) in
@@ -141,14 +143,14 @@ module _ (ts : Tokens) (ws hay : List ℕ) (s e : ℕ) (h : sound ws ≡ true) (
     answers-reverse = record {
       words-sound = words;
       finds = (
-        λ (n, g). let f = to-start n g in (n, f .0, span-to n f),
-        λ (a, i, q). found-or (SpanAt ts hay a e) (reverseSays ws hay s e) back-fine (λ g. misses-start g a i) q,
+        λ (n, g). let f = to-start ws hay s e h d l n g in (n, f .0, span-to n f),
+        λ (a, i, q). found-or (SpanAt ts hay a e) (reverseSays ws hay s e) (back-fine ws hay s e h d l) (λ g. misses-start g a i) q,
       );
-      finds-span = λ n g. let f = to-start n g in (f .0, span-to n f);
+      finds-span = λ n g. let f = to-start ws hay s e h d l n g in (f .0, span-to n f);
       finds-first = λ n. (
-        λ g. subst (λ (p : Prog). FirstStart p hay s e n) same (to-start n g),
-        λ g. of-start n (subst (λ (p : Prog). FirstStart p hay s e n) (sym same) g),
+        λ g. subst (λ (p : Prog). FirstStart p hay s e n) same (to-start ws hay s e h d l n g),
+        λ g. of-start ws hay s e h d l n (subst (λ (p : Prog). FirstStart p hay s e n) (sym same) g),
       );
-      misses = (misses-start, λ g. missed-or (reverseSays ws hay s e) back-fine (λ n f. let x = to-start n f in g n (x .0) (span-to n x)));
-      never-refuses = back-fine;
+      misses = (misses-start, λ g. missed-or (reverseSays ws hay s e) (back-fine ws hay s e h d l) (λ n f. let x = to-start ws hay s e h d l n f in g n (x .0) (span-to n x)));
+      never-refuses = (back-fine ws hay s e h d l);
     }

@@ -7,4 +7,6 @@ pub mod Lengths
 pub mod Outcomes
 pub mod Cuts
 pub mod Answers
+pub mod Checks
 pub mod Pattern
+pub mod Lines

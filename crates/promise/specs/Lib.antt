@@ -4,3 +4,5 @@ pub mod Cases
 pub mod Literals
 pub mod Outcomes
 pub mod Pattern
+pub mod Checks
+pub mod Lines
