@@ -6,18 +6,18 @@ use mathlib.Core.List.{List, [], reverse}
 use Prim.Native.Nat.{ℕ, _+_, _-_, _≤_, _<_}
 use native.Mathlib.Omega.{arith}
 use lib.Dec.{leb}
-use lib.ListN.{length, take, drop, length-drop, length-reverse}
+use lib.ListN.{length, drop, length-drop, length-reverse}
 use lib.Seq.{length-take-le}
 use borrow.Author.Tests.{le-leb, lt-leb, leb-true}
-use Rattle.meaning.specs.Choices.{Order, short, long}
-use Rattle.meaning.specs.Rows.{run, forward, backward}
+use Rattle.meaning.specs.Choices.{short, long}
+use Rattle.meaning.specs.Rows.{forward, backward}
 use Rattle.meaning.specs.Words.{prog, sound, Sound}
 use Rattle.meaning.proofs.WordSpans.{sound-words}
 use Rattle.nodes.proofs.WordHeads.{from, to-end}
 use Rattle.steps.specs.declared.Found.the-variants.{Left, Nothing}
 use Rattle.steps.specs.Steps.{answer}
 use Rattle.steps.proofs.Answers.{answer-some, answer-none, left-fits, left-part}
-use Rattle.checkdoors.specs.Doors.{Outcome, found, noMatch, refused, window, refusal, unless, endAt, startAt, forwardSays, reverseSays, leftOr, unlessEmpty, leftSays}
+use Rattle.checkdoors.specs.Doors.{found, noMatch, refused, window, refusal, endAt, startAt, forwardSays, reverseSays, leftOr, leftSays}
 
 -- the tests, in their order
 module _ (ws : List ℕ) (n s e : ℕ) where

@@ -1,27 +1,27 @@
 -- What is known of the doors of the checks. Assumes nothing.
-use mathlib.Core.Path.{_≡_, refl, sym, ap, ap₂, _∙_, subst}
-use mathlib.Core.Bool.{Bool, true}
+use mathlib.Core.Path.{_≡_, refl, sym, ap, ap₂, _∙_}
+use mathlib.Core.Bool.{true}
 use mathlib.Core.Logic.{_↔_}
 use mathlib.Core.Option.{Option, none, some}
 use mathlib.Core.List.{List, [], _∷_, _++_, reverse, reverse-reverse}
 use Prim.Native.Nat.{ℕ, zero, suc, _+_, _-_, _≤_, _<_}
 use native.Mathlib.Omega.{arith}
 use borrow.Author.Tests.{le-leb}
-use lib.ListN.{length, take, drop, getD, length-take, length-drop, length-append, length-reverse}
+use lib.ListN.{length, take, drop, getD, length-take, length-drop, length-reverse}
 use lib.Seq.{ext-getD, getD-take, getD-drop, drop-drop}
 use Rattle.base.proofs.RefusalLaws.{number-one}
-use Rattle.meaning.specs.Programs.{Prog, Span}
+use Rattle.meaning.specs.Programs.{Span}
 use Rattle.meaning.specs.Choices.{short, long, Nowhere, FirstForward, FirstReverse}
 use Rattle.meaning.specs.Rows.{forward, backward}
 use Rattle.meaning.specs.Words.{prog, sound, mirrorWords}
 use Rattle.meaning.proofs.FirstLaws as first
-use Rattle.meaning.proofs.WordSpans.{sound-length, join-sound, join-found, found-join, mirrored-sound, mirrored-length, mirrored-found, found-mirrored}
+use Rattle.meaning.proofs.WordSpans.{sound-length, join-sound, join-found, found-join, mirrored-sound, mirrored-found, found-mirrored}
 use Rattle.steps.specs.Steps.{answer}
 use Rattle.steps.proofs.Answers.{left-fits, left-part}
 use Rattle.checkdoors.specs.declared.Answer.{Answer}
 use Rattle.checkdoors.specs.declared.Answer.the-variants.{At, NoMatch, Refused}
-use Rattle.checkdoors.specs.Doors.{Outcome, found, noMatch, refused, said, window, refusal, unless, endAt, startAt, forwardSays, reverseSays, leftOr, unlessEmpty, leftSays}
-use Rattle.checkdoors.proofs.DoorLaws.{Fine, fine, window-length, passed, forward-checked, reverse-checked, left-checked}
+use Rattle.checkdoors.specs.Doors.{found, noMatch, said, window, refusal, unless, endAt, startAt, forwardSays, reverseSays, leftOr, unlessEmpty, leftSays}
+use Rattle.checkdoors.proofs.DoorLaws.{fine, window-length, passed, forward-checked, reverse-checked, left-checked}
 
 -- an answer is known by what it says
 pub said-one : (r q : Answer) → said r ≡ said q → r ≡ q

@@ -1,4 +1,3 @@
 -- What the proofs of the doors rest on, and the theorems about the door.
 pub mod DoorLaws
 pub mod Promises
-pub mod Found

@@ -1,10 +1,9 @@
 -- What compiling a text promises: sound programs with exactly the pattern's spans, and a single outcome. Assumes nothing.
-use mathlib.Core.Path.{_≡_, refl, sym, ap, ap₂, _∙_}
-use mathlib.Core.Bool.{Bool, true}
+use mathlib.Core.Path.{_≡_, sym, ap₂, _∙_}
+use mathlib.Core.Bool.{true}
 use mathlib.Core.Logic.{_↔_}
 use mathlib.Core.List.{List, reverse}
 use Prim.Native.Nat.{ℕ}
-use Rattle.base.specs.declared.Refusal.{Refusal}
 use Rattle.base.specs.Refusals.{numberOf}
 use Rattle.base.proofs.RefusalLaws.{number-one}
 use Rattle.meaning.specs.Tokens.{Tokens, Spans}
@@ -17,7 +16,7 @@ use Rattle.compiling.specs.Compile.{compiled, compile}
 use Rattle.compiling.proofs.CompileLaws as law
 use Rattle.compiledoor.specs.declared.CompileAnswer.{CompileAnswer}
 use Rattle.compiledoor.specs.declared.CompileAnswer.the-variants.{Compiled, Refused}
-use Rattle.compiledoor.specs.Door.{Said, gives, refuses, said, compileSays, forwardLeaves, reverseLeaves}
+use Rattle.compiledoor.specs.Door.{said, compileSays, forwardLeaves, reverseLeaves}
 use Rattle.compiledoor.proofs.DoorLaws.{accepted-spelled}
 
 -- of a text that is read as the tokens ts and compiled to the words f and r

@@ -1,6 +1,6 @@
 -- Words copied into a pool, and what compiling leaves there. Assumes nothing.
-use mathlib.Core.Path.{_≡_, refl, sym, ap, ap₂, _∙_, subst}
-use mathlib.Core.Bool.{Bool, true, false, cond, not, _&&_, _||_}
+use mathlib.Core.Path.{_≡_, refl, sym, ap, ap₂, _∙_}
+use mathlib.Core.Bool.{Bool, true, false, not, _&&_}
 use mathlib.Core.List.{List, [], _∷_, _++_, append-assoc}
 use Prim.Native.Nat.{ℕ, suc, _+_, _-_, _≤_, _<_}
 use native.Mathlib.Omega.{arith}
@@ -12,8 +12,7 @@ use borrow.Author.Tests.{le-leb, lt-leb}
 use Rattle.base.specs.declared.Refusal.the-variants.{TooManyNodes, BranchTooLong}
 use Rattle.base.specs.Pools.{zeroed, filled, cleared}
 use Rattle.base.proofs.PoolLaws.{zeroed-filled}
-use Rattle.compiling.specs.Compile.{Compiled, compiled, refused}
-use Rattle.compiler.specs.declared.Made.{Made}
+use Rattle.compiling.specs.Compile.{Compiled}
 use Rattle.compiler.specs.declared.Made.the-variants.{Programs, Refused}
 use Rattle.compiler.specs.Made.{Makes, limited}
 

@@ -1,29 +1,27 @@
 -- From what was emitted to what compiling is. Assumes nothing.
-use mathlib.Core.Path.{_≡_, refl, sym, ap, ap₂, _∙_, subst}
-use mathlib.Core.Bool.{Bool, true, false, cond, not, _&&_, _||_}
-use mathlib.Core.List.{List, [], _∷_, _++_}
-use Prim.Native.Nat.{ℕ, suc, _+_, _*_, _-_, _≤_, _<_}
+use mathlib.Core.Path.{_≡_, refl, sym, ap, ap₂, _∙_}
+use mathlib.Core.Bool.{Bool, true, false, not, _&&_, _||_}
+use mathlib.Core.List.{List, _++_}
+use Prim.Native.Nat.{ℕ, _+_, _*_, _-_, _≤_}
 use native.Mathlib.Omega.{arith}
 use lib.Dec.{leb}
 use lib.ListN.{length, take, drop, length-append}
 use lib.Seq.{take-at}
 use Rattle.base.specs.declared.Refusal.the-variants.{NotSimple}
 use Rattle.base.specs.Pools.{cleared}
-use Rattle.meaning.specs.Tokens.{Token, Tokens, nothing, _then_}
+use Rattle.meaning.specs.Tokens.{Tokens, nothing, _then_}
 use Rattle.meaning.specs.Values.{Spelled}
 use Rattle.meaning.specs.Entries.{tokenCount, entriesOf, entries}
 use Rattle.meaning.specs.Programs.{Prog, end}
 use Rattle.compiling.specs.ProgramWords.{wordsOf, nodes}
-use Rattle.compiling.specs.Compiling.{nodeLimit, added, backwards, forwardProgram, reverseProgram, forwardWords, reverseWords}
-use Rattle.compiling.specs.Compile.{simple, short, few, Compiled, compiled, refused, compile}
+use Rattle.compiling.specs.Compiling.{added, forwardProgram, reverseProgram, forwardWords, reverseWords}
+use Rattle.compiling.specs.Compile.{simple, short, few, compile}
 use Rattle.compiling.proofs.CountLaws.{added-words}
 use Rattle.emit.specs.Lists.{tokensProgram, offsets, Outlined}
 use Rattle.emit.proofs.OrderLaws.{directed, offsets-count}
 use Rattle.emit.proofs.LinkLaws.{directed-long, tokens-program}
-use Rattle.compiler.specs.declared.Made.{Made}
-use Rattle.compiler.specs.declared.Made.the-variants.{Programs, Refused}
+use Rattle.compiler.specs.declared.Made.the-variants.{Refused}
 use Rattle.compiler.specs.Made.{Makes, limited}
-use Rattle.compiler.specs.Walks.{Entered, Simply}
 use Rattle.compiler.proofs.WalkLaws.{some-entry}
 
 -- tokens have an entry each, at least

@@ -1,25 +1,21 @@
 -- Walks over token entries. Assumes nothing.
-use mathlib.Core.Path.{_≡_, refl, sym, ap, ap₂, _∙_, subst}
-use mathlib.Core.Bool.{Bool, true, false, cond, not, _&&_}
-use mathlib.Core.Option.{Option, none, some}
+use mathlib.Core.Path.{_≡_, refl, sym, ap, ap₂, _∙_}
+use mathlib.Core.Bool.{Bool, true, false, _&&_}
+use mathlib.Core.Option.{none, some}
 use mathlib.Core.List.{List, [], _∷_, _++_, append-nil, append-assoc}
-use Prim.Native.Nat.{ℕ, zero, suc, _+_, _-_, _*_, _≤_, _<_}
+use Prim.Native.Nat.{ℕ, suc, _+_, _-_, _*_, _≤_, _<_}
 use native.Mathlib.Omega.{arith}
 use native.Mathlib.Numerals.{add-one}
-use lib.Dec.{eqb, leb}
-use lib.ListN.{length, getD, take, drop, set, length-append, length-drop, length-set}
+use lib.ListN.{length, getD, take, drop, set, length-append, length-drop}
 use lib.Seq.{drop-drop, drop-at, drop-cons, set-at, getD-drop, take-all}
-use borrow.Author.Tests.{eq-eqb, ne-eqb}
 use Rattle.meaning.specs.Tokens.{Token, Tokens, Lists, Byte, NotByte, MaskedByte, NotMaskedByte, Jump, Alternatives, nothing, _then_, neither, _or_}
 use Rattle.meaning.specs.Entries.{tokenCount, entriesOf, entries, listEntries}
-use Rattle.meaning.proofs.SoundLaws.{and-left, and-right, false-true}
-use Rattle.compiling.specs.Compiling.{jumpLimit}
 use Rattle.compiling.specs.Compile.{plainToken, plainTokens, plainLists, simpleToken, simple}
 use Rattle.emit.specs.Lists.{sizeAt, offsets}
-use Rattle.emit.proofs.AltLaws.{size-least, size-five}
+use Rattle.emit.proofs.AltLaws.{size-least}
 use Rattle.emit.proofs.OrderLaws.{Starts, offsets-count}
 use Rattle.emit.proofs.LinkLaws.{fields, alt-fields, alt-inside, starts-size}
-use Rattle.compiler.specs.Walks.{jumpNear, plainEntry, plainEntries, simpleAt, Entered}
+use Rattle.compiler.specs.Walks.{jumpNear, plainEntry, plainEntries, simpleAt}
 
 -- entries four words at a time
 pub plain-step : (ws : List ℕ) → 4 ≤ length ws → plainEntries ws ≡ (plainEntry (getD ws 0 0) (getD ws 1 0) (getD ws 2 0) (getD ws 3 0) && plainEntries (take (length ws - 4) (drop 4 ws)))

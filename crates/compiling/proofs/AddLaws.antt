@@ -1,13 +1,13 @@
 -- Adding an item to a program adds its spans at the end, whether jumps merge or not. Assumes nothing.
 use mathlib.Core.Path.{_≡_, refl, sym, ap, _∙_, subst}
 use mathlib.Core.Bool.{Bool, true, false}
-use mathlib.Core.List.{List, [], _∷_, _++_, append-nil, append-assoc}
-use Prim.Native.Nat.{ℕ, _+_, _-_, _≤_}
+use mathlib.Core.List.{List, [], _++_, append-nil, append-assoc}
+use Prim.Native.Nat.{ℕ, _+_, _-_}
 use native.Mathlib.Omega.{arith}
 use lib.Dec.{leb}
 use lib.ListN.{length, take, drop, length-append, length-drop, take-append-drop}
 use lib.Seq.{length-take-le}
-use Rattle.meaning.specs.Programs.{Item, Prog, one, jump, range, alt, end, _▹_, SpanOf, Span, _⧺_}
+use Rattle.meaning.specs.Programs.{Item, Prog, one, jump, range, alt, end, _▹_, SpanOf, Span}
 use Rattle.compiling.specs.Compiling.{jumpLimit, jumpOf, pairBy, add}
 
 -- a span of p, and after it a span of i

@@ -1,11 +1,10 @@
 -- Lists read backwards: their spans are the spans read from their other side. Assumes nothing.
 use mathlib.Core.Path.{_≡_, refl, sym, ap, ap₂, _∙_, subst, subst₂}
-use mathlib.Core.Bool.{Bool, true, false, _&&_}
-use mathlib.Core.Logic.{_⊎_, inl, inr, _↔_}
-use mathlib.Core.Option.{Option, none, some}
-use mathlib.Core.List.{List, [], _∷_, _++_, append-nil, reverse, reverse-append, reverse-reverse}
+use mathlib.Core.Bool.{true}
+use mathlib.Core.Logic.{inl, inr, _↔_}
+use mathlib.Core.List.{List, [], _∷_, _++_, reverse, reverse-append, reverse-reverse}
 use Prim.Native.Nat.{ℕ}
-use lib.ListN.{length, length-reverse}
+use lib.ListN.{length-reverse}
 use Rattle.meaning.specs.Tokens.{Token, Tokens, Lists, Byte, NotByte, MaskedByte, NotMaskedByte, Jump, Alternatives, nothing, _then_, neither, _or_, One, Within, Matches, Spans, MatchesOne, _⊕_}
 use Rattle.meaning.specs.Values.{Bytes, SpelledOne, Spelled, SpelledFirst, SpelledMore}
 use Rattle.meaning.proofs.SoundLaws.{and-left, and-right, false-true}

@@ -1,21 +1,19 @@
 -- What compiling promises: sound words, and programs with exactly the spans of the tokens. Assumes nothing.
 use mathlib.Core.Path.{_≡_, refl, sym, ap, _∙_, subst}
-use mathlib.Core.Bool.{Bool, true, false, _&&_}
+use mathlib.Core.Bool.{true}
 use mathlib.Core.Logic.{_↔_, Iff·trans}
 use mathlib.Core.List.{List, reverse}
-use Prim.Native.Nat.{ℕ, _*_, _≤_}
+use Prim.Native.Nat.{ℕ, _≤_}
 use native.Mathlib.Omega.{arith}
-use lib.Dec.{leb}
-use lib.ListN.{length}
 use borrow.Author.Tests.{leb-true}
 use Rattle.meaning.specs.Tokens.{Tokens, Spans}
 use Rattle.meaning.specs.Values.{Bytes, Spelled}
 use Rattle.meaning.specs.Programs.{Prog, Span}
-use Rattle.meaning.specs.Words.{fieldSize, prog, soundWords, sound}
+use Rattle.meaning.specs.Words.{prog, sound}
 use Rattle.meaning.proofs.SoundLaws.{and-left, and-right}
 use Rattle.compiling.specs.ProgramWords.{wordsOf, nodes}
 use Rattle.compiling.specs.Compiling.{nodeLimit, backwards, forwardProgram, reverseProgram, forwardWords, reverseWords}
-use Rattle.compiling.specs.Compile.{simple, short, few, Compiled, compiled, compile}
+use Rattle.compiling.specs.Compile.{simple, short, few, compiled, compile}
 use Rattle.compiling.proofs.SaidLaws.{Fit, words-sound, words-say}
 use Rattle.compiling.proofs.FitLaws.{forward-fits, simple-bounded}
 use Rattle.compiling.proofs.TokenSpans.{forward-spans}
@@ -43,7 +41,8 @@ module _ (ts : Tokens) (w : Spelled ts) (f r : List ℕ) (e : compile ts ≡ com
   simply : simple ts ≡ true
   simply = programs-tests ts f r e .0
 
-  forward-says : (sound f ≡ true) × (prog f ≡ forwardProgram ts)
+  -- the words of both programs are sound, and say these programs
+  pub forward-says : (sound f ≡ true) × (prog f ≡ forwardProgram ts)
   unfolding forwardWords
   forward-says =
       let q = programs-tests ts f r e in
@@ -53,7 +52,7 @@ module _ (ts : Tokens) (w : Spelled ts) (f r : List ℕ) (e : compile ts ≡ com
       let l : few p ≡ true = and-left (few p) (few (reverseProgram ts)) (q .2) in
       (ap sound (sym (q .3)) ∙ limits-sound p h g l, ap prog (sym (q .3)) ∙ limits-say p h g l)
 
-  reverse-says : (sound r ≡ true) × (prog r ≡ reverseProgram ts)
+  pub reverse-says : (sound r ≡ true) × (prog r ≡ reverseProgram ts)
   unfolding reverseWords
   reverse-says =
       let q = programs-tests ts f r e in

@@ -1,18 +1,18 @@
 -- How many nodes a program has: no more than its tokens have entries. Assumes nothing.
-use mathlib.Core.Path.{_≡_, refl, sym, ap, _∙_, subst}
+use mathlib.Core.Path.{_≡_, refl, ap}
 use mathlib.Core.Bool.{Bool, true, false}
-use mathlib.Core.List.{List, [], _∷_, _++_}
-use mathlib.Core.Option.{Option, none, some}
-use Prim.Native.Nat.{ℕ, suc, _+_, _*_, _≤_}
+use mathlib.Core.List.{[], _++_}
+use mathlib.Core.Option.{none, some}
+use Prim.Native.Nat.{ℕ, _+_, _*_, _≤_}
 use native.Mathlib.Omega.{arith}
 use lib.Dec.{ltb}
 use lib.ListN.{length, length-append}
-use Rattle.meaning.specs.Tokens.{Mask, left, right, all, Token, Tokens, Lists, Byte, NotByte, MaskedByte, NotMaskedByte, Jump, Alternatives, nothing, _then_, neither, _or_, _⊕_}
+use Rattle.meaning.specs.Tokens.{left, right, all, Token, Tokens, Lists, Byte, NotByte, MaskedByte, NotMaskedByte, Jump, Alternatives, nothing, _then_, neither, _or_}
 use Rattle.meaning.specs.Entries.{entriesOf, entries, listEntries}
 use Rattle.meaning.proofs.TokenLaws.{entries-join}
-use Rattle.meaning.specs.Programs.{Item, Prog, Branches, one, jump, range, alt, end, _▹_, stop, or as branch}
+use Rattle.meaning.specs.Programs.{Item, Prog, one, jump, range, alt, end, _▹_}
 use Rattle.compiling.specs.ProgramWords.{wordsFor, wordsOf, wordsIn, nodes}
-use Rattle.compiling.specs.Compiling.{jumpLimit, jumpOf, pairBy, add, itemOf, added, branchesFor, backwardsOf, backwards, backwardsIn}
+use Rattle.compiling.specs.Compiling.{add, itemOf, added, branchesFor, backwardsOf, backwards, backwardsIn}
 use Rattle.compiling.proofs.FitLaws.{pair-keeps}
 
 abbrev long : Item → ℕ

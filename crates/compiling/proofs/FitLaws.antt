@@ -1,15 +1,15 @@
 -- The program of simple tokens, as a text spells them, has fields that fit. Assumes nothing.
-use mathlib.Core.Path.{_≡_, refl, sym, ap, _∙_, subst}
-use mathlib.Core.Bool.{Bool, true, false, _&&_}
-use mathlib.Core.Option.{Option, none, some}
-use Prim.Native.Nat.{ℕ, _+_, _*_, _≤_, _<_}
+use mathlib.Core.Path.{_≡_, refl}
+use mathlib.Core.Bool.{Bool, true, false}
+use mathlib.Core.Option.{none, some}
+use Prim.Native.Nat.{ℕ, _+_, _≤_, _<_}
 use native.Mathlib.Omega.{arith}
 use lib.Dec.{leb, ltb}
-use borrow.Author.Tests.{leb-true, ltb-true, ltb-false, le-ltb}
+use borrow.Author.Tests.{leb-true, le-ltb}
 use Rattle.meaning.specs.Tokens.{Mask, left, right, all, Token, Tokens, Lists, Byte, NotByte, MaskedByte, NotMaskedByte, Jump, Alternatives, nothing, _then_, neither, _or_}
 use Rattle.meaning.specs.Values.{SpelledOne, Spelled, SpelledFirst, SpelledMore}
-use Rattle.meaning.specs.Programs.{Item, Prog, Branches, one, jump, range, alt, end, _▹_, stop, or as branch}
-use Rattle.meaning.specs.Words.{fieldSize, plain, plainProg}
+use Rattle.meaning.specs.Programs.{Item, Prog, one, jump, range, alt, end, _▹_}
+use Rattle.meaning.specs.Words.{plain, plainProg}
 use Rattle.meaning.proofs.SoundLaws.{and-left, and-right, false-true}
 use Rattle.compiling.specs.Compiling.{jumpLimit, jumpOf, pairBy, add, itemOf, added, branchesFor, forwardProgram}
 use Rattle.compiling.specs.Compile.{plainToken, plainTokens, plainLists, simpleToken, simple}

@@ -1,6 +1,6 @@
 -- What one token asks of a byte, and what its test asks. Assumes nothing.
-use mathlib.Core.Path.{_≡_, refl, sym, ap, _∙_, subst}
-use mathlib.Core.Bool.{Bool, true, false, not}
+use mathlib.Core.Path.{_≡_, ap, _∙_}
+use mathlib.Core.Bool.{true, not}
 use mathlib.Core.Logic.{_↔_}
 use Prim.Native.Nat.{ℕ, _*_, _/_, _%_, _<_}
 use native.Mathlib.Omega.{arith}
@@ -8,8 +8,8 @@ use native.Mathlib.Nat.{mod-eq-of-lt}
 use lib.Dec.{eqb}
 use lib.Bits.{bitAnd, and-mask, and-high, and-zero-r}
 use borrow.Author.Tests.{eqb-true, eqb-false, eq-eqb, ne-eqb, not-true}
-use Rattle.meaning.specs.Tokens.{Mask, left, right, all, Agrees}
-use Rattle.meaning.specs.Programs.{Test, byte, mask, negatedMask, pass}
+use Rattle.meaning.specs.Tokens.{left, right, all, Agrees}
+use Rattle.meaning.specs.Programs.{byte, mask, negatedMask, pass}
 
 -- a byte's bits under the masks
 low-bits : (b : ℕ) → bitAnd b 0x0F ≡ b % 16

@@ -1,17 +1,17 @@
 -- The words of a program whose fields fit are sound, and say that program. Assumes nothing.
 use mathlib.Core.Path.{_≡_, refl, sym, ap, ap₂, _∙_, subst}
-use mathlib.Core.Bool.{Bool, true, false, _&&_}
+use mathlib.Core.Bool.{true}
 use mathlib.Core.List.{List, [], _∷_, _++_}
-use Prim.Native.Nat.{ℕ, zero, suc, _+_, _*_, _/_, _%_, _≤_, _<_}
+use Prim.Native.Nat.{ℕ, _+_, _*_, _/_, _%_, _≤_, _<_}
 use native.Mathlib.Omega.{arith}
-use lib.Dec.{eqb, leb}
+use lib.Dec.{leb}
 use lib.ListN.{length, take, drop, length-append}
 use lib.Seq.{take-at, drop-at}
 use borrow.Author.Tests.{leb-true, le-leb}
 use Rattle.meaning.specs.Programs.{Test, byte, mask, negatedMask, any, dot, Item, Prog, Branches, one, jump, range, alt, end, _▹_, stop, or}
-use Rattle.meaning.specs.Words.{fieldSize, word, Shape, item, opens, mark, wrong, shape, shapeBy, proper, properBy, plain, plainProg, prog, branchesOf, branches, plainWords, Sound, SoundBranches, soundWords, soundBranches}
+use Rattle.meaning.specs.Words.{fieldSize, word, item, opens, mark, shape, shapeBy, proper, properBy, plain, plainProg, prog, branchesOf, branches, plainWords, Sound, SoundBranches, soundWords, soundBranches}
 use Rattle.meaning.proofs.WordLaws.{prog-nil, prog-item, prog-opens, branches-mark}
-use Rattle.meaning.proofs.SoundLaws.{Opened, Marked, make-item, make-opens, make-branch, make-plain, plain-nil, and-left, and-right, false-true}
+use Rattle.meaning.proofs.SoundLaws.{make-item, make-opens, make-branch, make-plain, plain-nil, and-left, and-right, false-true}
 use Rattle.meaning.proofs.MadeLaws.{made-shape, made-proper}
 use Rattle.compiling.specs.ProgramWords.{wordFor, opening, wordsFor, wordsOf, wordsIn, nodes}
 use Rattle.compiling.specs.Compiling.{branchLimit}

@@ -1,14 +1,12 @@
 -- 01's samples and false friends that speak of compiling, from the definitions. Assumes nothing.
 use mathlib.Core.Path.{_≡_, refl}
-use mathlib.Core.Bool.{cond}
 use mathlib.Core.Option.{none, some}
 use mathlib.Core.List.{List, [], _∷_}
-use Prim.Native.Nat.{ℕ}
-use Rattle.base.specs.declared.Refusal.the-variants.{NotSimple, TooManyNodes, BranchTooLong}
-use Rattle.meaning.specs.Tokens.{left, right, all, Token, Tokens, Lists, Byte, NotByte, MaskedByte, NotMaskedByte, Jump, Alternatives, nothing, _then_, neither, _or_, _⊕_}
+use Rattle.base.specs.declared.Refusal.the-variants.{NotSimple}
+use Rattle.meaning.specs.Tokens.{left, right, all, Tokens, Byte, NotByte, MaskedByte, NotMaskedByte, Jump, Alternatives, nothing, _then_, neither, _or_, _⊕_}
 use Rattle.meaning.specs.Words.{word}
-use Rattle.compiling.specs.ProgramWords.{wordFor, opening, wordsFor, wordsOf, wordsIn}
-use Rattle.compiling.specs.Compiling.{jumpOf, pairBy, add, itemOf, added, branchesFor, backwards, forwardProgram, reverseProgram, forwardWords, reverseWords}
+use Rattle.compiling.specs.ProgramWords.{wordFor, opening, wordsOf}
+use Rattle.compiling.specs.Compiling.{jumpOf, pairBy, add, itemOf, backwards, forwardProgram, reverseProgram, forwardWords, reverseWords}
 use Rattle.compiling.specs.Compile.{plainToken, plainTokens, plainLists, simpleToken, simple, shortIn, shortOf, short, few, Compiled, compiled, refused, compile}
 
 -- a pattern, and what compiling it gives

@@ -1,17 +1,17 @@
 -- The program of tokens has exactly their spans. Assumes nothing.
 use mathlib.Core.Path.{_≡_, refl, sym, ap, _∙_, subst}
 use mathlib.Core.Bool.{Bool, true, false}
-use mathlib.Core.Logic.{_⊎_, inl, inr, _↔_}
-use mathlib.Core.Option.{Option, none, some}
+use mathlib.Core.Logic.{inl, inr, _↔_}
+use mathlib.Core.Option.{none, some}
 use mathlib.Core.List.{List, [], _∷_, _++_, append-nil, append-assoc}
-use Prim.Native.Nat.{ℕ, zero, suc, _*_, _≤_, _<_}
+use Prim.Native.Nat.{ℕ, _*_, _≤_, _<_}
 use native.Mathlib.Omega.{arith}
 use lib.Dec.{ltb}
 use lib.ListN.{length}
-use borrow.Author.Tests.{ltb-true, ltb-false}
-use Rattle.meaning.specs.Tokens.{Mask, left, right, all, Token, Tokens, Lists, Byte, NotByte, MaskedByte, NotMaskedByte, Jump, Alternatives, nothing, _then_, neither, _or_, Agrees, One, Within, Matches, Spans, MatchesOne}
+use borrow.Author.Tests.{ltb-false}
+use Rattle.meaning.specs.Tokens.{left, right, all, Token, Tokens, Lists, Byte, NotByte, MaskedByte, NotMaskedByte, Jump, Alternatives, nothing, _then_, neither, _or_, Agrees, One, Within, Matches, Spans, MatchesOne}
 use Rattle.meaning.specs.Values.{Bytes, SpelledOne, Spelled, SpelledFirst, SpelledMore}
-use Rattle.meaning.specs.Programs.{Test, byte, mask, negatedMask, pass, Item, Prog, Branches, one, jump, range, alt, end, _▹_, stop, or as branch, SpanOf, Span, SpanIn}
+use Rattle.meaning.specs.Programs.{Test, byte, mask, negatedMask, pass, Prog, one, end, SpanOf, Span, SpanIn}
 use Rattle.compiling.specs.Compiling.{itemOf, added, branchesFor, add, forwardProgram}
 use Rattle.compiling.proofs.AddLaws.{add-span, span-add}
 use Rattle.compiling.proofs.MaskLaws.{byte-pass, not-byte-pass, left-pass, right-pass, not-left-pass, not-right-pass, not-all-pass}

@@ -1,7 +1,6 @@
 -- What the small readers' answers say, in the terms of reading. Assumes nothing: these are definitions.
 use mathlib.Core.Option.{Option, none, some}
 use Prim.Native.Nat.{ℕ}
-use Rattle.base.specs.declared.Refusal.{Refusal}
 use Rattle.base.specs.declared.Refusal.the-variants.{NumberTooBig}
 use Rattle.meaning.specs.Tokens as meant
 use Rattle.reading.specs.Pieces.{Seen, found, absent, refused, Hex, whole, masked, Range, between}

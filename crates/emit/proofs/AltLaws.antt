@@ -7,11 +7,11 @@ use native.Mathlib.Omega.{arith}
 use lib.Dec.{eqb}
 use lib.ListN.{length, getD, take, drop, set, length-append, length-drop, take-append-drop}
 use lib.Seq.{length-take-le, take-at, drop-at, drop-drop}
-use borrow.Author.Tests.{eqb-true, eq-eqb, ne-eqb}
+use borrow.Author.Tests.{eq-eqb, ne-eqb}
 use borrow.Rule.Slice.PartMut.{putMid}
 use Rattle.meaning.specs.Programs.{Item, Prog, Branches, one, jump, range, alt, end, _▹_, _⧺_}
 use Rattle.meaning.specs.Words.{fieldSize, word}
-use Rattle.compiling.specs.ProgramWords.{opening, wordsFor, wordsOf, wordsIn, nodes}
+use Rattle.compiling.specs.ProgramWords.{opening, wordsFor, wordsOf, wordsIn}
 use Rattle.compiling.specs.Compiling.{jumpOf, add}
 use Rattle.compiling.specs.Compile.{shortIn, shortOf}
 use Rattle.emit.specs.declared.Last.{Last}

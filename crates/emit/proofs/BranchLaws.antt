@@ -1,21 +1,21 @@
 -- Lists behind their marks, one list more. Assumes nothing.
 use mathlib.Core.Path.{_≡_, refl, sym, ap, ap₂, _∙_, subst}
 use mathlib.Core.Bool.{Bool, true, false, not, _&&_, _||_}
-use mathlib.Core.Option.{Option, none, some}
+use mathlib.Core.Option.{none, some}
 use mathlib.Core.List.{List, [], _∷_, _++_, append-nil, append-assoc}
 use Prim.Native.Nat.{ℕ, zero, suc, _+_, _-_, _*_, _/_, _≤_, _<_}
 use native.Mathlib.Omega.{arith}
 use lib.Dec.{leb}
-use lib.ListN.{length, getD, take, drop, set, length-append, length-drop, length-take}
-use lib.Seq.{take-at, drop-at, drop-drop, getD-drop, length-take-le}
+use lib.ListN.{length, getD, take, drop, set, length-append, length-drop}
+use lib.Seq.{drop-at, drop-drop, getD-drop, length-take-le}
 use borrow.Rule.Slice.PartMut.{putMid}
 use Rattle.meaning.specs.Tokens.{Token, Tokens, Lists, Byte, NotByte, MaskedByte, NotMaskedByte, Jump, Alternatives, nothing, _then_, neither, _or_}
 use Rattle.meaning.specs.Entries.{entry, entriesIn, tokenCount, listCount, entriesOf, entries, listEntries}
-use Rattle.meaning.specs.Programs.{Item, Prog, Branches, one, jump, range, alt, end, _▹_, stop, or as branch}
+use Rattle.meaning.specs.Programs.{Item, Prog, Branches, one, jump, range, alt, or as branch}
 use Rattle.meaning.specs.Words.{word}
 use Rattle.meaning.proofs.SoundLaws.{and-left, and-right, false-true}
 use Rattle.compiling.specs.ProgramWords.{wordsFor, wordsOf, wordsIn, nodes}
-use Rattle.compiling.specs.Compiling.{branchLimit, add}
+use Rattle.compiling.specs.Compiling.{branchLimit}
 use Rattle.compiling.specs.Compile.{plainToken, plainTokens, plainLists, shortIn}
 use Rattle.compiling.proofs.CountLaws.{add-nodes}
 use Rattle.emit.specs.Lists.{addedTo, listItem, listProgram, branchesAt, Listed}

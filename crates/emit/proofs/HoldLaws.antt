@@ -1,5 +1,5 @@
 -- A buffer that holds a program's words holds those of the program with one item more, after a piece is put. Assumes nothing.
-use mathlib.Core.Path.{_≡_, refl, sym, ap, ap₂, _∙_, subst}
+use mathlib.Core.Path.{_≡_, refl, sym, ap, ap₂, _∙_}
 use mathlib.Core.Bool.{Bool, true, false, cond}
 use mathlib.Core.Option.{Option, none, some}
 use mathlib.Core.List.{List, [], _∷_, _++_, append-nil, append-assoc}
@@ -7,10 +7,10 @@ use Prim.Native.Nat.{ℕ, suc, _+_, _*_, _-_, _%_, _≤_, _<_}
 use native.Mathlib.Omega.{arith}
 use native.Mathlib.Numerals.{add-one}
 use lib.Dec.{eqb, leb, ltb}
-use lib.ListN.{length, getD, drop, set, length-append, length-set, length-drop}
+use lib.ListN.{length, getD, drop, set, length-append, length-drop}
 use lib.Seq.{set-at, drop-cons}
 use borrow.Author.Tests.{leb-true, leb-false, le-leb, lt-leb}
-use Rattle.meaning.specs.Programs.{byte, mask, negatedMask, Item, Prog, Branches, one, jump, range, alt, end, _▹_, _⧺_}
+use Rattle.meaning.specs.Programs.{byte, mask, negatedMask, Item, Prog, one, jump, range, alt, end, _▹_, _⧺_}
 use Rattle.meaning.specs.Words.{word}
 use Rattle.compiling.specs.ProgramWords.{wordFor, wordsFor, wordsOf, nodes}
 use Rattle.compiling.specs.Compiling.{jumpLimit, jumpOf, pairBy, add}
@@ -127,9 +127,6 @@ grown-behind (i ▹ p) n l e f = omega (arith, e, length-append (wordsFor i) (wo
     some-word (alt bs) = omega arith
 
 module _ (p : Prog) (o out : List ℕ) (n : ℕ) (last : Last) (h : Holds p o out n last) where
-  pub holds-length : n ≤ length o → length out ≡ length o
-  holds-length l = ap length (h .front) ∙ length-append (wordsOf p) (drop n o) ∙ (let e = h .count in omega (arith, length-drop n o))
-
   room : n < length out → n < length o
   room r = let e = h .count in omega (arith, ap length (h .front), length-append (wordsOf p) (drop n o), length-drop n o)
 

@@ -1,27 +1,27 @@
 -- What is read off entries is what the tokens are. Assumes nothing.
-use mathlib.Core.Path.{_≡_, refl, sym, ap, ap₂, _∙_, subst, subst₂}
-use mathlib.Core.Bool.{Bool, true, false, cond, _&&_}
-use mathlib.Core.Option.{Option, none, some}
-use mathlib.Core.List.{List, [], _∷_, _++_, append-nil, append-assoc}
+use mathlib.Core.Path.{_≡_, refl, sym, ap, ap₂, _∙_, subst₂}
+use mathlib.Core.Bool.{Bool, true, false}
+use mathlib.Core.Option.{none, some}
+use mathlib.Core.List.{List, _++_}
 use Prim.Native.Nat.{ℕ, zero, suc, _+_, _-_, _*_, _/_, _%_, _≤_, _<_}
 use native.Mathlib.Omega.{arith}
 use native.Mathlib.Nat.{mod-eq-of-lt}
-use lib.Dec.{eqb, leb, ltb}
+use lib.Dec.{leb}
 use lib.ListN.{length, getD, take, drop, length-append, length-drop}
-use lib.Seq.{take-at, drop-at, drop-drop, getD-drop}
+use lib.Seq.{take-at, drop-drop, getD-drop}
 use borrow.Author.Tests.{leb-true}
-use Rattle.meaning.specs.Tokens.{Mask, left, right, all, Token, Tokens, Lists, Byte, NotByte, MaskedByte, NotMaskedByte, Jump, Alternatives, nothing, _then_, neither, _or_, _⊕_}
-use Rattle.meaning.specs.Values.{SpelledOne, Spelled, SpelledFirst, SpelledMore}
-use Rattle.meaning.specs.Entries.{entry, maskNumber, entriesIn, tokenCount, listCount, entriesOf, entries, listEntries}
-use Rattle.meaning.specs.Programs.{byte, mask, negatedMask, Item, Prog, Branches, one, jump, range, alt, end, _▹_, stop, or as branch}
+use Rattle.meaning.specs.Tokens.{Mask, left, right, all, Token, Tokens, Lists, Byte, NotByte, MaskedByte, NotMaskedByte, Jump, Alternatives, nothing, _then_, neither, _or_}
+use Rattle.meaning.specs.Values.{SpelledOne, Spelled, SpelledMore}
+use Rattle.meaning.specs.Entries.{maskNumber, entriesIn, tokenCount, listCount, entriesOf, entries, listEntries}
+use Rattle.meaning.specs.Programs.{byte, mask, negatedMask, Item, one, alt, end, or as branch}
 use Rattle.meaning.proofs.SoundLaws.{and-left, and-right, false-true}
 use Rattle.compiling.specs.ProgramWords.{nodes}
-use Rattle.compiling.specs.Compiling.{jumpLimit, itemOf, added, branchesFor, backwardsOf, backwards, backwardsIn}
-use Rattle.compiling.specs.Compile.{plainToken, plainTokens, plainLists, simpleToken, simple}
+use Rattle.compiling.specs.Compiling.{jumpLimit, itemOf, added, branchesFor, backwards}
+use Rattle.compiling.specs.Compile.{plainToken, plainTokens, plainLists, simpleToken}
 use Rattle.compiling.proofs.TokenSpans.{any-spelled}
 use Rattle.compiling.proofs.CountLaws.{backwards-long-of, backwards-long}
 use Rattle.emit.specs.Items.{maskItem, notMaskItem, jumpItem, entryItem, placeOf}
-use Rattle.emit.specs.Lists.{addedTo, entryAt, listItem, listProgram, branchesAt, Listed, altAt, tokenAt, tokenItem, tokensProgram, sizeAt, Stands, offsets, Outlined}
+use Rattle.emit.specs.Lists.{addedTo, entryAt, listItem, listProgram, branchesAt, altAt, tokenAt, tokenItem, tokensProgram, sizeAt, Stands, offsets, Outlined}
 use Rattle.emit.proofs.BranchLaws.{plain-long, plain-entries, front-rest}
 use Rattle.emit.proofs.AltLaws.{size-five, size-other, size-least, token-other}
 use Rattle.emit.proofs.OrderLaws.{nth, firsts, directedOf, directed, directedIn, directed-count, nth-directed, place-below, added-firsts, added-all, firsts-room, spelled-nth, simple-nth, offsets-count, Starts, offset-starts}

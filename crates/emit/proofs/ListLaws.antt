@@ -1,13 +1,11 @@
 -- A list's program, one token more. Assumes nothing.
-use mathlib.Core.Path.{_≡_, refl, sym, ap, _∙_, subst}
+use mathlib.Core.Path.{_≡_, ap, _∙_, subst}
 use mathlib.Core.Bool.{Bool}
 use mathlib.Core.List.{List}
-use Prim.Native.Nat.{ℕ, suc, _+_, _*_, _/_, _≤_, _<_}
-use native.Mathlib.Omega.{arith}
+use Prim.Native.Nat.{ℕ, _+_, _*_, _/_, _<_}
 use native.Mathlib.Numerals.{add-one}
 use lib.ListN.{length, getD}
-use Rattle.meaning.specs.Programs.{Item, Prog}
-use Rattle.compiling.specs.ProgramWords.{nodes}
+use Rattle.meaning.specs.Programs.{Item}
 use Rattle.compiling.specs.Compiling.{add}
 use Rattle.emit.specs.declared.Piece.{Piece}
 use Rattle.emit.specs.declared.Last.{Last}
@@ -15,7 +13,7 @@ use Rattle.emit.specs.declared.Last.the-variants.{Fixed}
 use Rattle.emit.specs.Items.{entryItem, pieceOf, placeOf, putCount, putLast, putOut}
 use Rattle.emit.specs.Lists.{addedTo, entryAt, listItem, listProgram}
 use Rattle.emit.proofs.PutLaws.{Puts}
-use Rattle.emit.proofs.HoldLaws.{Holds, Single, put-holds, put-count-le, entry-single, nothing-held}
+use Rattle.emit.proofs.HoldLaws.{Holds, Single, put-holds, entry-single, nothing-held}
 
 pub added-none : (f : ℕ → Item) (o : List ℕ) → Holds (addedTo f 0) o o 0 Fixed
 unfolding addedTo

@@ -2,7 +2,7 @@
 use mathlib.Core.Path.{_≡_, refl, sym, ap, ap₂, _∙_, subst}
 use mathlib.Core.Bool.{Bool, true, false}
 use mathlib.Core.Logic.{_⊎_, inl, inr, ⊎-elim}
-use mathlib.Core.List.{List, [], _∷_, _++_, append-nil, append-assoc}
+use mathlib.Core.List.{List, [], _++_, append-assoc}
 use Prim.Native.Nat.{ℕ, zero, suc, _+_, _-_, _*_, _≤_, _<_}
 use native.Mathlib.Omega.{arith}
 use lib.Dec.{ltb}
@@ -14,11 +14,10 @@ use Rattle.meaning.specs.Values.{SpelledOne, Spelled}
 use Rattle.meaning.specs.Entries.{tokenCount, entriesOf, entries}
 use Rattle.meaning.specs.Programs.{Item, Prog, end}
 use Rattle.meaning.proofs.SoundLaws.{and-left, and-right}
-use Rattle.meaning.proofs.TokenLaws.{entries-join}
 use Rattle.compiling.specs.ProgramWords.{wordsOf, nodes}
 use Rattle.compiling.specs.Compiling.{add, itemOf, added, backwardsOf, backwards, backwardsIn}
 use Rattle.compiling.specs.Compile.{simpleToken, simple}
-use Rattle.compiling.proofs.CountLaws.{added-words, backwards-long}
+use Rattle.compiling.proofs.CountLaws.{added-words}
 use Rattle.emit.specs.Items.{placeOf}
 use Rattle.emit.specs.Lists.{addedTo, offsets}
 

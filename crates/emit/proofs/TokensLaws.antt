@@ -1,8 +1,8 @@
 -- The outer list's program, one token more. Assumes nothing.
-use mathlib.Core.Path.{_≡_, refl, sym, ap, ap₂, _∙_, subst}
+use mathlib.Core.Path.{_≡_, refl, sym, ap, _∙_, subst}
 use mathlib.Core.Bool.{Bool, true, false, not, _&&_, _||_}
 use mathlib.Core.List.{List}
-use Prim.Native.Nat.{ℕ, suc, _+_, _*_, _≤_, _<_}
+use Prim.Native.Nat.{ℕ, _+_, _*_, _≤_, _<_}
 use native.Mathlib.Omega.{arith}
 use native.Mathlib.Numerals.{add-one}
 use lib.Dec.{leb}
@@ -14,7 +14,7 @@ use Rattle.compiling.specs.Compile.{shortOf, short}
 use Rattle.emit.specs.declared.Last.{Last}
 use Rattle.emit.specs.declared.Last.the-variants.{Fixed}
 use Rattle.emit.specs.Items.{placeOf}
-use Rattle.emit.specs.Lists.{addedTo, itemCount, itemLast, itemOut, tokenAt, tokenItem, tokensProgram, sizeAt, Stands, Outlined}
+use Rattle.emit.specs.Lists.{addedTo, itemCount, itemLast, itemOut, tokenAt, tokenItem, tokensProgram, sizeAt, Outlined}
 use Rattle.emit.proofs.HoldLaws.{Holds, nothing-held}
 use Rattle.emit.proofs.AltLaws.{Steps, item-holds, size-least}
 use Rattle.emit.proofs.LinkLaws.{token-room}

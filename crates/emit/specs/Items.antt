@@ -1,12 +1,11 @@
 -- The item of a token entry, and one item more at the end of words. Assumes nothing: these are definitions.
-use mathlib.Core.Path.{_≡_}
 use mathlib.Core.Bool.{Bool, true, false, cond}
 use mathlib.Core.Option.{Option, none, some}
 use mathlib.Core.List.{List}
-use Prim.Native.Nat.{ℕ, zero, suc, _+_, _*_, _-_, _%_, _≤_}
+use Prim.Native.Nat.{ℕ, _+_, _*_, _-_, _%_, _≤_}
 use lib.Dec.{eqb, leb, ltb}
 use lib.ListN.{set}
-use Rattle.meaning.specs.Programs.{byte, mask, negatedMask, Item, Prog, Branches, one, jump, range, alt, end, _▹_}
+use Rattle.meaning.specs.Programs.{byte, mask, negatedMask, Item, Prog, one, jump, range, alt, end, _▹_}
 use Rattle.meaning.specs.Words.{word}
 use Rattle.compiling.specs.ProgramWords.{wordFor}
 use Rattle.compiling.specs.Compiling.{jumpLimit, jumpOf}

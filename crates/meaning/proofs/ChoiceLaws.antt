@@ -1,16 +1,12 @@
 -- The search gives the first choice that fits. Assumes nothing.
-use mathlib.Core.Path.{_≡_, refl, sym, ap, ap₂, _∙_, subst}
-use mathlib.Core.Bool.{Bool, true, false}
-use mathlib.Core.Option.{Option, none, some}
-use mathlib.Core.Logic.{_⊎_, inl, inr, ⊎-elim}
-use mathlib.Core.List.{List, [], _∷_, _++_, map, reverse, reverse-cons, List·Memᴰ, List·Memᴰ·head, List·Memᴰ·tail, List·Memᴰ·append-cases, List·Memᴰ·cases-cons, List·Memᴰ·not-nil, List·Memᴰ·eq-of-singleton, Memᴰ·append-left, Memᴰ·append-right, Memᴰ·cast}
-use Prim.Native.Nat.{ℕ, zero, suc, _+_, _-_, _≤_, _<_}
+use mathlib.Core.Path.{refl}
+use mathlib.Core.Logic.{inl, inr}
+use mathlib.Core.List.{List}
+use Prim.Native.Nat.{ℕ, _-_}
 use native.Mathlib.Omega.{arith}
 use lib.ListN.{length}
-use Rattle.meaning.specs.Programs.{Test, any, pass, Item, Prog, Branches, one, jump, range, alt, end, _▹_, stop, or, SpanOf, Span, SpanIn}
-use Rattle.meaning.specs.Choices.{Pick, Choice, only, bytes, first, later, done, pick, Offers, Chooses, OffersIn, Takes, Fits, TakesIn, FitsAt, Order, short, long, Earlier, SoonerPick, Sooner, of-lengths, of-branches, in-first, in-later, at-this, further, First}
-use Rattle.meaning.specs.Rows.{Row, when, orElse, andThen, rest, found, before, _⊗_, anys, rising, lengths, rowsOf, rows, rowsIn, run, picked, _⊠_, picks, choices, picksIn, headPick, tailChoice, byPick, rowPick, rowBy, rowIn}
-use Rattle.meaning.proofs.RowLaws.{rest-append, rest-split}
+use Rattle.meaning.specs.Programs.{Item, Prog, Branches, one, jump, range, alt, end, _▹_, stop, or, SpanOf, Span, SpanIn}
+use Rattle.meaning.specs.Choices.{Pick, Choice, only, bytes, first, later, done, pick, Offers, Chooses, OffersIn, Takes, Fits, TakesIn}
 
 -- a span is what some choice fits
 mutual

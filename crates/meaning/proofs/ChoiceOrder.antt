@@ -1,13 +1,13 @@
 -- The list of choices: it has each choice of the program, and only those, and each is sooner than all that follow it.
 -- Assumes nothing.
-use mathlib.Core.Path.{_≡_, refl, sym, ap, ap₂, _∙_, subst}
+use mathlib.Core.Path.{_≡_, refl, sym, ap, subst}
 use mathlib.Core.Logic.{_⊎_, inl, inr, ⊎-elim}
 use mathlib.Core.List.{List, [], _∷_, _++_, map, reverse, reverse-cons, reverse-reverse, List·Memᴰ, List·Memᴰ·head, List·Memᴰ·tail, List·Memᴰ·append-cases, List·Memᴰ·cases-cons, List·Memᴰ·not-nil, List·Memᴰ·eq-of-singleton, Memᴰ·append-left, Memᴰ·append-right, Memᴰ·cast, Memᴰ·map, Memᴰ·of-map}
 use Prim.Native.Nat.{ℕ, zero, suc, _+_, _-_, _≤_, _<_}
 use native.Mathlib.Omega.{arith}
 use native.Mathlib.Nat.{eq-or-lt-of-le}
 use Rattle.meaning.specs.Programs.{Item, Prog, Branches, one, jump, range, alt, end, _▹_, stop, or}
-use Rattle.meaning.specs.Choices.{Pick, Choice, only, bytes, first, later, done, pick, Offers, Chooses, OffersIn, Order, short, long, Earlier, SoonerPick, Sooner, of-lengths, of-branches, in-first, in-later, at-this, further}
+use Rattle.meaning.specs.Choices.{Pick, Choice, bytes, first, later, pick, Offers, Chooses, OffersIn, Order, short, long, Earlier, SoonerPick, Sooner, of-lengths, of-branches, in-first, in-later, at-this, further}
 use Rattle.meaning.specs.Rows.{rising, lengths, picked, _⊠_, picks, choices, picksIn}
 
 -- membership in a reversed list

@@ -1,16 +1,16 @@
 -- Each choice has a row, which fits just the bytes that the choice fits; the rows of a program are those of its choices.
 -- Assumes nothing.
-use mathlib.Core.Path.{_≡_, refl, sym, ap, ap₂, _∙_, subst}
+use mathlib.Core.Path.{_≡_, refl, sym, ap, ap₂, _∙_}
 use mathlib.Core.Bool.{Bool, true, false}
 use mathlib.Core.Option.{Option, none, some}
-use mathlib.Core.Logic.{_⊎_, inl, inr}
+use mathlib.Core.Logic.{inl, inr}
 use mathlib.Core.List.{List, [], _∷_, _++_, map, map-map, map-append}
-use Prim.Native.Nat.{ℕ, zero, suc, _+_, _≤_}
+use Prim.Native.Nat.{ℕ, zero, suc, _+_}
 use native.Mathlib.Omega.{arith}
 use lib.ListN.{length}
-use Rattle.meaning.specs.Programs.{Test, any, pass, Item, Prog, Branches, one, jump, range, alt, end, _▹_, stop, or}
-use Rattle.meaning.specs.Choices.{Pick, Choice, only, bytes, first, later, done, pick, Offers, Chooses, OffersIn, Takes, Fits, TakesIn, Order}
-use Rattle.meaning.specs.Rows.{Row, when, orElse, andThen, rest, found, before, _⊗_, anys, lengths, rowsOf, rows, rowsIn, picked, _⊠_, picks, choices, picksIn, headPick, tailChoice, byPick, rowPick, rowBy, rowIn}
+use Rattle.meaning.specs.Programs.{Test, pass, Item, Prog, Branches, one, jump, range, alt, end, _▹_, stop, or}
+use Rattle.meaning.specs.Choices.{Pick, Choice, bytes, first, later, Offers, Chooses, OffersIn, Takes, Fits, TakesIn, Order}
+use Rattle.meaning.specs.Rows.{Row, when, andThen, rest, before, _⊗_, anys, lengths, rowsOf, rows, rowsIn, picked, _⊠_, picks, choices, picksIn, headPick, tailChoice, byPick, rowPick, rowBy, rowIn}
 use Rattle.meaning.proofs.RowLaws.{rest-append, rest-split}
 
 -- the rows of a program are those of its choices, in their order

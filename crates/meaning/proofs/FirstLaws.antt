@@ -1,13 +1,13 @@
 -- What the search finds: the first choice that fits, and nothing where none fits. Assumes nothing.
-use mathlib.Core.Path.{_≡_, refl, sym, ap, ap₂, _∙_, subst}
+use mathlib.Core.Path.{_≡_, refl, sym, ap, _∙_, subst}
 use mathlib.Core.Option.{Option, none, some}
 use mathlib.Core.Logic.{_⊎_, inl, inr, ⊎-elim, _↔_}
-use mathlib.Core.List.{List, [], _∷_, _++_, map, reverse, reverse-append, reverse-reverse, List·Memᴰ, List·Memᴰ·head, List·Memᴰ·tail, List·Memᴰ·append-cases, List·Memᴰ·cases-cons, List·Memᴰ·not-nil, Memᴰ·append-right}
+use mathlib.Core.List.{List, [], _∷_, _++_, map, reverse, reverse-append, reverse-reverse, List·Memᴰ, List·Memᴰ·head, List·Memᴰ·append-cases, List·Memᴰ·cases-cons, List·Memᴰ·not-nil, Memᴰ·append-right}
 use Prim.Native.Nat.{ℕ}
 use native.Mathlib.Omega.{arith}
 use Rattle.meaning.specs.Programs.{Prog, Span, mirror}
-use Rattle.meaning.specs.Choices.{Choice, Chooses, Fits, FitsAt, Order, short, long, Sooner, First, Nowhere, FirstForward, FirstReverse}
-use Rattle.meaning.specs.Rows.{Row, orElse, rest, found, rows, run, forward, backward, choices, rowBy}
+use Rattle.meaning.specs.Choices.{Choice, FitsAt, Order, short, long, Sooner, First, Nowhere, FirstForward, FirstReverse}
+use Rattle.meaning.specs.Rows.{Row, orElse, rest, found, run, forward, backward, choices, rowBy}
 use Rattle.meaning.proofs.RowLaws.{rest-split}
 use Rattle.meaning.proofs.ChoiceLaws.{span-fits, fits-span, fits-chooses}
 use Rattle.meaning.proofs.ChoiceRows.{rows-choices, rest-frame, fits-row, row-fits}

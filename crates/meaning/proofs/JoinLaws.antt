@@ -1,16 +1,15 @@
 -- One list of words after another. Assumes nothing.
 use mathlib.Core.Path.{_≡_, refl, sym, ap, ap₂, _∙_, subst}
-use mathlib.Core.Bool.{Bool, true, false}
 use mathlib.Core.List.{List, [], _∷_, _++_}
-use Prim.Native.Nat.{ℕ, zero, suc, _+_, _-_, _≤_, _<_}
+use Prim.Native.Nat.{ℕ, zero, suc, _+_, _-_, _≤_}
 use native.Mathlib.Omega.{arith}
 use native.Mathlib.Nat.{le-refl}
 use lib.ListN.{length, take, drop, length-append}
 use lib.Seq.{take-append-le, drop-append-le}
-use Rattle.meaning.specs.Programs.{Span, Item, Prog, Branches, alt, end, _▹_, _⧺_}
+use Rattle.meaning.specs.Programs.{Span, Item, Prog, alt, _▹_, _⧺_}
 use Rattle.meaning.specs.Words.{Shape, item, opens, mark, wrong, shape, prog, branchesOf, Sound, SoundBranches}
 use Rattle.meaning.proofs.WordLaws.{drop-le, prog-nil, prog-item, prog-opens}
-use Rattle.meaning.proofs.SoundLaws.{Opened, sound-proper, sound-item, sound-opens, sound-mark, sound-wrong, make-item, make-opens}
+use Rattle.meaning.proofs.SoundLaws.{sound-proper, sound-item, sound-opens, sound-mark, sound-wrong, make-item, make-opens}
 use Rattle.meaning.proofs.SpanLaws.{join-span, span-join}
 
 record Joined (ws vs : List ℕ) : Type 0 where

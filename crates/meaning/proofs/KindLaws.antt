@@ -4,8 +4,8 @@ use mathlib.Core.Bool.{Bool, true, false, cond}
 use Prim.Native.Nat.{ℕ, _+_, _*_, _/_, _%_}
 use native.Mathlib.Omega.{arith}
 use lib.Dec.{eqb}
-use borrow.Author.Tests.{eqb-true, ne-eqb}
-use Rattle.meaning.specs.Programs.{Test, byte, mask, negatedMask, dot, Item, Branches, one, jump, range, alt}
+use borrow.Author.Tests.{eqb-true}
+use Rattle.meaning.specs.Programs.{byte, mask, negatedMask, dot, one, jump, range, alt}
 use Rattle.meaning.specs.Words.{fieldSize, kindOf, firstOf, secondOf, Shape, item, opens, mark, wrong, shapeBy, shape}
 
 -- the kind that a shape has
@@ -39,10 +39,6 @@ module _ (w : ℕ) where
   seen = seen-by (kindOf w) (firstOf w) (secondOf w)
 
   -- the shape of a word by its kind
-  pub kind-byte : kindOf w ≡ 0 → shape w ≡ item (one (byte (firstOf w)))
-  unfolding shape shapeBy
-  kind-byte e = rw e
-
   pub kind-jump : kindOf w ≡ 3 → shape w ≡ item (jump (firstOf w))
   unfolding shape shapeBy
   kind-jump e = rw e

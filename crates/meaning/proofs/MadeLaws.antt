@@ -1,11 +1,10 @@
 -- What a word that is made of a kind and two fields says, and when it is proper. Assumes nothing.
-use mathlib.Core.Path.{_≡_, refl, sym, ap, _∙_}
-use mathlib.Core.Bool.{Bool, true, false, _&&_}
-use Prim.Native.Nat.{ℕ, _+_, _*_, _/_, _%_, _<_}
+use mathlib.Core.Path.{_≡_}
+use mathlib.Core.Bool.{true}
+use Prim.Native.Nat.{ℕ, _*_, _<_}
 use native.Mathlib.Omega.{arith}
-use lib.Dec.{eqb, leb, ltb}
 use borrow.Author.Tests.{lt-ltb}
-use Rattle.meaning.specs.Words.{fieldSize, word, kindOf, firstOf, secondOf, Shape, item, opens, mark, wrong, shapeBy, shape, properBy, proper}
+use Rattle.meaning.specs.Words.{fieldSize, word, shapeBy, shape, properBy, proper}
 use Rattle.meaning.proofs.FieldLaws.{kind-made, first-made, second-made}
 
 module _ (k a b : ℕ) (hk : k < 256) (ha : a < fieldSize) (hb : b < fieldSize) where

@@ -1,18 +1,17 @@
 -- The mirror of words. Assumes nothing.
 use mathlib.Core.Path.{_≡_, refl, sym, ap, ap₂, _∙_, subst}
-use mathlib.Core.Bool.{Bool, true, false, _&&_}
-use mathlib.Core.List.{List, [], _∷_, _++_, reverse}
-use Prim.Native.Nat.{ℕ, zero, suc, _+_, _-_, _%_, _≤_, _<_}
+use mathlib.Core.Bool.{true}
+use mathlib.Core.List.{List, [], _∷_, _++_}
+use Prim.Native.Nat.{ℕ, zero, suc, _+_, _-_, _%_, _≤_}
 use native.Mathlib.Omega.{arith}
 use native.Mathlib.Nat.{le-refl}
-use lib.Dec.{eqb}
 use lib.ListN.{length, take, drop, length-append, length-drop}
 use lib.Seq.{take-at, drop-at, take-length, drop-length, length-take-le}
-use Rattle.meaning.specs.Programs.{Item, Prog, Branches, one, jump, range, alt, end, _▹_, stop, or, _⧺_, mirror, mirrorOf, mirrorIn}
-use Rattle.meaning.specs.Words.{Shape, item, opens, mark, wrong, shape, proper, plain, prog, items, branchesOf, branches, plainWords, Sound, SoundBranches, soundBranches, soundWords, mirrorItems, mirrorBranches, mirrorWords}
+use Rattle.meaning.specs.Programs.{Item, Prog, Branches, one, jump, range, alt, _▹_, or, _⧺_, mirror, mirrorOf, mirrorIn}
+use Rattle.meaning.specs.Words.{Shape, item, opens, mark, wrong, shape, prog, branchesOf, branches, plainWords, Sound, SoundBranches, soundBranches, soundWords, mirrorItems, mirrorBranches, mirrorWords}
 use Rattle.meaning.proofs.KindLaws.{Seen, seen}
 use Rattle.meaning.proofs.WordLaws.{take-le, drop-le, prog-nil, prog-item, prog-opens, branches-mark}
-use Rattle.meaning.proofs.SoundLaws.{Opened, Marked, sound-proper, branch-proper, sound-item, sound-opens, sound-mark, sound-wrong, sound-branch, branch-shape, make-item, make-opens, make-branch, plain-item, plain-sound, make-plain, plain-append, plain-nil, false-true, and-right}
+use Rattle.meaning.proofs.SoundLaws.{sound-proper, branch-proper, sound-item, sound-opens, sound-mark, sound-wrong, sound-branch, branch-shape, make-item, make-opens, make-branch, plain-item, plain-sound, make-plain, plain-append, plain-nil}
 use Rattle.meaning.proofs.JoinLaws.{sound-append, prog-append}
 
 -- what the mirror m of the words ws is

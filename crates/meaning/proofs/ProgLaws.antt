@@ -1,10 +1,9 @@
 -- Laws of programs. Assumes nothing.
-use mathlib.Core.Path.{_≡_, refl, sym, ap, ap₂, _∙_}
-use mathlib.Core.List.{List, [], _∷_, _++_, map, append-nil, append-assoc, reverse}
-use Prim.Native.Nat.{ℕ, zero, suc, _+_, _-_}
-use Rattle.meaning.specs.Programs.{Test, Item, Prog, Branches, one, jump, range, alt, end, _▹_, stop, or, _⧺_}
-use Rattle.meaning.specs.Choices.{Order, short, long}
-use Rattle.meaning.specs.Rows.{Row, _⊗_, rows, rowsOf, rowsIn}
+use mathlib.Core.Path.{_≡_, sym}
+use Prim.Native.Nat.{_-_}
+use Rattle.meaning.specs.Programs.{Prog, end, _▹_, _⧺_}
+use Rattle.meaning.specs.Choices.{Order}
+use Rattle.meaning.specs.Rows.{_⊗_, rows, rowsOf}
 use Rattle.meaning.proofs.RowLaws.{times-assoc, one-times}
 
 pub rows-join : (o : Order) (p q : Prog) → rows o (p ⧺ q) ≡ rows o p ⊗ rows o q

@@ -1,14 +1,12 @@
 -- Laws of rows. Assumes nothing.
-use mathlib.Core.Path.{_≡_, refl, sym, ap, ap₂, _∙_}
-use mathlib.Core.Bool.{Bool, true, false, not}
+use mathlib.Core.Path.{_≡_, refl, sym, ap, _∙_}
+use mathlib.Core.Bool.{Bool, true, false}
 use mathlib.Core.Option.{Option, none, some}
-use mathlib.Core.Logic.{_⊎_, inl, inr, ⊎-elim}
-use mathlib.Core.List.{List, [], _∷_, _++_, map, append-nil, append-assoc, reverse, reverse-cons, reverse-append, List·Memᴰ, List·Memᴰ·append-cases, List·Memᴰ·cases-cons, Memᴰ·append-left, Memᴰ·append-right, Memᴰ·cast}
-use Prim.Native.Nat.{ℕ, zero, suc, _+_, _-_}
+use mathlib.Core.List.{List, [], _∷_, _++_, append-nil, append-assoc}
+use Prim.Native.Nat.{ℕ, _+_, _-_}
 use native.Mathlib.Omega.{arith}
-use lib.ListN.{length, replicate, drop, take}
-use Rattle.meaning.specs.Programs.{Test, any, pass}
-use Rattle.meaning.specs.Rows.{Row, when, orElse, andThen, rest, found, before, _⊗_, anys, rising}
+use Rattle.meaning.specs.Programs.{pass}
+use Rattle.meaning.specs.Rows.{Row, when, orElse, andThen, rest, found, before, _⊗_}
 
 -- the three joins of answers
 when-then : (x : Bool) (a : Option (List ℕ)) (k : List ℕ → Option (List ℕ)) → andThen (when x a) k ≡ when x (andThen a k)

@@ -1,17 +1,17 @@
 -- The laws of `run`, a node at a time, in either order. Assumes nothing.
-use mathlib.Core.Path.{_≡_, refl, sym, ap, ap₂, _∙_, subst}
-use mathlib.Core.Bool.{Bool, true, false, _&&_}
+use mathlib.Core.Path.{_≡_, refl, sym, ap, _∙_}
+use mathlib.Core.Bool.{Bool, true, false}
 use mathlib.Core.Option.{Option, none, some}
-use mathlib.Core.List.{List, [], _∷_, _++_, map, append-nil, reverse, reverse-append}
+use mathlib.Core.List.{List, [], _∷_, _++_, map, reverse, reverse-append}
 use Prim.Native.Nat.{ℕ, zero, suc, _+_, _-_, _≤_, _<_}
 use native.Mathlib.Omega.{arith}
 use native.Mathlib.Numerals.{add-one}
 use native.Mathlib.Nat.{add-zero, suc-add, add-suc}
-use lib.ListN.{length, take, drop, replicate}
-use Rattle.meaning.specs.Programs.{Test, any, pass, Item, Prog, Branches, one, jump, range, alt, end, _▹_, stop, or, _⧺_}
+use lib.ListN.{length, drop}
+use Rattle.meaning.specs.Programs.{Test, pass, Prog, Branches, one, jump, range, alt, end, _▹_, stop, or, _⧺_}
 use Rattle.meaning.specs.Choices.{Order, short, long}
-use Rattle.meaning.specs.Rows.{Row, when, orElse, andThen, rest, found, before, _⊗_, anys, rising, lengths, rows, rowsOf, rowsIn, run}
-use Rattle.meaning.proofs.RowLaws.{found-times, found-append, times-append, one-times}
+use Rattle.meaning.specs.Rows.{Row, when, orElse, andThen, rest, found, _⊗_, anys, rising, lengths, rows, run}
+use Rattle.meaning.proofs.RowLaws.{found-times, found-append, times-append}
 use Rattle.meaning.proofs.ProgLaws.{rows-join}
 
 pub or-none : (x : Option (List ℕ)) → orElse x none ≡ x

@@ -1,20 +1,19 @@
 -- The computed soundness test and program are the ones that 01 words. Assumes nothing.
 use mathlib.Core.Path.{_≡_, refl, sym, ap, ap₂, _∙_, subst, subst₂}
-use mathlib.Core.Bool.{Bool, true, false, _&&_}
-use mathlib.Core.Logic.{_⊎_, inl, inr}
+use mathlib.Core.Bool.{true}
 use mathlib.Core.List.{List, [], _∷_, _++_, append-nil}
-use Prim.Native.Nat.{ℕ, zero, suc, _+_, _*_, _-_, _/_, _%_, _≤_, _<_}
+use Prim.Native.Nat.{ℕ, zero, suc, _+_, _*_, _-_, _/_, _%_, _≤_}
 use native.Mathlib.Omega.{arith}
 use native.Mathlib.Nat.{le-refl}
 use lib.Dec.{leb, ltb}
 use borrow.Author.Tests.{leb-true, le-leb}
 use lib.ListN.{length, take, drop, length-append, length-drop, take-append-drop}
 use lib.Seq.{take-append-seam, drop-append-seam, length-take-le, take-all}
-use Rattle.meaning.specs.Programs.{Item, Prog, Branches, one, jump, range, alt, end, _▹_, stop, or}
-use Rattle.meaning.specs.Words.{fieldSize, kindOf, firstOf, secondOf, Shape, item, opens, mark, wrong, shape, shapeBy, properBy, proper, plain, plainProg, plainWords, Says, SaysIn, nothing, node, alternation, last, more, SoundProgram, soundWords, soundBranches, items, branches, prog, branchesOf, sound, Sound, SoundBranches}
+use Rattle.meaning.specs.Programs.{Item, Prog, Branches, alt, end, _▹_, stop, or}
+use Rattle.meaning.specs.Words.{fieldSize, kindOf, firstOf, secondOf, Shape, item, opens, mark, wrong, shape, properBy, proper, plain, plainProg, plainWords, Says, SaysIn, nothing, node, alternation, last, more, SoundProgram, soundWords, soundBranches, branches, prog, branchesOf, sound, Sound, SoundBranches}
 use Rattle.meaning.proofs.KindLaws.{Seen, seen, kind-opens}
 use Rattle.meaning.proofs.WordLaws.{take-le, drop-le, prog-nil, prog-item, prog-opens, branches-mark}
-use Rattle.meaning.proofs.SoundLaws.{Opened, Marked, and-left, and-right, and-both, false-true, sound-proper, branch-proper, sound-item, sound-opens, sound-mark, sound-wrong, sound-branch, branch-shape, make-item, make-opens, make-branch, make-plain, plain-item, plain-sound, plain-nil}
+use Rattle.meaning.proofs.SoundLaws.{Marked, and-left, and-right, and-both, false-true, sound-proper, branch-proper, sound-item, sound-opens, sound-mark, sound-wrong, sound-branch, branch-shape, make-item, make-opens, make-branch, make-plain, plain-item, plain-sound, plain-nil}
 
 -- from the relation to the computed ones
 record Computes (ws : List ℕ) (p : Prog) : Type 0 where

@@ -1,14 +1,14 @@
 -- What soundness gives, word by word. Assumes nothing.
-use mathlib.Core.Path.{_≡_, refl, sym, ap, ap₂, _∙_, subst}
+use mathlib.Core.Path.{_≡_, refl, sym, ap, _∙_}
 use mathlib.Core.Bool.{Bool, true, false, _&&_}
 use mathlib.Core.List.{List, [], _∷_, _++_}
-use Prim.Native.Nat.{ℕ, zero, suc, _+_, _-_, _≤_, _<_}
+use Prim.Native.Nat.{ℕ, zero, suc, _+_, _-_, _≤_}
 use native.Mathlib.Omega.{arith}
 use native.Mathlib.Nat.{le-refl}
-use lib.Dec.{eqb, leb}
+use lib.Dec.{leb}
 use lib.ListN.{length, take, drop}
 use borrow.Author.Tests.{leb-true, le-leb}
-use Rattle.meaning.specs.Programs.{any, Item, Prog, Branches, one, jump, range, alt, end, _▹_, stop, or}
+use Rattle.meaning.specs.Programs.{Item, Prog, one, jump, range, alt, _▹_}
 use Rattle.meaning.specs.Choices.{Order}
 use Rattle.meaning.specs.Rows.{Row, _⊗_, before, anys, rows}
 use Rattle.meaning.specs.Words.{Shape, item, opens, mark, wrong, shape, proper, plain, plainWords, soundBranches, soundWords, Sound, SoundBranches, prog, items}

@@ -1,11 +1,10 @@
 -- The laws of spans: programs end to end, and the mirror. Assumes nothing.
 use mathlib.Core.Path.{_≡_, refl, sym, ap, ap₂, _∙_, subst, subst₂}
-use mathlib.Core.Bool.{true}
-use mathlib.Core.Logic.{_⊎_, inl, inr}
-use mathlib.Core.List.{List, [], _∷_, _++_, append-nil, append-assoc, reverse, reverse-append, reverse-reverse}
-use Prim.Native.Nat.{ℕ, _≤_}
+use mathlib.Core.Logic.{inl, inr}
+use mathlib.Core.List.{List, [], _++_, append-nil, append-assoc, reverse, reverse-append, reverse-reverse}
+use Prim.Native.Nat.{ℕ}
 use native.Mathlib.Omega.{arith}
-use lib.ListN.{length, length-reverse}
+use lib.ListN.{length-reverse}
 use Rattle.meaning.specs.Programs.{Item, Prog, Branches, one, jump, range, alt, end, _▹_, stop, or, SpanOf, Span, SpanIn, _⧺_, mirrorOf, mirror, mirrorIn}
 
 -- laying one program after another joins their spans end to end, and nothing else

@@ -1,6 +1,6 @@
 -- The laws of token lists: spans and entries, end to end. Assumes nothing.
 use mathlib.Core.Path.{_≡_, refl, sym, ap, _∙_, subst}
-use mathlib.Core.List.{List, [], _∷_, _++_, append-nil, append-assoc}
+use mathlib.Core.List.{List, [], _++_, append-nil, append-assoc}
 use Prim.Native.Nat.{ℕ}
 use Rattle.meaning.specs.Tokens.{Token, Tokens, nothing, _then_, Matches, Spans, _⊕_}
 use Rattle.meaning.specs.Entries.{entriesOf, entries}

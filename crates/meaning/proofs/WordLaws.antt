@@ -1,12 +1,11 @@
 -- Laws of node words. Assumes nothing.
-use mathlib.Core.Path.{_≡_, refl, sym, ap, ap₂, _∙_}
-use mathlib.Core.Bool.{Bool, true, false, _&&_}
-use mathlib.Core.List.{List, [], _∷_, _++_}
-use Prim.Native.Nat.{ℕ, zero, suc, _+_, _-_, _≤_, _<_}
+use mathlib.Core.Path.{_≡_, refl}
+use mathlib.Core.List.{List, [], _∷_}
+use Prim.Native.Nat.{ℕ, zero, suc, _-_, _≤_}
 use native.Mathlib.Omega.{arith}
 use native.Mathlib.Nat.{le-refl}
 use lib.ListN.{length, take, drop, length-take, length-drop}
-use Rattle.meaning.specs.Programs.{Item, Prog, Branches, one, jump, range, alt, end, _▹_, stop, or}
+use Rattle.meaning.specs.Programs.{Item, alt, end, _▹_, or}
 use Rattle.meaning.specs.Words.{Shape, item, opens, mark, wrong, shape, items, branches, prog, branchesOf}
 
 pub drop-le : (k n : ℕ) (ws : List ℕ) → length ws ≤ n → length (drop k ws) ≤ n

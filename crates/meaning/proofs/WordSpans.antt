@@ -1,6 +1,6 @@
 -- Demand 3 over words: sound programs end to end, and the mirror, said of spans and of what the checks find. Assumes nothing.
-use mathlib.Core.Path.{_≡_, refl, sym, ap, ap₂, _∙_, subst}
-use mathlib.Core.Bool.{Bool, true, _&&_}
+use mathlib.Core.Path.{_≡_, refl, sym, ap, _∙_, subst}
+use mathlib.Core.Bool.{true}
 use mathlib.Core.Option.{Option, none, some}
 use mathlib.Core.List.{List, _++_, append-assoc, reverse}
 use Prim.Native.Nat.{ℕ, _+_, _≤_}
@@ -8,9 +8,9 @@ use native.Mathlib.Omega.{arith}
 use lib.Dec.{leb}
 use borrow.Author.Tests.{leb-true, le-leb}
 use lib.ListN.{length, length-append}
-use Rattle.meaning.specs.Programs.{Prog, Span, mirror}
-use Rattle.meaning.specs.Choices.{short, long}
-use Rattle.meaning.specs.Rows.{run, forward, backward}
+use Rattle.meaning.specs.Programs.{Prog, Span}
+use Rattle.meaning.specs.Choices.{short}
+use Rattle.meaning.specs.Rows.{forward, backward}
 use Rattle.meaning.specs.Words.{prog, sound, soundWords, Sound, mirrorWords}
 use Rattle.meaning.proofs.SoundLaws.{and-left, and-right, and-both}
 use Rattle.meaning.proofs.JoinLaws.{sound-append, append-span, span-append}

@@ -1,11 +1,10 @@
 -- The examples of the YARA document, 'Writing YARA rules', hexadecimal strings, and of 01: what a pattern matches and what not.
 -- Assumes nothing.
-use mathlib.Core.Path.{_≡_, refl}
-use mathlib.Core.Option.{Option, none, some}
-use mathlib.Core.List.{List, [], _∷_, _++_}
-use Prim.Native.Nat.{ℕ}
+use mathlib.Core.Path.{refl}
+use mathlib.Core.Option.{none, some}
+use mathlib.Core.List.{[], _∷_, _++_}
 use lib.ListN.{replicate}
-use Rattle.meaning.specs.Tokens.{Mask, left, right, all, Token, Tokens, Lists, Byte, NotByte, MaskedByte, NotMaskedByte, Jump, Alternatives, nothing, _then_, neither, _or_, Spans}
+use Rattle.meaning.specs.Tokens.{left, right, all, Tokens, Byte, NotByte, MaskedByte, NotMaskedByte, Jump, Alternatives, nothing, _then_, neither, _or_, Spans}
 use Rattle.meaning.proofs.TokenTest.{spanned, tested, no-span}
 
 -- { E2 34 ?? C8 A? FB }: wild-cards are nibble-wise

@@ -1,22 +1,19 @@
 -- What the door's steps make of the answer and of the pool. Assumes nothing.
-use Prim.Native.Nat.{ℕ, _+_, _-_, _*_, _≤_, _<_}
-use mathlib.Core.Path.{_≡_, refl, sym, ap, ap₂, _∙_, subst}
-use mathlib.Core.Bool.{Bool, cond}
-use mathlib.Core.List.{List, [], _∷_, _++_, append-assoc}
+use Prim.Native.Nat.{ℕ, _+_, _-_, _≤_, _<_}
+use mathlib.Core.Path.{_≡_, refl, sym, ap, ap₂, _∙_}
+use mathlib.Core.List.{List, _++_, append-assoc}
 use native.Mathlib.Omega.{arith}
 use borrow.Author.Tests.{le-leb, lt-leb}
-use lib.Dec.{leb}
 use lib.ListN.{length, take, drop, replicate, getD, length-drop}
-use lib.Seq.{take-at, drop-at, length-take-le}
+use lib.Seq.{drop-at, length-take-le}
 use Rattle.base.specs.declared.Refusal.{Refusal}
 use Rattle.base.specs.declared.Refusal.the-variants.{Unexpected, NoRoom}
-use Rattle.base.specs.Refusals.{numberOf}
-use Rattle.base.specs.Pools.{zeroed, filled, cleared}
+use Rattle.base.specs.Pools.{zeroed, cleared}
 use Rattle.base.proofs.PoolLaws.{zeroed-cleared, zeroed-filled}
 use Rattle.meaning.specs.Tokens.{Tokens}
 use Rattle.meaning.specs.Entries.{entries}
 use Rattle.reading.specs.Blanks.{skip}
-use Rattle.reading.specs.Lists.{Parsed, read, missing, stopped, list, Outcome, accepted, rejected, closing, reading}
+use Rattle.reading.specs.Lists.{list, Outcome, accepted, rejected, closing, reading}
 use Rattle.reading.proofs.PieceLaws.{never}
 use Rattle.reading.proofs.TextLaws.{text-opened, text-closed, text-unclosed, accepted-words}
 use Rattle.reader.specs.declared.ListGot.{ListGot}
@@ -26,7 +23,7 @@ use Rattle.reader.specs.Says.{ListSays}
 use Rattle.reader.proofs.SaysLaws.{list-read, list-absent, list-refused}
 use Rattle.readdoor.specs.declared.ReadAnswer.{ReadAnswer}
 use Rattle.readdoor.specs.declared.ReadAnswer.the-variants as answer
-use Rattle.readdoor.specs.Door.{Said, gives, refuses, said, outcomeSays, outcomeLeaves, readSays, readLeaves, TextSays}
+use Rattle.readdoor.specs.Door.{gives, said, outcomeSays, outcomeLeaves, readSays, readLeaves, TextSays}
 
 pub text-refused : (x : Outcome) (p q : List ℕ) (r : Refusal) (y : ℕ) → x ≡ rejected r y → TextSays x (answer.Refused r y) p q
 unfolding TextSays

@@ -1,14 +1,13 @@
 -- The door's promise leaves one answer and one pool. Assumes nothing.
 use Prim.Native.Nat.{ℕ}
-use mathlib.Core.Path.{_≡_, refl, sym, ap, ap₂, _∙_}
+use mathlib.Core.Path.{_≡_, sym, ap₂, _∙_}
 use mathlib.Core.List.{List}
-use Rattle.base.specs.declared.Refusal.{Refusal}
 use Rattle.base.specs.Refusals.{numberOf}
 use Rattle.base.proofs.RefusalLaws.{number-one}
 use Rattle.reading.proofs.PieceLaws.{never}
 use Rattle.readdoor.specs.declared.ReadAnswer.{ReadAnswer}
 use Rattle.readdoor.specs.declared.ReadAnswer.the-variants.{Read, Refused}
-use Rattle.readdoor.specs.Door.{Said, gives, refuses, said, readSays, readLeaves}
+use Rattle.readdoor.specs.Door.{said, readSays, readLeaves}
 
 -- an answer is known by what it says
 said-one : (r s : ReadAnswer) → said r ≡ said s → r ≡ s

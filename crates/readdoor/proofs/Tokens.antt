@@ -1,7 +1,7 @@
 -- After success the used words decode to the tokens that the text spells. Assumes nothing.
 use Prim.Native.Nat.{ℕ, _≤_}
 use mathlib.Core.Path.{_≡_, refl, sym, ap, _∙_}
-use mathlib.Core.List.{List, _++_}
+use mathlib.Core.List.{List}
 use lib.ListN.{length, take}
 use lib.Seq.{take-at}
 use Rattle.base.specs.Pools.{filled}

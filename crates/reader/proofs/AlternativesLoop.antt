@@ -1,20 +1,18 @@
 -- The loop over the lists of alternatives: what has been read so far, and what each turn and each way out make of it. Assumes nothing.
 use Prim.Native.Nat.{ℕ, suc, _+_, _-_, _*_, _/_, _≤_, _<_}
-use mathlib.Core.Path.{_≡_, refl, sym, ap, ap₂, _∙_, subst}
-use mathlib.Core.Bool.{Bool, false}
+use mathlib.Core.Path.{_≡_, refl, sym, ap, ap₂, _∙_}
+use mathlib.Core.Bool.{false}
 use mathlib.Core.List.{List, [], _∷_, _++_}
 use native.Mathlib.Omega.{arith}
 use lib.ListN.{length, getD, length-append}
 use Rattle.base.specs.declared.Refusal.{Refusal}
 use Rattle.base.specs.declared.Refusal.the-variants.{Unexpected}
-use Rattle.meaning.specs.Tokens.{Token, Tokens, Lists, Alternatives, neither, _or_}
+use Rattle.meaning.specs.Tokens.{Tokens, Lists, Alternatives, neither, _or_}
 use Rattle.meaning.specs.Entries.{entry, entriesIn, entriesOf, entries, listEntries, tokenCount, listCount}
 use Rattle.reading.specs.Blanks.{skip}
-use Rattle.reading.specs.Lists.{Parsed, read, missing, stopped, isJump, asToken, beside, list, lists}
+use Rattle.reading.specs.Lists.{read, stopped, isJump, asToken, beside, list, lists}
 use Rattle.reading.proofs.PieceLaws.{here-at, skip-from, skip-in}
-use Rattle.reading.proofs.ListBounds.{Gone}
 use Rattle.reading.proofs.ListSteps.{list-gone, lists-closed, lists-barred, lists-else, lists-missing, lists-stopped}
-use Rattle.reader.specs.declared.TokenGot.{TokenGot}
 use Rattle.reader.specs.declared.TokenGot.the-variants as token-got
 use Rattle.reader.specs.declared.ListGot.{ListGot}
 use Rattle.reader.specs.declared.ListGot.the-variants as list-got

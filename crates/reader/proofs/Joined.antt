@@ -1,17 +1,16 @@
 -- Tokens and lists read so far, with one more at their end. Assumes nothing.
-use Prim.Native.Nat.{ℕ, suc, _+_, _*_, _≤_}
+use Prim.Native.Nat.{ℕ, suc, _+_, _≤_}
 use mathlib.Core.Path.{_≡_, refl, sym, ap, _∙_}
-use mathlib.Core.Bool.{Bool, true, false, cond, _||_, _&&_}
-use mathlib.Core.List.{List, [], _++_, append-assoc, append-nil}
+use mathlib.Core.Bool.{Bool, true, false, _||_, _&&_}
+use mathlib.Core.List.{List, _++_, append-assoc, append-nil}
 use native.Mathlib.Omega.{arith}
-use native.Mathlib.Numerals.{add-one}
 use borrow.Author.Tests.{le-leb}
-use lib.Dec.{eqb, leb, eqb·suc-zero}
+use lib.Dec.{leb, eqb·suc-zero}
 use lib.ListN.{length, length-append}
 use Rattle.base.specs.declared.Refusal.{Refusal}
 use Rattle.meaning.specs.Tokens.{Token, Tokens, Lists, nothing, _then_, neither, _or_}
 use Rattle.meaning.specs.Entries.{entry, entriesIn, entriesOf, entries, listEntries, tokenCount, listCount}
-use Rattle.reading.specs.Lists.{Parsed, read, missing, stopped, before, beside, isJump, begins, endsIn, ends, atBound}
+use Rattle.reading.specs.Lists.{Parsed, read, stopped, before, beside, isJump, begins, endsIn, ends, atBound}
 use Rattle.reading.proofs.Decoded.{words-of}
 use Rattle.reader.specs.Says.{firstOf}
 

@@ -2,20 +2,18 @@
 use Prim.Native.Nat.{ℕ, suc, _+_, _*_, _≤_, _<_}
 use mathlib.Core.Path.{_≡_, refl, sym, ap, ap₂, _∙_, subst}
 use mathlib.Core.Bool.{Bool, true, false, cond, _||_}
-use mathlib.Core.List.{List, [], _++_}
+use mathlib.Core.List.{List}
 use native.Mathlib.Omega.{arith}
-use lib.Dec.{eqb, eqb·suc-zero}
+use lib.Dec.{eqb·suc-zero}
 use lib.ListN.{length, length-append}
 use Rattle.base.specs.declared.Refusal.{Refusal}
 use Rattle.base.specs.declared.Refusal.the-variants.{JumpAtBound}
-use Rattle.meaning.specs.Tokens.{Token, Tokens, nothing, _then_}
+use Rattle.meaning.specs.Tokens.{Tokens, nothing, _then_}
 use Rattle.meaning.specs.Entries.{entriesOf, entries, tokenCount}
-use Rattle.reading.specs.Lists.{Parsed, read, missing, stopped, isJump, begins, ends, atBound, before, listOf, token, more, list}
-use Rattle.reading.proofs.ListBounds.{Gone}
+use Rattle.reading.specs.Lists.{read, stopped, begins, ends, listOf, token, more, list}
 use Rattle.reading.proofs.ListSteps.{token-gone, more-read, more-none, more-stopped, list-of}
 use Rattle.reader.specs.declared.TokenGot.{TokenGot}
 use Rattle.reader.specs.declared.TokenGot.the-variants as token-got
-use Rattle.reader.specs.declared.ListGot.{ListGot}
 use Rattle.reader.specs.declared.ListGot.the-variants as list-got
 use Rattle.reader.specs.Written.{written}
 use Rattle.reader.specs.Says.{TokenSays, ListSays, firstOf, listEnd}

@@ -4,23 +4,22 @@ use mathlib.Core.Bool.{Bool, true, false, cond}
 use mathlib.Core.List.{List}
 use Prim.Native.Nat.{ℕ, zero, suc, _+_, _-_, _*_, _≤_, _<_}
 use native.Mathlib.Omega.{arith}
-use borrow.Author.Tests.{eqb-true, eqb-false, ltb-true, ltb-false, leb-true, leb-false, le-ltb, lt-ltb, ne-eqb}
+use borrow.Author.Tests.{eqb-true, eqb-false, ltb-true, ltb-false, leb-true, leb-false, le-ltb, lt-ltb}
 use lib.Dec.{eqb, ltb, leb}
 use lib.ListN.{length, getD}
 use Rattle.base.specs.declared.Refusal.{Refusal}
 use Rattle.base.specs.declared.Refusal.the-variants.{TextTooLong, Unexpected, JumpAtBound, HexStringTooDeep, TooManyTokens}
-use Rattle.meaning.specs.Tokens.{Token, Tokens, Lists, nothing, _then_, neither, _or_}
+use Rattle.meaning.specs.Tokens.{Token, Tokens, Lists, nothing, _then_, _or_}
 use Rattle.meaning.specs.Entries.{tokenCount}
 use Rattle.reading.specs.Blanks.{skip}
 use Rattle.reading.specs.Pieces.{Seen, found, absent, refused, digit, within, jumped, plainAt}
 use Rattle.reading.specs.Lists.{Parsed, read, missing, stopped, tokenOr, asToken, bracketed, before, listOf, beside, atBound, begins, ends, token, more, list, lists, Outcome, accepted, rejected, closing, reading}
 use Rattle.reading.specs.Given as given
-use Rattle.reading.proofs.PieceLaws.{never, here-at, skip-from, skip-in}
+use Rattle.reading.proofs.PieceLaws.{never, here-at, skip-from}
 use Rattle.reading.proofs.PieceSteps.{range-else}
 use Rattle.reading.proofs.InToken.{plain-other, in-token-refuses, refused-in-token}
-use Rattle.reading.proofs.ListBounds.{Gone}
 use Rattle.reading.proofs.ListSteps.{token-gone, list-gone, token-step, more-read, more-none, more-stopped, list-deep, list-of, lists-closed, lists-barred, lists-else, lists-missing, lists-stopped}
-use Rattle.reading.proofs.TextLaws.{text-long, text-unopened, text-opened, text-closed, text-unclosed}
+use Rattle.reading.proofs.TextLaws.{text-long, text-unopened, text-opened, text-unclosed}
 
 -- no other token begins with `(`
 bracket-alone : (t : List ℕ) (inside : Bool) (at : ℕ) → getD t at 0 ≡ 40 → plainAt t inside at ≡ absent

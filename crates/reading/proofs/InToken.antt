@@ -3,19 +3,19 @@ use mathlib.Core.Path.{_≡_, refl, sym, ap, ap₂, _∙_, subst}
 use mathlib.Core.Bool.{Bool, true, false, cond, _&&_}
 use mathlib.Core.Option.{Option, none, some}
 use mathlib.Core.List.{List}
-use Prim.Native.Nat.{ℕ, _+_, _-_, _*_, _≤_, _<_}
+use Prim.Native.Nat.{ℕ, _+_, _-_, _≤_, _<_}
 use native.Mathlib.Omega.{arith}
-use borrow.Author.Tests.{eqb-true, eqb-false, ltb-true, ltb-false, leb-true, leb-false, lt-ltb, eq-eqb, ne-eqb}
+use borrow.Author.Tests.{eqb-true, eqb-false, ltb-true, ltb-false, leb-false, lt-ltb}
 use lib.Dec.{eqb, ltb, leb}
-use lib.ListN.{length, drop, getD}
+use lib.ListN.{drop, getD}
 use Rattle.base.specs.declared.Refusal.{Refusal}
-use Rattle.base.specs.declared.Refusal.the-variants.{Unexpected, NumberTooBig, JumpEmpty, JumpRangeInvalid, JumpUnboundedInAlternation, JumpTooBigInAlternation, CannotNegateMaskAll}
-use Rattle.meaning.specs.Tokens.{Mask, left, right, all, Token}
+use Rattle.base.specs.declared.Refusal.the-variants.{Unexpected, NumberTooBig, JumpEmpty, JumpRangeInvalid, JumpTooBigInAlternation, CannotNegateMaskAll}
+use Rattle.meaning.specs.Tokens.{left, right, all, Token}
 use Rattle.reading.specs.Blanks.{skip}
-use Rattle.reading.specs.Pieces.{Seen, found, absent, refused, Hex, whole, masked, Range, between, digit, within, twoDigits, byteAt, oneDigit, maskedAt, hexAt, negated, notAt, decimals, numeral, numberAt, checked, closedAt, upperAt, dashAt, lowerAt, rangeAt, jumpToken, jumped, plainly, plainAt, _else_}
+use Rattle.reading.specs.Pieces.{Seen, found, absent, refused, Hex, whole, masked, Range, between, digit, within, twoDigits, byteAt, oneDigit, maskedAt, hexAt, negated, decimals, numeral, numberAt, checked, closedAt, upperAt, dashAt, lowerAt, rangeAt, jumpToken, jumped, plainly, plainAt, _else_}
 use Rattle.reading.specs.Given as given
 use Rattle.reading.proofs.PieceLaws.{never}
-use Rattle.reading.proofs.PieceSteps.{byte-none, byte-both, masked-all, masked-no-right, hex-masked, not-else, not-hex, number-big, checked-empty, checked-wrong, checked-both, closed-else, closed-at, dash-else, dash-at, range-else, range-at, lower-closed, lower-dash, plain-not, byte-else, jumped-unbounded, jumped-big}
+use Rattle.reading.proofs.PieceSteps.{byte-none, masked-all, masked-no-right, hex-masked, not-else, not-hex, number-big, checked-empty, checked-wrong, checked-both, closed-at, dash-at, range-at, lower-closed, lower-dash, plain-not, byte-else, jumped-unbounded, jumped-big}
 
 -- a byte that begins neither `~` token nor byte nor masked byte
 pub plain-other : (t : List ℕ) (inside : Bool) (at c : ℕ) → getD t at 0 ≡ c → (c ≡ 126 → ⊥) → (c ≡ 63 → ⊥) → digit c ≡ none → plainAt t inside at ≡ jumped inside at (rangeAt t at)

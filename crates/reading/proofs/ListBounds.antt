@@ -1,14 +1,14 @@
 -- What is read lies inside the text, is counted, and has room in the pool. Assumes nothing.
-use mathlib.Core.Path.{_≡_, refl, sym, ap, _∙_, subst}
+use mathlib.Core.Path.{_≡_, refl}
 use mathlib.Core.Bool.{Bool, true, false, cond}
-use mathlib.Core.List.{List, _++_}
+use mathlib.Core.List.{List}
 use Prim.Native.Nat.{ℕ, zero, suc, _+_, _-_, _*_, _≤_, _<_}
 use native.Mathlib.Omega.{arith}
 use borrow.Author.Tests.{eqb-true, ltb-true}
-use lib.Dec.{eqb, ltb, leb}
+use lib.Dec.{eqb, ltb}
 use lib.ListN.{length, getD, length-append}
 use Rattle.base.specs.declared.Refusal.the-variants.{Unexpected, JumpAtBound, HexStringTooDeep, TooManyTokens}
-use Rattle.meaning.specs.Tokens.{Token, Tokens, Lists, Alternatives, nothing, _then_, neither, _or_}
+use Rattle.meaning.specs.Tokens.{Token, Tokens, Lists, nothing, _then_, neither, _or_}
 use Rattle.meaning.specs.Entries.{entriesOf, entries, listEntries}
 use Rattle.reading.specs.Blanks.{skip}
 use Rattle.reading.specs.Pieces.{Seen, found, absent, refused, plainAt}

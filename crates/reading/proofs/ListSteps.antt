@@ -1,21 +1,21 @@
 -- Any bound on the depth of calls that is large enough gives the same, so one step of reading is an equation. Assumes nothing.
-use mathlib.Core.Path.{_≡_, refl, sym, ap, ap₂, _∙_, subst}
+use mathlib.Core.Path.{_≡_, refl, ap, _∙_, subst}
 use mathlib.Core.Bool.{Bool, true, false, cond}
-use mathlib.Core.List.{List, _++_}
+use mathlib.Core.List.{List}
 use Prim.Native.Nat.{ℕ, zero, suc, _+_, _-_, _*_, _≤_, _<_}
 use native.Mathlib.Omega.{arith}
-use borrow.Author.Tests.{eqb-true, eq-eqb, ne-eqb, lt-ltb, le-ltb}
-use lib.Dec.{eqb, ltb, leb}
+use borrow.Author.Tests.{eqb-true, ne-eqb, lt-ltb, le-ltb}
+use lib.Dec.{eqb, ltb}
 use lib.ListN.{length, getD}
 use Rattle.base.specs.declared.Refusal.{Refusal}
 use Rattle.base.specs.declared.Refusal.the-variants.{Unexpected, HexStringTooDeep, TooManyTokens}
 use Rattle.meaning.specs.Tokens.{Token, Tokens, Lists, nothing, _then_, neither, _or_}
-use Rattle.meaning.specs.Entries.{entriesOf, entries, listEntries}
+use Rattle.meaning.specs.Entries.{entriesOf, entries}
 use Rattle.reading.specs.Blanks.{skip}
-use Rattle.reading.specs.Pieces.{Seen, found, absent, refused, plainAt}
+use Rattle.reading.specs.Pieces.{plainAt}
 use Rattle.reading.specs.Lists.{Parsed, read, missing, stopped, tokenOr, asToken, bracketed, before, thenMore, listOf, beside, thenLists, tokenF, moreF, listF, listsF, token, more, list, lists, enough}
 use Rattle.reading.proofs.PieceLaws.{here-at, skip-from}
-use Rattle.reading.proofs.ListBounds.{Gone, TokenIn, MoreIn, ListIn, ListsIn, token-in, more-in, list-in, lists-in}
+use Rattle.reading.proofs.ListBounds.{Gone, TokenIn, ListIn, token-in, list-in}
 
 module _ (f : ℕ) (t : List ℕ) (l c at : ℕ) where
   gone-token : {tok : Token} {e d : ℕ} → tokenF f t l c at ≡ read tok e d → Gone 4 t at c (length (entriesOf tok)) e d

@@ -1,5 +1,5 @@
 -- What a small reader finds lies inside the text, and is one entry of four words. Assumes nothing.
-use mathlib.Core.Path.{_≡_, refl, sym, ap, _∙_, subst}
+use mathlib.Core.Path.{_≡_, refl}
 use mathlib.Core.Bool.{Bool, true, false, cond, _&&_}
 use mathlib.Core.Option.{Option, none, some}
 use mathlib.Core.List.{List}
@@ -8,7 +8,7 @@ use native.Mathlib.Omega.{arith}
 use borrow.Author.Tests.{eqb-true}
 use lib.Dec.{eqb, ltb, leb}
 use lib.ListN.{length, drop, getD, length-drop}
-use Rattle.meaning.specs.Tokens.{Mask, left, right, all, Token, Byte, NotByte, MaskedByte, NotMaskedByte, Jump, Alternatives}
+use Rattle.meaning.specs.Tokens.{Mask, left, right, all, Token, MaskedByte, Jump}
 use Rattle.meaning.specs.Entries.{entriesOf}
 use Rattle.reading.specs.Blanks.{skip}
 use Rattle.reading.specs.Pieces.{Seen, found, absent, refused, upTo, Hex, whole, masked, Range, between, within, digit, twoDigits, byteAt, oneDigit, maskedAt, hexAt, negated, notAt, decimals, numeral, numberAt, checked, closedAt, upperAt, dashAt, lowerAt, rangeAt, jumpToken, jumped, plainly, plainAt, _else_}

@@ -1,18 +1,16 @@
 -- What each test of a small reader decides. Assumes nothing.
-use mathlib.Core.Path.{_≡_, refl, sym, ap, ap₂, _∙_}
+use mathlib.Core.Path.{_≡_, refl, sym}
 use mathlib.Core.Bool.{Bool, true, false, cond, _&&_}
 use mathlib.Core.Option.{Option, none, some}
 use mathlib.Core.List.{List}
 use Prim.Native.Nat.{ℕ, _+_, _-_, _*_, _≤_, _<_}
-use native.Mathlib.Omega.{arith}
-use borrow.Author.Tests.{eq-eqb, ne-eqb, lt-ltb, le-ltb, le-leb, lt-leb}
-use lib.Dec.{eqb, ltb, leb}
-use lib.ListN.{length, drop, getD}
-use Rattle.base.specs.declared.Refusal.{Refusal}
+use borrow.Author.Tests.{ne-eqb, lt-ltb, le-ltb, le-leb, lt-leb}
+use lib.Dec.{eqb, ltb}
+use lib.ListN.{drop, getD}
 use Rattle.base.specs.declared.Refusal.the-variants.{NumberTooBig, JumpEmpty, JumpRangeInvalid, JumpUnboundedInAlternation, JumpTooBigInAlternation}
-use Rattle.meaning.specs.Tokens.{Mask, left, right, all, Token, Jump}
+use Rattle.meaning.specs.Tokens.{left, right, all, Token, Jump}
 use Rattle.reading.specs.Blanks.{skip}
-use Rattle.reading.specs.Pieces.{Seen, found, absent, refused, Hex, whole, masked, Range, between, within, digit, twoDigits, byteAt, oneDigit, maskedAt, hexAt, negated, notAt, decimals, numeral, numberAt, checked, closedAt, upperAt, dashAt, lowerAt, rangeAt, jumpToken, jumped, plainly, plainAt, _else_}
+use Rattle.reading.specs.Pieces.{Seen, found, absent, refused, Hex, whole, masked, between, within, digit, twoDigits, byteAt, oneDigit, maskedAt, hexAt, negated, notAt, decimals, numeral, numberAt, checked, closedAt, upperAt, dashAt, lowerAt, rangeAt, jumpToken, jumped, plainly, plainAt, _else_}
 
 module _ (t : List ℕ) (at : ℕ) where
   pub byte-none : digit (getD t at 0) ≡ none → byteAt t at ≡ absent

@@ -1,20 +1,18 @@
 -- Whole texts: what each test decides, and what an accepted text needs. Assumes nothing.
-use Prim.Native.Nat.{ℕ, suc, _+_, _-_, _*_, _≤_, _<_}
-use mathlib.Core.Path.{_≡_, refl, sym, ap, _∙_, subst}
+use Prim.Native.Nat.{ℕ, _+_, _-_, _≤_, _<_}
+use mathlib.Core.Path.{_≡_, refl, sym, ap, _∙_}
 use mathlib.Core.Bool.{Bool, true, false, cond}
 use mathlib.Core.List.{List}
 use native.Mathlib.Omega.{arith}
-use borrow.Author.Tests.{eqb-true, leb-true, eq-eqb, ne-eqb, le-leb, lt-leb}
+use borrow.Author.Tests.{eqb-true, leb-true, ne-eqb, le-leb, lt-leb}
 use lib.Dec.{eqb, leb}
 use lib.ListN.{length, getD}
-use Rattle.base.specs.declared.Refusal.{Refusal}
 use Rattle.base.specs.declared.Refusal.the-variants.{TextTooLong, Unexpected}
 use Rattle.meaning.specs.Tokens.{Tokens}
 use Rattle.meaning.specs.Entries.{entries}
 use Rattle.reading.specs.Blanks.{skip}
 use Rattle.reading.specs.Lists.{Parsed, read, missing, stopped, list, Outcome, accepted, rejected, closing, reading}
-use Rattle.reading.proofs.PieceLaws.{never, here-at, skip-from, skip-in}
-use Rattle.reading.proofs.ListBounds.{Gone}
+use Rattle.reading.proofs.PieceLaws.{never, here-at, skip-in}
 use Rattle.reading.proofs.ListSteps.{list-gone}
 
 module _ (t : List ℕ) where

@@ -1,11 +1,10 @@
 -- The branches of an alternation, one by one, in either order. Assumes nothing.
 -- N is what the code keeps of the window M after a branch that leaves l bytes.
-use mathlib.Core.Path.{_≡_, refl, sym, ap, ap₂, _∙_, subst}
-use mathlib.Core.Bool.{Bool, true, false}
-use mathlib.Core.Option.{Option, none, some}
+use mathlib.Core.Path.{_≡_, sym, ap, ap₂, _∙_, subst}
+use mathlib.Core.Bool.{true}
+use mathlib.Core.Option.{Option, none}
 use mathlib.Core.List.{List, [], _∷_}
-use Prim.Native.Nat.{ℕ, _-_, _/_, _%_, _≤_}
-use native.Mathlib.Omega.{arith}
+use Prim.Native.Nat.{ℕ, _-_, _/_, _%_}
 use lib.ListN.{length, take, drop}
 use Rattle.meaning.specs.Programs.{Prog, Branches, alt, _▹_, _⧺_}
 use Rattle.meaning.specs.Choices.{Order}

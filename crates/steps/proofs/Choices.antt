@@ -1,9 +1,9 @@
 -- A range or an alternation w, and the words R after it, as they are handed on with the whole window: N is M made anew. Assumes nothing.
-use mathlib.Core.Path.{_≡_, refl, sym, ap, ap₂, _∙_, subst}
+use mathlib.Core.Path.{_≡_, sym, ap, ap₂, _∙_, subst}
 use mathlib.Core.Logic.{_⊎_, ⊎-elim}
-use mathlib.Core.List.{List, [], _∷_}
+use mathlib.Core.List.{List, _∷_}
 use Prim.Native.Nat.{ℕ, _/_, _%_}
-use lib.ListN.{length, take, drop}
+use lib.ListN.{take, drop}
 use Rattle.meaning.specs.Programs.{Prog, range, alt, _▹_}
 use Rattle.meaning.specs.Choices.{Order}
 use Rattle.meaning.specs.Rows.{run}

@@ -2,14 +2,14 @@
 -- N is what the code hands on of the window M: the bytes after the length that is tried.
 use mathlib.Core.Path.{_≡_, refl, sym, ap, _∙_}
 use mathlib.Core.Bool.{Bool, true, false}
-use mathlib.Core.Option.{Option, none, some}
-use mathlib.Core.List.{List, [], _∷_}
+use mathlib.Core.Option.{Option, none}
+use mathlib.Core.List.{List}
 use Prim.Native.Nat.{ℕ, zero, suc, _+_, _-_, _≤_, _<_}
 use native.Mathlib.Omega.{arith}
 use lib.Dec.{leb}
 use borrow.Author.Tests.{leb-true, leb-false}
 use lib.ListN.{length, drop}
-use Rattle.meaning.specs.Programs.{Prog, Branches, jump, range, alt, _▹_}
+use Rattle.meaning.specs.Programs.{Prog, Branches, range, alt, _▹_}
 use Rattle.meaning.specs.Choices.{Order, short, long}
 use Rattle.meaning.specs.Rows.{Row, orElse, found, _⊗_, rising, lengths, rows, rowsIn, run}
 use Rattle.meaning.proofs.RowLaws.{one-times}

@@ -5,7 +5,7 @@ use Prim.Native.Nat.{ℕ, _+_, _*_}
 use lib.Dec.{eqb}
 use borrow.Author.Tests.{ne-eqb}
 use native.Mathlib.Omega.{arith}
-use Rattle.meaning.specs.Programs.{Test, pass, Item, one, jump, range, alt}
+use Rattle.meaning.specs.Programs.{Test, pass, one, jump, range, alt}
 use Rattle.meaning.specs.Words.{fieldSize, Shape, item, opens, mark, wrong, shapeBy, shape}
 use Rattle.steps.specs.Steps.{isTest, passShape}
 

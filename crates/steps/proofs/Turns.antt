@@ -1,21 +1,20 @@
 -- What a check does at the first of its words, over lists and in either order. Assumes nothing.
 -- N is what the code keeps of the window M: the bytes after the first n, as they are read.
-use mathlib.Core.Path.{_≡_, refl, sym, ap, ap₂, _∙_, subst}
-use mathlib.Core.Bool.{Bool, true, false}
+use mathlib.Core.Path.{_≡_, refl, sym, ap, _∙_, subst}
+use mathlib.Core.Bool.{true, false}
 use mathlib.Core.Logic.{_⊎_, inl, inr}
 use mathlib.Core.Option.{Option, none, some}
-use mathlib.Core.List.{List, [], _∷_}
-use Prim.Native.Nat.{ℕ, _-_, _/_, _%_, _≤_, _<_}
-use native.Mathlib.Omega.{arith}
-use lib.ListN.{length, take, drop}
-use Rattle.meaning.specs.Programs.{Test, pass, Item, Prog, one, jump, range, alt, end, _▹_}
+use mathlib.Core.List.{List, _∷_}
+use Prim.Native.Nat.{ℕ, _-_, _≤_, _<_}
+use lib.ListN.{length, drop}
+use Rattle.meaning.specs.Programs.{Test, pass, Item, Prog, one, jump, range, alt, _▹_}
 use Rattle.meaning.specs.Choices.{Order}
 use Rattle.meaning.specs.Rows.{run}
-use Rattle.meaning.specs.Words.{kindOf, Shape, item, opens, mark, wrong, shape, prog, branchesOf, Sound, plain, plainWords}
+use Rattle.meaning.specs.Words.{kindOf, Shape, item, opens, mark, wrong, shape, prog, Sound, plain, plainWords}
 use Rattle.meaning.proofs.KindLaws.{Seen, seen}
 use Rattle.meaning.proofs.RunLaws.{run-end, run-one, run-one-none, run-jump, run-jump-none}
-use Rattle.meaning.proofs.WordLaws.{prog-nil, prog-item, prog-opens}
-use Rattle.meaning.proofs.SoundLaws.{Opened, sound-item, sound-mark, sound-wrong, sound-opens, plain-item, false-true}
+use Rattle.meaning.proofs.WordLaws.{prog-nil, prog-item}
+use Rattle.meaning.proofs.SoundLaws.{sound-item, sound-mark, sound-wrong, plain-item, false-true}
 use Rattle.nodes.specs.declared.NextWord.the-variants.{Word, NoWord}
 use Rattle.nodes.specs.Nodes.{firstWord}
 use Rattle.nodes.proofs.WordHeads.{word-cons, word-nil, from, to-end}

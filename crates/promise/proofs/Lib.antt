@@ -1,0 +1,12 @@
+pub mod NodeWords
+pub mod OneWording
+pub mod Adding
+pub mod Cases
+pub mod Literals
+pub mod Lengths
+pub mod Outcomes
+pub mod Cuts
+pub mod Answers
+pub mod Checks
+pub mod Pattern
+pub mod Lines

@@ -1,0 +1,81 @@
+-- From a text to what the checks say of a haystack, for every pattern that compiles and every window. Assumes nothing.
+use mathlib.Core.Path.{_≡_, refl, sym, ap, _∙_, subst}
+use mathlib.Core.Bool.{Bool, true, false, cond}
+use mathlib.Core.List.{List, _++_}
+use Prim.Native.Nat.{ℕ, _-_, _≤_}
+use lib.ListN.{length, take, drop, replicate}
+use lib.Seq.{take-at}
+use Rattle.base.specs.Pools.{filled}
+use Rattle.meaning.specs.Tokens.{Tokens}
+use Rattle.meaning.specs.Values.{Bytes}
+use Rattle.reading.specs.Lists.{Outcome, accepted, rejected, reading}
+use Rattle.reading.proofs.PieceLaws.{never}
+use Rattle.compiling.specs.Compile.{Compiled, compiled, refused, compile}
+use Rattle.compiledoor.specs.Door.{gives, refuses, room, compiledSays, outcomeSays, compiledForward, compiledReverse, outcomeForward, outcomeReverse, compileSays, forwardLeaves, reverseLeaves}
+use Rattle.compiledoor.proofs.Promises as promised
+use Rattle.promise.specs.Pattern.{ReadAs, AnswersForward, AnswersReverse}
+use Rattle.promise.proofs.Answers.{answers-forward, answers-reverse}
+
+-- what a text that compiles is read as and compiled to, and that the pools hold these words in front
+record Compiles (t p q : List ℕ) (n m : ℕ) : Type 0 where
+  reached : ℕ
+  tokens : Tokens
+  forward : List ℕ
+  reverse : List ℕ
+  read : reading t ≡ accepted reached tokens
+  done : compile tokens ≡ compiled forward reverse
+  forward-words : take n (forwardLeaves t p q) ≡ forward
+  reverse-words : take m (reverseLeaves t p q) ≡ reverse
+
+module _ (t p q : List ℕ) (n m : ℕ) where
+  in-front : (f x : List ℕ) (k : ℕ) → length f ≡ k → take k (filled 512 f x) ≡ f
+  unfolding filled
+  in-front f x k l = take-at f (replicate (512 - length f) 0 ++ drop 512 x) k l
+
+  of-compiled : (e : ℕ) (ts : Tokens) (c : Compiled) → reading t ≡ accepted e ts → compile ts ≡ c → compiledSays c ≡ gives n m → take n (forwardLeaves t p q) ≡ take n (compiledForward c p) → take m (reverseLeaves t p q) ≡ take m (compiledReverse c q) → Compiles t p q n m
+  unfolding compiledSays compiledForward compiledReverse
+  of-compiled e ts (compiled f r) a b g x y = record {
+    reached = e;
+    tokens = ts;
+    forward = f;
+    reverse = r;
+    read = a;
+    done = b;
+    forward-words = x ∙ in-front f p n (cc);
+    reverse-words = y ∙ in-front r q m (cc);
+  }
+  of-compiled e ts (refused z) a b g x y = never (cc)
+
+  of-outcome : (o : Outcome) → reading t ≡ o → outcomeSays o ≡ gives n m → take n (forwardLeaves t p q) ≡ take n (outcomeForward o p) → take m (reverseLeaves t p q) ≡ take m (outcomeReverse o q) → Compiles t p q n m
+  unfolding outcomeSays outcomeForward outcomeReverse
+  of-outcome (accepted e ts) a g x y = of-compiled e ts (compile ts) a refl g x y
+  of-outcome (rejected z k) a g x y = never (cc)
+
+  compiles : compileSays t p q ≡ gives n m → Compiles t p q n m
+  unfolding compileSays forwardLeaves reverseLeaves
+  compiles g = go (room p q) refl
+    where
+      go : (b : Bool) → room p q ≡ b → Compiles t p q n m
+      go true h =
+          of-outcome (reading t) refl (sym (ap (λ (b : Bool). cond b (outcomeSays (reading t)) (refuses 18 0)) h) ∙ g)
+          (ap (λ (b : Bool). take n (cond b (outcomeForward (reading t) p) p)) h)
+          (ap (λ (b : Bool). take m (cond b (outcomeReverse (reading t) q) q)) h)
+      go false h =
+          let z : refuses 18 0 ≡ gives n m = sym (ap (λ (b : Bool). cond b (outcomeSays (reading t)) (refuses 18 0)) h) ∙ g in
+          never (cc)
+
+  -- The text t compiles to n forward and m reverse words, which the pools then hold in front; hay is any bytes, and s to e a window of it.
+  module _ (g : compileSays t p q ≡ gives n m) (hay : List ℕ) (y : Bytes hay) (s e : ℕ) (d : s ≤ e) (l : e ≤ length hay) where
+    -- Then t is accepted, and the forward door, asked with the forward words, answers for its pattern;
+    pub pattern-forward : (ts : Tokens) × ReadAs t ts × AnswersForward ts (take n (forwardLeaves t p q)) hay s e
+    pattern-forward =
+        let c = compiles g in
+        let f = answers-forward (c .tokens) (c .forward) hay s e (promised.forward-sound t (c .reached) (c .tokens) (c .forward) (c .reverse) (c .read) (c .done)) y d l (promised.forward-exact t (c .reached) (c .tokens) (c .forward) (c .reverse) (c .read) (c .done)) in
+        (c .tokens, (c .reached, c .read), subst (λ (ws : List ℕ). AnswersForward (c .tokens) ws hay s e) (sym (c .forward-words)) f)
+
+    -- and the reverse door, asked with the reverse words, likewise.
+    pub pattern-reverse : (ts : Tokens) × ReadAs t ts × AnswersReverse ts (take m (reverseLeaves t p q)) hay s e
+    pattern-reverse =
+        let c = compiles g in
+        let r = answers-reverse (c .tokens) (c .reverse) hay s e (promised.reverse-sound t (c .reached) (c .tokens) (c .forward) (c .reverse) (c .read) (c .done)) y d l (promised.reverse-exact t (c .reached) (c .tokens) (c .forward) (c .reverse) (c .read) (c .done)) in
+        (c .tokens, (c .reached, c .read), subst (λ (ws : List ℕ). AnswersReverse (c .tokens) ws hay s e) (sym (c .reverse-words)) r)

@@ -1,0 +1,66 @@
+-- When compiling refuses, by 12, by 14 and by 13. Assumes nothing: these are definitions.
+use mathlib.Core.Logic.{_⊎_}
+use mathlib.Core.Option.{none, some}
+use Prim.Native.Nat.{ℕ, suc, _+_, _<_}
+use Rattle.meaning.specs.Tokens.{Token, Tokens, Lists, Jump, Alternatives, _then_, _or_}
+use Rattle.meaning.specs.Programs.{Item, Prog, Branches, one, jump, range, alt, end, _▹_, stop, or as branch}
+use Rattle.compiling.specs.Compiling.{forwardProgram, reverseProgram}
+
+-- 12: a jump unbounded or above 255
+pub data Far : Token → Type 0 where
+  unbounded : {from : ℕ} → Far (Jump from none)
+  above : {from to : ℕ} → 255 < to → Far (Jump from (some to))
+
+-- what no branch holds: such a jump, a range, nested alternatives
+pub data Unfit : Token → Type 0 where
+  a-jump : {t : Token} → Far t → Unfit t
+  a-range : {from to : ℕ} → from < to → Unfit (Jump from (some to))
+  nested : {ls : Lists} → Unfit (Alternatives ls)
+
+-- a list that holds such a token; lists of which one does
+pub data Holds : Tokens → Type 0 where
+  here : {t : Token} {ts : Tokens} → Unfit t → Holds (t then ts)
+  further : {t : Token} {ts : Tokens} → Holds ts → Holds (t then ts)
+
+pub data OneHolds : Lists → Type 0 where
+  this-list : {ts : Tokens} {ls : Lists} → Holds ts → OneHolds (ts or ls)
+  other-list : {ts : Tokens} {ls : Lists} → OneHolds ls → OneHolds (ts or ls)
+
+-- so a pattern is not simple
+pub data Complex : Tokens → Type 0 where
+  far : {t : Token} {ts : Tokens} → Far t → Complex (t then ts)
+  inside : {ls : Lists} {ts : Tokens} → OneHolds ls → Complex (Alternatives ls then ts)
+  next : {t : Token} {ts : Tokens} → Complex ts → Complex (t then ts)
+
+-- the nodes of a program: alternatives and each of their branches are nodes too
+unfoldable mutual
+  pub sizeOf : Item → ℕ
+  sizeOf (one t) = 1
+  sizeOf (jump n) = 1
+  sizeOf (range a b) = 1
+  sizeOf (alt bs) = suc (sizeIn bs)
+
+  pub size : Prog → ℕ
+  size end = 0
+  size (i ▹ p) = sizeOf i + size p
+
+  pub sizeIn : Branches → ℕ
+  sizeIn stop = 0
+  sizeIn (branch p bs) = suc (size p + sizeIn bs)
+
+-- 14: a branch above 255 nodes
+pub data LongIn : Branches → Type 0 where
+  this-branch : {p : Prog} {bs : Branches} → 255 < size p → LongIn (branch p bs)
+  other-branch : {p : Prog} {bs : Branches} → LongIn bs → LongIn (branch p bs)
+
+pub data Long : Prog → Type 0 where
+  here : {bs : Branches} {p : Prog} → LongIn bs → Long (alt bs ▹ p)
+  further : {i : Item} {p : Prog} → Long p → Long (i ▹ p)
+
+-- 13: more than 512 nodes
+abbrev pub Large : Prog → Type 0
+Large p = 512 < size p
+
+-- either program breaks the limit
+abbrev pub Either : (Prog → Type 0) → Tokens → Type 0
+Either P ts = P (forwardProgram ts) ⊎ P (reverseProgram ts)

@@ -1,0 +1,33 @@
+-- What the doors of the checks answer, case by case. Assumes nothing: these are definitions.
+use mathlib.Core.List.{List, [], reverse}
+use Prim.Native.Nat.{ℕ, _≤_, _<_}
+use lib.ListN.{length}
+use Rattle.meaning.specs.Programs.{Prog}
+use Rattle.meaning.specs.Choices.{Nowhere}
+use Rattle.checkdoors.specs.Doors as doors
+use Rattle.checkdoors.specs.Doors.{window}
+use Rattle.promise.specs.NodeWords.{Nodes, SoundWords}
+use Rattle.promise.specs.Pattern.{FirstEnd, FirstStart}
+
+-- 16, then 13, then 15
+pub data Refuses (ws hay : List ℕ) (s e : ℕ) : ℕ → Type 0 where
+  bad-window : (s ≤ e → e ≤ length hay → ⊥) → Refuses ws hay s e 16
+  too-many : s ≤ e → e ≤ length hay → 512 < length ws → Refuses ws hay s e 13
+  unsound : s ≤ e → e ≤ length hay → length ws ≤ 512 → (SoundWords ws → ⊥) → Refuses ws hay s e 15
+
+-- the forward check: where the first choice of the program ends
+pub data Forward (ws hay : List ℕ) (s e : ℕ) : doors.Outcome → Type 0 where
+  refused : {k : ℕ} → Refuses ws hay s e k → Forward ws hay s e (doors.refused k)
+  found : {p : Prog} {n : ℕ} → e ≤ length hay → length ws ≤ 512 → Nodes ws p → FirstEnd p hay s e n → Forward ws hay s e (doors.found n)
+  missed : {p : Prog} → s ≤ e → e ≤ length hay → length ws ≤ 512 → Nodes ws p → Nowhere p (window hay s e) → Forward ws hay s e doors.noMatch
+
+-- the second forward door: what is left of the window
+pub data Left (ws hay : List ℕ) (s e : ℕ) : List ℕ → Type 0 where
+  tail : {n : ℕ} → Forward ws hay s e (doors.found n) → Left ws hay s e (window hay n e)
+  nothing : ((n : ℕ) → Forward ws hay s e (doors.found n) → ⊥) → Left ws hay s e []
+
+-- the reverse check: where the first choice starts, read from the window's end
+pub data Reverse (ws hay : List ℕ) (s e : ℕ) : doors.Outcome → Type 0 where
+  refused : {k : ℕ} → Refuses ws hay s e k → Reverse ws hay s e (doors.refused k)
+  found : {p : Prog} {n : ℕ} → e ≤ length hay → length ws ≤ 512 → Nodes ws p → FirstStart p hay s e n → Reverse ws hay s e (doors.found n)
+  missed : {p : Prog} → s ≤ e → e ≤ length hay → length ws ≤ 512 → Nodes ws p → Nowhere p (reverse (window hay s e)) → Reverse ws hay s e doors.noMatch
