@@ -12,7 +12,6 @@ use lib.ListN.{length, length-append}
 use Rattle.meaning.specs.Tokens.{left, right, all, Token, Tokens, Lists, Byte, NotByte, MaskedByte, NotMaskedByte, Jump, Alternatives, nothing, _then_, neither, _or_, Agrees, Matches, Spans, MatchesOne}
 use Rattle.meaning.specs.Values.{Bytes, SpelledOne, Spelled, SpelledFirst, SpelledMore}
 use Rattle.meaning.proofs.SoundLaws.{and-left, and-right, false-true}
-use Rattle.picking.specs.Literals as picking
 use Rattle.picking.specs.Literals.{isPlain, literals, listableOf, listable, listableIn, lengthOf, lengthIn, shortest, shorter}
 use Rattle.picking.proofs.MatchLaws.{literals-are-spans}
 use Rattle.picking.proofs.LengthLaws.{literal-lengths}
@@ -22,11 +21,11 @@ use Rattle.promise.specs.Literals.{Least}
 record Reached (P : List ℕ → Type 0) (n : ℕ) : Type 0 where
   bytes : List ℕ
   matched : P bytes
-  proper : picking.Bytes bytes
+  proper : Bytes bytes
   long : length bytes ≡ n
 
 one-byte : (P : List ℕ → Type 0) (b : ℕ) → b < 256 → P (b ∷ []) → Reached P 1
-unfolding picking.Bytes
+unfolding Bytes
 one-byte P b h m = record { bytes = b ∷ []; matched = m; proper = (h, tt); long = refl }
 
 -- a byte that is not v, and one whose half is not v
@@ -37,8 +36,8 @@ other-half : (v : ℕ) → v < 16 → (other v ≡ v → ⊥) × (other v < 16)
 unfolding other
 other-half v h = (λ e. omega arith, omega arith)
 
-joined : (a b : List ℕ) → picking.Bytes a → picking.Bytes b → picking.Bytes (a ++ b)
-unfolding picking.Bytes
+joined : (a b : List ℕ) → Bytes a → Bytes b → Bytes (a ++ b)
+unfolding Bytes
 joined [] b h g = g
 joined (x ∷ a) b h g = (h .0, joined a b (h .1) g)
 
@@ -65,7 +64,7 @@ reach-byte (Jump from to) k w = false-true k
 reach-byte (Alternatives ls) k w = false-true k
 
 spans-nothing : Reached (Spans nothing) 0
-unfolding Spans picking.Bytes
+unfolding Spans Bytes
 spans-nothing = record { bytes = []; matched = refl; proper = tt; long = refl }
 
 spans-next : (t : Token) (ts : Tokens) (n m : ℕ) → Reached (Matches t) n → Reached (Spans ts) m → Reached (Spans (t then ts)) (n + m)

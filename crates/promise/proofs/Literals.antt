@@ -10,9 +10,8 @@ use lib.Dec.{leb}
 use borrow.Author.Tests.{leb-true, leb-false}
 use lib.ListN.{length}
 use Rattle.meaning.specs.Tokens.{Mask, left, right, all, Token, Tokens, Lists, Byte, NotByte, MaskedByte, NotMaskedByte, Jump, Alternatives, nothing, _then_, _or_, Matches, Spans}
-use Rattle.meaning.specs.Values.{SpelledOne}
+use Rattle.meaning.specs.Values.{Bytes, SpelledOne}
 use Rattle.meaning.proofs.SoundLaws.{and-both, false-true}
-use Rattle.picking.specs.Literals as picking
 use Rattle.picking.specs.Literals.{kept, passing, taken, isByte, isPlain, plainLists, before, _⊗_, singles, spelt, literals, listable}
 use Rattle.picking.proofs.MatchLaws.{in-singles, literals-are-spans}
 use Rattle.picking.specs.Runs.{isAlternatives, plainInside}
@@ -264,8 +263,8 @@ unfolding singles
 singles-in [] b m = absurd (List·Memᴰ·not-nil m)
 singles-in (x ∷ l) b m = ⊎-elim (λ e. List·Memᴰ·head (ap (λ (y : ℕ). y ∷ []) e)) (λ q. List·Memᴰ·tail (singles-in l b q)) (List·Memᴰ·cases-cons m)
 
-one-byte : (b : ℕ) → b < 256 → picking.Bytes (b ∷ [])
-unfolding picking.Bytes
+one-byte : (b : ℕ) → b < 256 → Bytes (b ∷ [])
+unfolding Bytes
 one-byte b h = (h, tt)
 
 one-span : (t : Token) (b : ℕ) → Spans (t then nothing) (b ∷ []) ↔ Matches t (b ∷ [])
