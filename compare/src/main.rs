@@ -17,6 +17,8 @@ mod raw;
 #[cfg(original)]
 mod runs;
 #[cfg(original)]
+mod sample;
+#[cfg(original)]
 mod samples;
 #[cfg(original)]
 mod sides;
@@ -97,6 +99,10 @@ fn shown(judge: &runs::Judge, args: &[String]) -> Option<bool> {
             let mut text = Vec::new();
             std::io::Read::read_to_end(&mut std::io::stdin(), &mut text).expect("input");
             print!("{}", listing::listing(&text));
+        }
+        "sample" => {
+            let literals = args.get(1).is_some_and(|a| a == "literals");
+            return Some(sample::sample("../crates/rustsays/data/cases", literals));
         }
         "patterns" => runs::Judge::patterns(number(args, 1, 1), size(2, 50), size(3, 50)),
         "starts" => starts(judge),
