@@ -10,6 +10,7 @@ pub const SIDE: Side = Side {
     read: Some(read),
     compile: Some(compile),
     literals: Some(literals),
+    sound: Some(|words| Some(Ok(sound(words)))),
     mirror: Some(mirror),
     forward: Some(forward),
     reverse: Some(reverse),
