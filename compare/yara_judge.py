@@ -38,8 +38,9 @@ def yara(rules, hay):
 
 
 def rule(number, pattern):
-    # YARA does not know `[-b]`, which the original reads as `[0-b]`.
+    # YARA does not know `[-b]`, which the original reads as `[0-b]`, and has no jump at a bound, where `[1]` is a `??` to the original.
     pattern = re.sub(r"\[\s*-\s*(\d)", r"[0-\1", pattern)
+    pattern = re.sub(r"\[\s*0*1\s*(-\s*0*1\s*)?\]", "??", pattern)
     return f"rule r{number} {{ strings: $a = {pattern} condition: $a }}\n"
 
 
