@@ -1,5 +1,5 @@
-//! The stored sample: what the original answers to the cases of crates/rustsays/data/cases, in the lines that the program
-//! rustsays writes for the library's doors.
+//! The stored sample: what the original answers to the cases of crates/rustsays/data/cases, in the
+//! lines that the program rustsays writes for the library's doors.
 
 use std::fmt::Write;
 
@@ -9,7 +9,8 @@ use crate::{model, original};
 /// How much of a text is shown.
 const SHOWN: usize = 64;
 
-/// A haystack in hex, a blank and a text; a line that begins with `#` is a heading, and shown as it is.
+/// A haystack in hex, a blank and a text; a line that begins with `#` is a heading, and shown as it
+/// is.
 struct Case<'a> {
     hay: Vec<u8>,
     text: &'a [u8],
@@ -21,7 +22,8 @@ fn case(line: &[u8]) -> Case<'_> {
     Case { hay: crate::hex(hex), text: &line[at + 1..] }
 }
 
-/// Why a case has no place in the sample: the original answers otherwise than document 01, or not at all.
+/// Why a case has no place in the sample: the original answers otherwise than document 01, or not
+/// at all.
 fn stray(text: &[u8]) -> Option<&'static str> {
     if original::SIDE.read.and_then(|f| f(text)) != model::SIDE.read.and_then(|f| f(text)) {
         return Some("read otherwise, or outside the domain");
