@@ -52,34 +52,13 @@ fn half_after_not<T>(text: &[u8], a: &Answer<T>, b: &Answer<T>) -> Option<&'stat
     (half && digit && not).then_some("half byte after ~")
 }
 
-/// A jump after alternatives whose last branch ends with one: the original lets that one grow.
-fn grown(words: &[u32]) -> bool {
-    let mut at = 0;
-    while at < words.len() {
-        let alternation = words[at] % 256 == 6;
-        at += 1;
-        if alternation {
-            at += (words[at - 1] / 256) as usize;
-            let (Some(last), Some(next)) = (words.get(at - 1), words.get(at)) else {
-                return false;
-            };
-            if last % 256 == 3 && next % 256 == 3 && last / 256 < 255 {
-                return true;
-            }
-        }
-    }
-    false
-}
-
+/// The original's programs are then exactly those that its known faults make.
 fn known_compile(text: &[u8], a: &Answer<Compiled>, b: &Answer<Compiled>) -> Option<&'static str> {
+    let faulty = || a.as_ref().ok() == model::as_original(text).as_ref();
     match (a, b) {
-        (Ok(_), Ok(right)) => {
-            let any = grown(&right.forward) || grown(&right.reverse);
-            any.then_some("jump after alternatives grows the last branch's")
-        }
-        (Ok(left), Err(refusal)) => {
-            let many = left.forward.len() > 512 || left.reverse.len() > 512;
-            (many && refusal.number == 13).then_some("more than 512 nodes built")
+        (Ok(_), Ok(_)) => faulty().then_some("jump after alternatives grows the last branch's"),
+        (Ok(_), Err(refusal)) => {
+            (refusal.number == 13 && faulty()).then_some("more than 512 nodes built")
         }
         _ => half_after_not(text, a, b),
     }
