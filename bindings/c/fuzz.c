@@ -134,7 +134,7 @@ static size_t around(size_t need)
 {
     switch (below(4)) {
     case 0: return below((uint32_t)need + 2);
-    case 1: return need - 1;
+    case 1: return need - (need > 0);
     case 2: return need;
     default: return need + 1;
     }
@@ -187,6 +187,48 @@ static void compiling(const uint8_t *t, size_t n, size_t forward, size_t reverse
     back(b, "tm_compile: guard");
 }
 
+/* Into so many bytes and lengths; what is written is added up in `need`, bytes and then lengths. */
+static uint32_t picking(const uint8_t *t, size_t n, size_t room, size_t count, size_t need[2])
+{
+    guarded bytes = lend(room), lengths = lend(2 * count);
+    tm_literals_result r = tm_literals(t, n, bytes.lent, room, (uint16_t *)lengths.lent, count);
+    answered(r.refusal, "tm_literals", TEXT | 1u << 17 | 1u << 18 | 1u << 19);
+    size_t total = 0;
+    if (r.refusal == 0 && r.count > count)
+        fault("tm_literals: more than lent");
+    for (size_t i = 0; r.refusal == 0 && i < r.count; i++)
+        total += ((uint16_t *)lengths.lent)[i];
+    same(bytes, total, "tm_literals: bytes changed");
+    same(lengths, r.refusal == 0 ? 2 * r.count : 0, "tm_literals: lengths changed");
+    if (r.refusal == 0 && (r.rank > 80 || r.count > TM_LITERALS || total > room))
+        fault("tm_literals: bounds");
+    if (r.refusal != 0 && (r.rank != 0 || r.count != 0 || r.place > n || (r.refusal > 11 && r.place != 0)))
+        fault("tm_literals: a refusal has no count");
+    back(bytes, "tm_literals: guard");
+    back(lengths, "tm_literals: guard");
+    need[0] = total;
+    need[1] = r.refusal == 0 ? r.count : 0;
+    return r.refusal;
+}
+
+/* With just the room that the literals need, and around it: 18 exactly if it is too little. */
+static void rooms(const uint8_t *t, size_t n, int every)
+{
+    size_t need[2], got[2];
+    uint32_t due = picking(t, n, TM_LITERAL_BYTES, TM_LITERALS, need);
+    if (due == 18)
+        fault("tm_literals: this room is always enough");
+    for (size_t k = 0; k < (every ? need[0] + need[1] + 4 : 4); k++) {
+        size_t room = every ? (k < need[0] + 2 ? k : need[0]) : around(need[0]);
+        size_t count = every ? (k < need[0] + 2 ? need[1] : k - need[0] - 2) : around(need[1]);
+        uint32_t refusal = picking(t, n, room, count, got);
+        if (refusal != (due == 0 && (room < need[0] || count < need[1]) ? 18 : due))
+            fault("tm_literals: 18");
+        if (refusal == 0 && (got[0] != need[0] || got[1] != need[1]))
+            fault("tm_literals: another count");
+    }
+}
+
 static void checking(const uint32_t *program, size_t words, size_t bytes, size_t start, size_t end)
 {
     guarded hay = lend(bytes);
@@ -231,7 +273,7 @@ static void mirroring(const uint32_t *program, size_t words, size_t lent)
 }
 
 /* Texts that compile, that read, that are refused at once and late, and that are too long. */
-static const char *const texts[] = {"{ 41 [0-2] ( 42 | 43 44 ) }", "{ 41 [2-] 42 }", "x", "{ 41 42 [0] 43 }", NULL};
+static const char *const texts[] = {"{ 41 [0-2] ( 42 | 43 44 ) }", "{ 41 [2-] 42 }", "{ 01 02 ?3 04 }", "{ ( 41 | ?? ) }", "{ ?? }", "x", "{ 41 42 [0] 43 }", NULL};
 
 static void every_length(void)
 {
@@ -250,6 +292,7 @@ static void every_length(void)
             compiling(t, n, TM_NODE_POOL, lent, program, &words);
             compiling(t, n, lent, lent, program, &words);
         }
+        rooms(t, n, 1);
     }
     /* a program, its first word alone, none, an unsound one and one that is too long */
     for (size_t lent = 0; lent <= TM_NODE_POOL + 1; lent++) {
@@ -279,6 +322,8 @@ int main(int argc, char **argv)
         size_t n = text(t);
         reading(t, n, around(TM_TOKEN_POOL));
         compiling(t, n, around(TM_NODE_POOL), around(TM_NODE_POOL), program, &words);
+        if (below(8) == 0)
+            rooms(t, n, 0);
         somewhere(program, words);
         mirroring(program, words, around(TM_NODE_POOL));
         /* a damaged copy, and now and then one that is too long */

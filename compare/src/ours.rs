@@ -36,10 +36,8 @@ pub fn rooms() -> bool {
 
 #[allow(dead_code, unused_imports, unused_mut)]
 mod doors {
-    #[cfg(tm_literals)]
-    use crate::raw::tm_literals;
-    use crate::raw::{self, CheckResult, tm_compile, tm_forward, tm_mirror, tm_read, tm_reverse};
-    use crate::raw::{tm_sound, tm_tail};
+    use crate::raw::{self, CheckResult, tm_compile, tm_forward, tm_literals, tm_mirror};
+    use crate::raw::{tm_read, tm_reverse, tm_sound, tm_tail};
     use crate::sides::{Answer, Compiled, Found, Picked, Read, Refusal, Window};
 
     const FILL: u32 = 0xA5A5_A5A5;
