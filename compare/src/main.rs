@@ -114,10 +114,7 @@ fn shown(judge: &runs::Judge, args: &[String]) -> Option<bool> {
             std::io::Read::read_to_end(&mut std::io::stdin(), &mut text).expect("input");
             print!("{}", listing::listing(&text));
         }
-        "sample" => {
-            let literals = args.get(1).is_some_and(|a| a == "literals");
-            return Some(sample::sample("../crates/rustsays/data/cases", literals));
-        }
+        "sample" => return Some(sample::sample("../crates/rustsays/data/cases")),
         "patterns" => runs::Judge::patterns(number(args, 1, 1), size(2, 50), size(3, 50)),
         "starts" => starts(judge),
         _ => return None,

@@ -85,7 +85,7 @@ fn picked(out: &mut String, picked: &Picked) {
     out.push('\n');
 }
 
-fn read(out: &mut String, case: &Case, read: &Read, literals: bool) {
+fn read(out: &mut String, case: &Case, read: &Read) {
     writeln!(out, "reached {}", read.reached).unwrap();
     words(out, "tokens", &read.words);
     match compiled(case.text) {
@@ -94,13 +94,13 @@ fn read(out: &mut String, case: &Case, read: &Read, literals: bool) {
         None => unreachable!("declining is an answer"),
     }
     // Nothing where the document gives 17 or 19.
-    if let (true, Some(Ok(p))) = (literals, original::SIDE.literals.and_then(|f| f(case.text))) {
+    if let Some(Ok(p)) = original::SIDE.literals.and_then(|f| f(case.text)) {
         picked(out, &p);
     }
 }
 
 /// Writes the original's answers to a file of cases; false if one has no place there.
-pub fn sample(path: &str, literals: bool) -> bool {
+pub fn sample(path: &str) -> bool {
     let cases = std::fs::read(path).expect("a file of cases");
     let (mut bytes, mut good) = (Vec::new(), true);
     for line in cases.strip_suffix(b"\n").unwrap_or(&cases).split(|b| *b == b'\n') {
@@ -117,7 +117,7 @@ pub fn sample(path: &str, literals: bool) -> bool {
         bytes.extend([&case.text[..case.text.len().min(SHOWN)], b"\n"].concat());
         let mut out = String::new();
         match original::SIDE.read.and_then(|f| f(case.text)) {
-            Some(Ok(answer)) => read(&mut out, &case, &answer, literals),
+            Some(Ok(answer)) => read(&mut out, &case, &answer),
             Some(Err(refusal)) => refused(&mut out, refusal),
             None => unreachable!("tested above"),
         }

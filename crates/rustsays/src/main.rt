@@ -5,6 +5,7 @@ use checkdoors::Answer;
 use compiledoor::CompileAnswer;
 use digits::Nibble;
 use libc::STDOUT_FILENO;
+use literaldoor::LiteralsAnswer;
 use readdoor::ReadAnswer;
 ghost use Prim.Native.Nat.{_≤_};
 ghost use lib.ListN.{length};
@@ -102,6 +103,66 @@ fn programs(text: &[u8], hay: &[u8]) {
     }
 }
 
+fn size(n: u16) -> usize {
+    n as usize
+}
+
+fn digit(v: u8) -> u8
+    requires { ⌜ v ≤ 15 ⌝ }
+{
+    if v < 10 { 48 + v } else { 55 + v }
+}
+
+// A byte as two digits.
+fn hex(b: u8) {
+    let two = [digit(b / 16), digit(b % 16)];
+    io::write_all(STDOUT_FILENO, &two);
+}
+
+fn literal(bytes: &[u8]) {
+    io::write_all(STDOUT_FILENO, b" ");
+    let mut i = 0;
+    while i < bytes.len() {
+        hex(bytes[i]);
+        i += 1;
+    }
+}
+
+// So many literals, which stand one after another in the bytes, each as long as the lengths say.
+fn each(bytes: &[u8], lengths: &[u16], count: usize) {
+    let mut at = 0;
+    let mut i = 0;
+    while i < count {
+        if lengths.len() <= i {
+            return;
+        }
+        let n = size(lengths[i]);
+        if bytes.len() - at < n {
+            return;
+        }
+        literal(&bytes[at..at + n]);
+        at += n;
+        i += 1;
+    }
+}
+
+// The literals' line. Where 17 or 19 is given, literals aren't compared.
+fn picked(text: &[u8]) {
+    let mut bytes = [0u8; 32768];
+    let mut lengths = [0u16; 256];
+    let r = literaldoor::literals(text, &mut bytes, &mut lengths);
+    match r {
+        LiteralsAnswer::Picked { count, rank } => {
+            io::write_all(STDOUT_FILENO, b"rank ");
+            number(wide(rank));
+            io::write_all(STDOUT_FILENO, b" literals");
+            each(&bytes, &lengths, count);
+            io::write_all(STDOUT_FILENO, b"\n");
+        }
+        LiteralsAnswer::Refused(_, _) => {}
+    }
+}
+
 fn answers(text: &[u8], hay: &[u8]) {
     let mut tokens = [0u32; 4096];
     let r = readdoor::read(text, &mut tokens);
@@ -112,6 +173,7 @@ fn answers(text: &[u8], hay: &[u8]) {
             io::write_all(STDOUT_FILENO, b"\ntokens");
             words(&tokens, used);
             programs(text, hay);
+            picked(text);
         }
         ReadAnswer::Refused(why, place) => refused(why, place),
     }
