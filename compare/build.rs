@@ -4,8 +4,16 @@
 use std::path::PathBuf;
 use std::{env, fs};
 
-const DOORS: [&str; 6] =
-    ["tm_read", "tm_compile", "tm_mirror", "tm_forward", "tm_reverse", "tm_literals"];
+const DOORS: [&str; 8] = [
+    "tm_read",
+    "tm_compile",
+    "tm_sound",
+    "tm_mirror",
+    "tm_forward",
+    "tm_tail",
+    "tm_reverse",
+    "tm_literals",
+];
 
 include!("archive.rs");
 

@@ -38,24 +38,32 @@ def yara(rules, hay):
 
 
 def rule(number, pattern):
-    # YARA does not know `[-b]`, which the original reads as `[0-b]`.
+    # YARA does not know `[-b]`, which the original reads as `[0-b]`, and has no jump at a bound, where `[1]` is a `??` to the original.
     pattern = re.sub(r"\[\s*-\s*(\d)", r"[0-\1", pattern)
+    pattern = re.sub(r"\[\s*0*1\s*(-\s*0*1\s*)?\]", "??", pattern)
     return f"rule r{number} {{ strings: $a = {pattern} condition: $a }}\n"
 
 
-def offsets(folder, hay, patterns):
-    """For each pattern its offsets, or None where YARA does not take it."""
-    rules, data = folder / "rules", folder / "hay"
-    data.write_bytes(bytes.fromhex(hay))
+def together(folder, patterns):
+    """For each pattern its offsets in the folder's haystack, or None where YARA does not take them all."""
+    rules = folder / "rules"
     rules.write_text("".join(rule(n, p) for n, p in enumerate(patterns)))
-    found = yara(rules, data)
-    if found is not None:
-        return [found.get(f"r{n}", set()) for n in range(len(patterns))]
-    answers = []
-    for pattern in patterns:
-        rules.write_text(rule(0, pattern))
-        found = yara(rules, data)
-        answers.append(None if found is None else found.get("r0", set()))
+    found = yara(rules, folder / "hay")
+    return None if found is None else [found.get(f"r{n}", set()) for n in range(len(patterns))]
+
+
+def offsets(folder, hay, patterns, ours):
+    """For each pattern its offsets, or None where YARA does not take it. Those that we take are asked together; each other one by itself,
+    for it mostly spoils the rules that it stands among."""
+    (folder / "hay").write_bytes(bytes.fromhex(hay))
+    answers = [None] * len(patterns)
+    taken = [n for n, answer in enumerate(ours) if not answer.startswith("refused")]
+    found = together(folder, [patterns[n] for n in taken])
+    for n, offsets in zip(taken, found or []):
+        answers[n] = offsets
+    for n in range(len(patterns)):
+        if (found is None or n not in taken) and ours[n] != "refused 12":
+            answers[n] = (together(folder, [patterns[n]]) or [None])[0]
     return answers
 
 
@@ -73,7 +81,8 @@ def main():
     with tempfile.TemporaryDirectory() as name:
         for hay, group in itertools.groupby(pairs, key=lambda pair: pair[0]):
             group = list(group)
-            theirs = offsets(pathlib.Path(name), hay, [pattern for _, pattern, _ in group])
+            _, patterns, answers = zip(*group)
+            theirs = offsets(pathlib.Path(name), hay, patterns, answers)
             for (_, pattern, answer), judged in zip(group, theirs, strict=True):
                 outcome = judge(answer, judged)
                 counts[outcome] += 1

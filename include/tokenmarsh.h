@@ -1,4 +1,4 @@
-/* Tokenmarsh: byte patterns, read, compiled and searched by proved code.
+/* Tokenmarsh: byte patterns, read, compiled, searched and picked from by proved code.
  *
  * Every function takes any bytes, words and numbers at all and ends with an answer or with a refusal. A buffer is a pointer and
  * a count of its elements; a pointer may be null only where the count is 0. Buffers lent to one call must not overlap. Nothing is
@@ -12,9 +12,9 @@
  *    5  a jump whose from is above its to           14  a branch above 255 nodes
  *    6  a jump at a list's bound                    15  unsound program
  *    7  unbounded jump in alternatives              16  window start above its end, or end above the haystack's length
- *    8  jump above 200 in alternatives              18  a lent buffer is too short
- *    9  ~??
- *   10  a ninth list level
+ *    8  jump above 200 in alternatives              17  a candidate with more than 256 literals
+ *    9  ~??                                         18  a lent buffer is too short
+ *   10  a ninth list level                          19  alternatives not plain (literals only)
  * place is the offset in the text that 1 to 11 are given at, and 0 for the others.
  */
 #ifndef TOKENMARSH_H
@@ -31,6 +31,10 @@ extern "C" {
 #define TM_TEXT_LIMIT 4096
 #define TM_TOKEN_POOL 4096
 #define TM_NODE_POOL 512
+
+/* The most literals that are picked, and bytes that have room for them: 256 literals of 512 bytes. */
+#define TM_LITERALS 256
+#define TM_LITERAL_BYTES 131072
 
 typedef struct {
     uint32_t refusal;
@@ -55,6 +59,19 @@ typedef struct {
  * Refused: 18 if either pool is below 512 words, and then nothing changes; else 1 to 11, 12, 14, 13, and then the first 512 words of
  * both pools are 0. Success: the used words, 0 in the rest of the first 512. Words beyond those stay. */
 tm_compile_result tm_compile(const uint8_t *text, size_t text_len, uint32_t *forward, size_t forward_len, uint32_t *reverse, size_t reverse_len);
+
+typedef struct {
+    uint32_t refusal;
+    uint32_t rank;  /* how good the literals are for a search, 0 to 80 */
+    uint64_t place;
+    uint64_t count; /* how many literals; none may be picked, and then the rank is 0 */
+} tm_literals_result;
+
+/* Picks the literals to search for: if there are any, every match of the pattern holds one of them. `bytes` gets their bytes, one literal after another, and `lengths` the
+ * length of each.
+ * Refused: 1 to 11; then 19, 17; then 18 if either buffer is too short for all of them; and then nothing is written to either.
+ * Success: the first `count` lengths, and as many bytes as they sum up to, are written. The rest of both buffers stays. */
+tm_literals_result tm_literals(const uint8_t *text, size_t text_len, uint8_t *bytes, size_t bytes_len, uint16_t *lengths, size_t lengths_len);
 
 typedef struct {
     uint32_t refusal;

@@ -1,5 +1,6 @@
-/* Calls every door with buffers of every length around its need, between guards, on random and damaged inputs. Nothing outside a lent buffer may
- * change, and every answer must be one that the header names. Prints the count of calls by answer; exits 1 at the first fault.
+/* Calls every door with buffers between guards: of every length from none to one past its need, and of lengths around it on random and damaged
+ * inputs. Nothing outside a lent buffer may change, and every answer must be one that the header names. Prints the count of calls by answer;
+ * exits 1 at the first fault.
  *
  *     fuzz SEED ROUNDS
  */
@@ -74,12 +75,32 @@ static void zero(guarded g, size_t from, size_t to, const char *door)
 }
 
 static const char *const pieces[] = {"{", "}", "(", ")", "|", "[", "]", "-", "~", "?", " ", "\n", "00", "4F", "a?", "?b", "??", "[2]", "[1-3]", "[4-]", "[0-255]", "(41|42 43)",
-                                     "( 41 [2] | ~42 )", "[4294967296]", "\xff"};
+                                     "( 41 [2] 43 | ~42 )", "[4294967296]", "[3-2]", "\xff"};
+
+static size_t put(uint8_t *t, size_t n, const char *what, uint32_t times)
+{
+    for (uint32_t i = 0; i < times; i++, n += strlen(what))
+        memcpy(t + n, what, strlen(what));
+    return n;
+}
+
+/* About one of the limits: levels, tokens, a branch's nodes, all nodes. */
+static size_t limit(uint8_t *t)
+{
+    uint32_t kind = below(4), many = (kind == 0 ? 6 : kind == 1 ? 509 : kind == 2 ? 252 : 168) + below(6);
+    size_t n = put(t, 0, kind == 0 ? "{41" : kind == 2 ? "{(" : "{", 1);
+    n = put(t, n, kind == 0 ? "(" : kind == 3 ? "(41)" : "41", many);
+    if (kind == 0)
+        n = put(t, put(t, n, "41", 1), ")", many);
+    return put(t, n, kind == 2 ? ")}" : "}", 1);
+}
 
 /* Mostly a pattern, sometimes one with faults. */
 static size_t text(uint8_t *t)
 {
     size_t n = 0;
+    if (below(16) == 0)
+        return limit(t);
     uint32_t tokens = below(40), wild = below(4) == 0 ? 1 : 0;
     if (below(64) != 0)
         t[n++] = '{';
@@ -113,15 +134,16 @@ static size_t around(size_t need)
 {
     switch (below(4)) {
     case 0: return below((uint32_t)need + 2);
-    case 1: return need - 1;
+    case 1: return need - (need > 0);
     case 2: return need;
     default: return need + 1;
     }
 }
 
-static void reading(const uint8_t *t, size_t n)
+/* Into a pool of so many words. */
+static void reading(const uint8_t *t, size_t n, size_t lent)
 {
-    guarded pool = lend(4 * around(TM_TOKEN_POOL));
+    guarded pool = lend(4 * lent);
     tm_read_result r = tm_read(t, n, (uint32_t *)pool.lent, pool.n / 4);
     answered(r.refusal, "tm_read", TEXT | 1u << 18);
     if ((pool.n / 4 < TM_TOKEN_POOL) != (r.refusal == 18))
@@ -139,9 +161,9 @@ static void reading(const uint8_t *t, size_t n)
     back(pool, "tm_read: guard");
 }
 
-static void compiling(const uint8_t *t, size_t n, uint32_t *program, size_t *words)
+static void compiling(const uint8_t *t, size_t n, size_t forward, size_t reverse, uint32_t *program, size_t *words)
 {
-    guarded f = lend(4 * around(TM_NODE_POOL)), b = lend(4 * around(TM_NODE_POOL));
+    guarded f = lend(4 * forward), b = lend(4 * reverse);
     tm_compile_result r = tm_compile(t, n, (uint32_t *)f.lent, f.n / 4, (uint32_t *)b.lent, b.n / 4);
     answered(r.refusal, "tm_compile", TEXT | 1u << 12 | 1u << 13 | 1u << 14 | 1u << 18);
     if ((f.n / 4 < TM_NODE_POOL || b.n / 4 < TM_NODE_POOL) != (r.refusal == 18))
@@ -165,12 +187,53 @@ static void compiling(const uint8_t *t, size_t n, uint32_t *program, size_t *wor
     back(b, "tm_compile: guard");
 }
 
-static void checking(const uint32_t *program, size_t words)
+/* Into so many bytes and lengths; what is written is added up in `need`, bytes and then lengths. */
+static uint32_t picking(const uint8_t *t, size_t n, size_t room, size_t count, size_t need[2])
 {
-    guarded hay = lend(below(64));
+    guarded bytes = lend(room), lengths = lend(2 * count);
+    tm_literals_result r = tm_literals(t, n, bytes.lent, room, (uint16_t *)lengths.lent, count);
+    answered(r.refusal, "tm_literals", TEXT | 1u << 17 | 1u << 18 | 1u << 19);
+    size_t total = 0;
+    if (r.refusal == 0 && r.count > count)
+        fault("tm_literals: more than lent");
+    for (size_t i = 0; r.refusal == 0 && i < r.count; i++)
+        total += ((uint16_t *)lengths.lent)[i];
+    same(bytes, total, "tm_literals: bytes changed");
+    same(lengths, r.refusal == 0 ? 2 * r.count : 0, "tm_literals: lengths changed");
+    if (r.refusal == 0 && (r.rank > 80 || r.count > TM_LITERALS || total > room))
+        fault("tm_literals: bounds");
+    if (r.refusal != 0 && (r.rank != 0 || r.count != 0 || r.place > n || (r.refusal > 11 && r.place != 0)))
+        fault("tm_literals: a refusal has no count");
+    back(bytes, "tm_literals: guard");
+    back(lengths, "tm_literals: guard");
+    need[0] = total;
+    need[1] = r.refusal == 0 ? r.count : 0;
+    return r.refusal;
+}
+
+/* With just the room that the literals need, and around it: 18 exactly if it is too little. */
+static void rooms(const uint8_t *t, size_t n, int every)
+{
+    size_t need[2], got[2];
+    uint32_t due = picking(t, n, TM_LITERAL_BYTES, TM_LITERALS, need);
+    if (due == 18)
+        fault("tm_literals: this room is always enough");
+    for (size_t k = 0; k < (every ? need[0] + need[1] + 4 : 4); k++) {
+        size_t room = every ? (k < need[0] + 2 ? k : need[0]) : around(need[0]);
+        size_t count = every ? (k < need[0] + 2 ? need[1] : k - need[0] - 2) : around(need[1]);
+        uint32_t refusal = picking(t, n, room, count, got);
+        if (refusal != (due == 0 && (room < need[0] || count < need[1]) ? 18 : due))
+            fault("tm_literals: 18");
+        if (refusal == 0 && (got[0] != need[0] || got[1] != need[1]))
+            fault("tm_literals: another count");
+    }
+}
+
+static void checking(const uint32_t *program, size_t words, size_t bytes, size_t start, size_t end)
+{
+    guarded hay = lend(bytes);
     for (size_t i = 0; i < hay.n; i++)
         hay.lent[i] = (uint8_t)(below(2) ? 0x41 + below(3) : below(256));
-    size_t start = below((uint32_t)hay.n + 2), end = below(16) ? start + below((uint32_t)(hay.n + 2)) : below(2) ? SIZE_MAX : 0;
     tm_check_result f = tm_forward(program, words, hay.lent, hay.n, start, end), b = tm_reverse(program, words, hay.lent, hay.n, start, end);
     tm_tail_result tail = tm_tail(program, words, hay.lent, hay.n, start, end);
     answered(f.refusal, "tm_forward", 1u << 13 | 1u << 15 | 1u << 16);
@@ -184,9 +247,16 @@ static void checking(const uint32_t *program, size_t words)
     back(hay, "checks: guard");
 }
 
-static void mirroring(const uint32_t *program, size_t words)
+/* A haystack and a window, mostly inside it. */
+static void somewhere(const uint32_t *program, size_t words)
 {
-    guarded pool = lend(4 * around(TM_NODE_POOL));
+    size_t bytes = below(64), start = below((uint32_t)bytes + 2);
+    checking(program, words, bytes, start, below(16) ? start + below((uint32_t)bytes + 2) : below(2) ? SIZE_MAX : 0);
+}
+
+static void mirroring(const uint32_t *program, size_t words, size_t lent)
+{
+    guarded pool = lend(4 * lent);
     tm_mirror_result r = tm_mirror(program, words, (uint32_t *)pool.lent, pool.n / 4);
     answered(r.refusal, "tm_mirror", 1u << 13 | 1u << 15 | 1u << 18);
     if ((pool.n / 4 < TM_NODE_POOL) != (r.refusal == 18))
@@ -202,27 +272,68 @@ static void mirroring(const uint32_t *program, size_t words)
     back(pool, "tm_mirror: guard");
 }
 
+/* Texts that compile, that read, that are refused at once and late, and that are too long. */
+static const char *const texts[] = {"{ 41 [0-2] ( 42 | 43 44 ) }", "{ 41 [2-] 42 }", "{ 01 02 ?3 04 }", "{ ( 41 | ?? ) }", "{ ?? }", "x", "{ 41 42 [0] 43 }", NULL};
+
+static void every_length(void)
+{
+    static uint8_t spaces[4097];
+    static uint32_t program[600];
+    size_t words = 0;
+
+    memset(spaces, ' ', sizeof spaces);
+    for (size_t k = 0; k < sizeof texts / sizeof *texts; k++) {
+        const uint8_t *t = texts[k] ? (const uint8_t *)texts[k] : spaces;
+        size_t n = texts[k] ? strlen(texts[k]) : sizeof spaces;
+        for (size_t lent = 0; lent <= TM_TOKEN_POOL + 1; lent++)
+            reading(t, n, lent);
+        for (size_t lent = 0; lent <= TM_NODE_POOL + 1; lent++) {
+            compiling(t, n, lent, TM_NODE_POOL, program, &words);
+            compiling(t, n, TM_NODE_POOL, lent, program, &words);
+            compiling(t, n, lent, lent, program, &words);
+        }
+        rooms(t, n, 1);
+    }
+    /* a program, its first word alone, none, an unsound one and one that is too long */
+    for (size_t lent = 0; lent <= TM_NODE_POOL + 1; lent++) {
+        const uint32_t branch = 7;
+        mirroring(program, words, lent);
+        mirroring(program, 1, lent);
+        mirroring(NULL, 0, lent);
+        mirroring(&branch, 1, lent);
+        mirroring(program, 600, lent);
+    }
+    for (size_t bytes = 0; bytes <= 12; bytes++)
+        for (size_t start = 0; start <= bytes + 1; start++)
+            for (size_t end = 0; end <= bytes + 1; end++)
+                checking(program, words, bytes, start, end);
+}
+
 int main(int argc, char **argv)
 {
     static uint8_t t[8192];
-    static uint32_t program[600];
+    static uint32_t program[600], spoilt[600];
     size_t words = 0;
     unsigned long rounds = argc > 2 ? strtoul(argv[2], NULL, 10) : 10000;
 
     state = argc > 1 ? strtoull(argv[1], NULL, 10) * 2 + 1 : 1;
+    every_length();
     for (unsigned long i = 0; i < rounds; i++) {
         size_t n = text(t);
-        reading(t, n);
-        compiling(t, n, program, &words);
-        checking(program, words);
-        mirroring(program, words);
-        /* a damaged program, and now and then one that is too long */
+        reading(t, n, around(TM_TOKEN_POOL));
+        compiling(t, n, around(TM_NODE_POOL), around(TM_NODE_POOL), program, &words);
+        if (below(8) == 0)
+            rooms(t, n, 0);
+        somewhere(program, words);
+        mirroring(program, words, around(TM_NODE_POOL));
+        /* a damaged copy, and now and then one that is too long */
+        memcpy(spoilt, program, sizeof program);
         if (words > 0)
-            program[below((uint32_t)words)] ^= 1u << below(32);
-        checking(program, below(50) ? words : 600);
-        mirroring(program, below(50) ? words : 600);
+            spoilt[below((uint32_t)words)] ^= 1u << below(32);
+        somewhere(spoilt, below(50) ? words : 600);
+        mirroring(spoilt, below(50) ? words : 600, around(TM_NODE_POOL));
     }
-    printf("rounds %lu, calls by answer:", rounds);
+    printf("every length, and %lu rounds; calls by answer:", rounds);
     for (int k = 0; k < 20; k++)
         if (answers[k])
             printf(" %d: %" PRIu64, k, answers[k]);

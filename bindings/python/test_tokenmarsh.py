@@ -17,7 +17,7 @@ class Doors(unittest.TestCase):
             (b"{ AB [0] CD }", 4, 5), (b"{ [5] AB }", 6, 2), (b"{ AB (CD [201] EF) }", 8, 9), (b"{ ~?? }", 9, 2), (b"{ ??? }", 2, 4),
             (b"{ AB [2-3] [x }", 6, 2), (b"{ AB [x }", 2, 5), (b"{ (AB|) }", 2, 5), (b"{ AB [4294967296] CD }", 3, 6), (b"", 2, 0), (b"{" * 4097, 1, 0),
         ):
-            for door in (tokenmarsh.read, tokenmarsh.compile):
+            for door in (tokenmarsh.read, tokenmarsh.compile, tokenmarsh.literals):
                 self.refused(lambda: door(text), number, place)
 
     def test_tokens_are_nested(self):
@@ -39,6 +39,15 @@ class Doors(unittest.TestCase):
         self.assertEqual(friend.forward.mirror().start(b"ba"), 1)
         self.assertEqual(bytes(tokenmarsh.compile(b"{ 61 }").forward.tail(b"abc")), b"bc")
         self.refused(lambda: tokenmarsh.forward([], b"abc", 2, 1), Refusal.BAD_WINDOW)
+
+    def test_literals(self):
+        r = tokenmarsh.literals(b"{ 01 02 ?3 04 }")
+        self.assertEqual((r.rank, len(r.literals), r.literals[0]), (70, 16, b"\x01\x02\x03\x04"))
+        r = tokenmarsh.literals(b"{ ?1 (AA | BB CC) }")
+        self.assertEqual((r.rank, len(r.literals), r.literals[16]), (30, 32, b"\x01\xBB\xCC"))
+        self.assertEqual(tokenmarsh.literals(b"{ ?? }"), ((), 0))
+        self.refused(lambda: tokenmarsh.literals(b"{ (41|??) }"), Refusal.NOT_PLAIN)
+        self.refused(lambda: tokenmarsh.literals(b"{ (" + b"41|" * 256 + b"41) }"), Refusal.TOO_MANY_LITERALS)
 
     def test_examples(self):
         self.assertEqual(doctest.testmod(tokenmarsh, verbose=False).failed, 0)

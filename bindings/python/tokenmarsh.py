@@ -1,4 +1,4 @@
-"""Byte patterns in YARA's hexadecimal strings, read, compiled and searched by proved code.
+"""Byte patterns in YARA's hexadecimal strings, read, compiled, searched and picked from by proved code.
 
     >>> import tokenmarsh
     >>> pattern = tokenmarsh.compile(b"{ 61 [0-2] 63 }")
@@ -6,6 +6,8 @@
     3
     >>> pattern.reverse.start(b"xabc")
     1
+    >>> tokenmarsh.literals(b"{ 61 [0-2] 63 }")
+    Literals(literals=(b'c',), rank=20)
 
 The work is done by libtokenmarsh.so, from the file that TOKENMARSH_SO names, or from the repository's own build, or from where the system finds it.
 """
@@ -14,11 +16,14 @@ import enum
 import os
 from typing import NamedTuple, Optional, Tuple, Union
 
-__all__ = ["Refusal", "Refused", "Mask", "Byte", "NotByte", "MaskedByte", "NotMaskedByte", "Jump", "Alternatives", "Read", "Program", "Pattern",
-           "read", "compile", "forward", "reverse", "mirror", "sound"]
+__all__ = ["Refusal", "Refused", "Mask", "Byte", "NotByte", "MaskedByte", "NotMaskedByte", "Jump", "Alternatives", "Read", "Program", "Pattern", "Literals",
+           "read", "compile", "literals", "forward", "reverse", "mirror", "sound"]
 
 TOKEN_POOL = 4096
 NODE_POOL = 512
+# 256 literals of 512 bytes are the most that there can be.
+LITERAL_BYTES = 256 * 512
+LITERAL_COUNT = 256
 
 
 class Refusal(enum.IntEnum):
@@ -97,7 +102,12 @@ class Read(NamedTuple):
     reached: int
 
 
-_u32, _u64, _size = ctypes.c_uint32, ctypes.c_uint64, ctypes.c_size_t
+class Literals(NamedTuple):
+    literals: Tuple[bytes, ...]
+    rank: int
+
+
+_u8, _u16, _u32, _u64, _size = ctypes.c_uint8, ctypes.c_uint16, ctypes.c_uint32, ctypes.c_uint64, ctypes.c_size_t
 
 
 def _result(*fields):
@@ -106,6 +116,7 @@ def _result(*fields):
 
 _ReadResult = _result(("refusal", _u32), ("place", _u64), ("reached", _u64), ("words", _u64))
 _CompileResult = _result(("refusal", _u32), ("place", _u64), ("forward", _u64), ("reverse", _u64))
+_LiteralsResult = _result(("refusal", _u32), ("rank", _u32), ("place", _u64), ("count", _u64))
 _CheckResult = _result(("refusal", _u32), ("found", _u32), ("offset", _u64))
 _TailResult = _result(("offset", _u64), ("length", _u64))
 _MirrorResult = _result(("refusal", _u32), ("words", _u64))
@@ -122,6 +133,7 @@ def _load():
     for name, result, arguments in (
         ("tm_read", _ReadResult, text + words),
         ("tm_compile", _CompileResult, text + words + words),
+        ("tm_literals", _LiteralsResult, text + [ctypes.POINTER(_u8), _size, ctypes.POINTER(_u16), _size]),
         ("tm_forward", _CheckResult, window),
         ("tm_reverse", _CheckResult, window),
         ("tm_tail", _TailResult, window),
@@ -231,6 +243,18 @@ def compile(text: bytes) -> Pattern:
     ahead, back = (_u32 * NODE_POOL)(), (_u32 * NODE_POOL)()
     r = _answered(_lib.tm_compile(text, len(text), ahead, NODE_POOL, back, NODE_POOL))
     return Pattern(Program(ahead[:r.forward]), Program(back[:r.reverse]))
+
+
+def literals(text: bytes) -> Literals:
+    """The literals to search for (if there are any, every match holds one of them), and their rank. Refusals 1 to 11, then 19, 17."""
+    text = _text(text)
+    data, lengths = (_u8 * LITERAL_BYTES)(), (_u16 * LITERAL_COUNT)()
+    r = _answered(_lib.tm_literals(text, len(text), data, LITERAL_BYTES, lengths, LITERAL_COUNT))
+    out, at = [], 0
+    for n in lengths[:r.count]:
+        out.append(bytes(data[at:at + n]))
+        at += n
+    return Literals(tuple(out), r.rank)
 
 
 def _check(function, words, haystack, start, end):

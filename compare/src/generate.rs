@@ -211,6 +211,19 @@ pub fn pattern(rng: &mut Rng, taste: Taste, levels: usize, most: usize) -> Vec<u
     out
 }
 
+/// A pattern that mostly keeps to the grammar, of any taste.
+pub fn good(rng: &mut Rng) -> Vec<u8> {
+    let taste = Taste {
+        odd: rng.pick(&[4, 50, 1000]),
+        small: rng.one_in(2),
+        negations: !rng.one_in(3),
+        bytes: rng.pick(&[2, 5, 16]),
+    };
+    let levels = rng.pick(&[0, 1, 1, 2, 7, 8, 9]);
+    let most = rng.pick(&[2, 4, 8, 8, 30]);
+    pattern(rng, taste, levels, most)
+}
+
 /// Bytes and classes, as branches of plain alternatives have them.
 fn plain(rng: &mut Rng, taste: Taste, most: usize, out: &mut Vec<u8>) {
     for _ in 0..1 + rng.below(most) {
@@ -256,46 +269,114 @@ pub fn for_literals(rng: &mut Rng) -> Vec<u8> {
     out
 }
 
-/// A pattern near one of the limits: levels, tokens, length of text or of a number.
+/// A pattern near one of the limits.
 pub fn at_limits(rng: &mut Rng) -> Vec<u8> {
-    let mut out = b"{".to_vec();
-    match rng.below(5) {
-        0 => {
-            let levels = 6 + rng.below(4);
-            out.extend(b"41".repeat(rng.below(2)));
-            out.extend(rng.pick(&["(", "( ", "(41|"]).repeat(levels).bytes());
-            out.extend(rng.pick(&["41", "[2]", "", "~??", "4", "[5-]"]).bytes());
-            out.extend(b")".repeat(levels + rng.below(3) - 1));
-        }
-        1 => {
-            let n = 509 + rng.below(6);
-            out.extend(
-                rng.pick(&["41", "??", "(41)", "41[2]41"])
-                    .repeat(n.div_ceil(1 + rng.below(3)))
-                    .bytes(),
-            );
-            out.extend(
-                rng.pick(&["41", "[0]", "[2-1]", "~??", "(", "(41", "[3]", "~4", "4", ""]).bytes(),
-            );
-        }
-        2 => {
-            let n = 4086 + rng.below(14);
-            out.extend(b"41");
-            out.extend(rng.pick(&[" ", "\n"]).repeat(n).bytes());
-        }
-        3 => {
-            let digits = 1 + rng.below(40);
-            let lead = rng.pick(&["0", "4", "9", "1"]);
-            out.extend(format!("41[{}4294967296]41", lead.repeat(digits)).bytes());
-        }
-        _ => {
-            let bytes = rng.pick(&["41", "?1", "~?1", "(41|42)", "[3]41", "??"]);
-            let n = rng.pick(&[100, 170, 171, 250, 254, 255, 256, 257, 400, 511, 512]);
-            out.extend(format!("(41|41{})41", bytes.repeat(n)).bytes());
+    const LIMITS: [fn(&mut Rng) -> String; 9] =
+        [levels, tokens_513, length, digits, branch, jumps, grown_jump, nodes, literals_257];
+    format!("{{{}}}", rng.pick(&LIMITS)(rng)).into_bytes()
+}
+
+/// Eight list levels, and fewer or more.
+fn levels(rng: &mut Rng) -> String {
+    let levels = 6 + rng.below(4);
+    let before = "41".repeat(rng.below(2));
+    let open = rng.pick(&["(", "( ", "(41|"]).repeat(levels);
+    let inner = rng.pick(&["41", "[2]", "", "~??", "4", "[5-]"]);
+    format!("{before}{open}{inner}{}", ")".repeat(levels + rng.below(3) - 1))
+}
+
+/// 512 tokens, and fewer or more.
+fn tokens_513(rng: &mut Rng) -> String {
+    let n = (509 + rng.below(6)).div_ceil(1 + rng.below(3));
+    let last = rng.pick(&["41", "[0]", "[2-1]", "~??", "(", "(41", "[3]", "~4", "4", ""]);
+    format!("{}{last}", rng.pick(&["41", "??", "(41)", "41[2]41"]).repeat(n))
+}
+
+/// 4,096 bytes of text, and fewer or more.
+fn length(rng: &mut Rng) -> String {
+    let n = 4086 + rng.below(14);
+    let (first, last) = (rng.pick(&["41", "", "4", "[0]41"]), rng.pick(&["", "42", "4", "x"]));
+    format!("{first}{}{last}", rng.pick(&[" ", "\n", "\t"]).repeat(n))
+}
+
+/// 4,294,967,295 in a jump, and less or more, with zeros or other digits before it.
+fn digits(rng: &mut Rng) -> String {
+    let lead = rng.pick(&["0", "0", "0", "4", "9", "1"]).repeat(rng.pick(&[0, 1, 5, 30, 60]));
+    let number = rng.pick(&[4_294_967_294u64, 4_294_967_295, 4_294_967_296, 4_294_967_297]);
+    match rng.below(4) {
+        0 => format!("41[{lead}{number}]41"),
+        1 => format!("41[{}-{lead}{number}]41", rng.pick(&["", "0", "5", "4294967295"])),
+        2 => format!("41[{lead}{number}-]41"),
+        _ => format!("(41[{lead}{number}]41)"),
+    }
+}
+
+/// A branch of 255 nodes, and fewer or more.
+fn branch(rng: &mut Rng) -> String {
+    let inner = rng.pick(&["41", "?1", "~?1", "(41|42)", "[3]41", "??", "??41"]);
+    let n = rng.pick(&[100, 126, 127, 128, 170, 171, 250, 254, 255, 256, 257, 400, 511, 512]);
+    format!("({}41{})41", rng.pick(&["", "41|"]), inner.repeat(n))
+}
+
+/// Jumps of about 200 and 255, within alternatives and without.
+fn jumps(rng: &mut Rng) -> String {
+    let at = rng.pick(&[0, 1, 2, 199, 200, 201, 202, 254, 255, 256, 257]);
+    let to = rng.pick(&[0, 1, 2, 199, 200, 201, 202, 254, 255, 256, 257]);
+    let jump = match rng.below(4) {
+        0 => format!("[{at}]"),
+        1 => format!("[-{to}]"),
+        2 => format!("[{}-{}]", at.min(to), at.max(to)),
+        _ => format!("[{at}-{to}]"),
+    };
+    rng.pick(&["41J42", "(41J42)43", "41(41|42J43)", "(41J)", "J41", "41J", "41JJ42"])
+        .replace('J', &jump)
+}
+
+/// Successive jumps that sum up to about 255, so that adding one may or may not enlarge the last.
+fn grown_jump(rng: &mut Rng) -> String {
+    let mut out = rng.pick(&["41", "(41", "(41|42", "??", "(41|42 ??)"]).to_string();
+    let close = if out.starts_with('(') && !out.ends_with(')') { "43)" } else { "43" };
+    for _ in 0..2 + rng.below(4) {
+        let n = rng.pick(&[2, 50, 55, 100, 127, 128, 155, 156, 200, 253, 254, 255]);
+        match rng.below(5) {
+            0 => out.push_str("??"),
+            1 => out.push_str("[1]"),
+            _ if close == "43)" => out.push_str(&format!("[{}]", n.min(200))),
+            _ => out.push_str(&format!("[{n}]")),
         }
     }
-    out.extend(b"}");
-    out
+    out + close
+}
+
+/// 512 nodes, and fewer or more: a bracket has three for its two tokens. Long runs of classes take
+/// long to pick from, so they are few.
+fn nodes(rng: &mut Rng) -> String {
+    let nodes = 509 + rng.below(7);
+    let brackets = rng.pick(&[1, 2, 100, 150, 165, 168, 169, 170]);
+    let rest = (nodes - 3 * brackets).min(512 - 2 * brackets);
+    let classes = rng.one_in(400);
+    let bracket = rng.pick(if classes { &["(4?)", "(~41)"] } else { &["(41)", "(??)"] });
+    let one = rng.pick(if classes { &["~41", "?4"] } else { &["41", "42"] });
+    if rng.one_in(2) {
+        bracket.repeat(brackets) + &one.repeat(rest)
+    } else {
+        one.repeat(rest) + &bracket.repeat(brackets)
+    }
+}
+
+/// Alternatives and classes with about 256 literals or combinations; about 16 more often, which
+/// takes less time.
+fn literals_257(rng: &mut Rng) -> String {
+    let many = if rng.one_in(40) { &[255, 256, 257] } else { &[15, 16, 17] };
+    let lists = vec![rng.pick(&["41", "00", "41 42"]); rng.pick(many)].join("|");
+    let class = rng.pick(&["?1", "1?", ""]);
+    let after = rng.pick(&["", "?2", "(41|42)", "41 42 43", "?? 41"]);
+    match rng.below(4) {
+        0 => format!("{class}({lists}){after}"),
+        1 => format!("({lists}){class}{after}"),
+        2 => format!("41{class}{class}42{after}"),
+        _ => format!("41{}{after}", rng.pick(&["~41", "~?1", "~4?"])),
+    }
 }
 
 /// A copy with a few signs changed, lost, doubled or moved.

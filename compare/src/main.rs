@@ -17,6 +17,8 @@ mod raw;
 #[cfg(original)]
 mod runs;
 #[cfg(original)]
+mod sample;
+#[cfg(original)]
 mod samples;
 #[cfg(original)]
 mod sides;
@@ -58,27 +60,41 @@ fn compared(judge: &runs::Judge, args: &[String]) -> Option<bool> {
         "rooms" => ours::rooms(),
         "texts" => judge.texts(length(5)),
         "pieces" => judge.pieces(length(4)),
-        "random" => judge.random(seed(), count(300_000)),
+        "good" => judge.good(seed(), count(300_000)),
+        "limits" => judge.limits(seed(), count(300_000)),
+        "damaged" => judge.damaged(seed(), count(300_000)),
         "literals" => judge.random_literals(seed(), count(100_000)),
         "spans" => judge.spans(seed(), count(100_000)),
         "programs" => judge.programs(length(4)),
         "checks" => judge.random_checks(seed(), count(300_000)),
         "listings" => listing::listings(&args[1], number(args, 2, 1), number(args, 3, 2000)),
-        "all" => [
-            samples::samples(),
-            ours::rooms(),
-            judge.texts(5),
-            judge.pieces(3),
-            judge.random(1, 300_000),
-            judge.random_literals(1, 100_000),
-            judge.spans(1, 100_000),
-            judge.programs(4),
-            judge.random_checks(1, 300_000),
-        ]
-        .iter()
-        .all(|good| *good),
+        "all" => all(judge, seed(), count(1_000_000)),
         _ => return None,
     })
+}
+
+/// Every comparison, exhaustive ones of more than a million inputs and random ones of so many each.
+#[cfg(original)]
+fn all(judge: &runs::Judge, seed: u64, count: usize) -> bool {
+    let all: [(&str, &dyn Fn() -> bool); 11] = [
+        ("samples", &samples::samples),
+        ("rooms", &ours::rooms),
+        ("texts", &|| judge.texts(6)),
+        ("pieces", &|| judge.pieces(5)),
+        ("good", &|| judge.good(seed, count)),
+        ("limits", &|| judge.limits(seed, count)),
+        ("damaged", &|| judge.damaged(seed, count)),
+        ("literals", &|| judge.random_literals(seed, count)),
+        ("spans", &|| judge.spans(seed, count)),
+        ("programs", &|| judge.programs(5)),
+        ("checks", &|| judge.random_checks(seed, count)),
+    ];
+    let bad: Vec<_> = all.iter().filter(|(_, run)| !run()).map(|(name, _)| *name).collect();
+    match bad.is_empty() {
+        true => println!("all: nothing differs but what docs/DIFFERENCES.md names"),
+        false => println!("all: DIFFERS in {}", bad.join(", ")),
+    }
+    bad.is_empty()
 }
 
 /// Prints what was asked for; None for another name.
@@ -98,6 +114,7 @@ fn shown(judge: &runs::Judge, args: &[String]) -> Option<bool> {
             std::io::Read::read_to_end(&mut std::io::stdin(), &mut text).expect("input");
             print!("{}", listing::listing(&text));
         }
+        "sample" => return Some(sample::sample("../crates/rustsays/data/cases")),
         "patterns" => runs::Judge::patterns(number(args, 1, 1), size(2, 50), size(3, 50)),
         "starts" => starts(judge),
         _ => return None,

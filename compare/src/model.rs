@@ -10,6 +10,7 @@ pub const SIDE: Side = Side {
     read: Some(read),
     compile: Some(compile),
     literals: Some(literals),
+    sound: Some(|words| Some(Ok(sound(words)))),
     mirror: Some(mirror),
     forward: Some(forward),
     reverse: Some(reverse),
@@ -242,25 +243,36 @@ enum Item {
     Alternation(Vec<Vec<u32>>),
 }
 
+/// How a list becomes nodes.
+#[derive(Clone, Copy)]
+struct Making {
+    reverse: bool,
+    in_branch: bool,
+    /// The original's fault: a jump after alternatives enlarges the last branch's.
+    grows: bool,
+}
+
 /// None for a list that is not simple.
-fn items(list: &[Tok], reverse: bool, in_branch: bool) -> Option<Vec<Item>> {
+fn items(list: &[Tok], how: Making) -> Option<Vec<Item>> {
     let mut out: Vec<Item> = Vec::new();
     let in_order: Vec<&Tok> =
-        if reverse { list.iter().rev().collect() } else { list.iter().collect() };
+        if how.reverse { list.iter().rev().collect() } else { list.iter().collect() };
+    let jump = |out: &mut Vec<Item>, length| add_jump(out, length, how.grows);
     for token in in_order {
         match token {
             Tok::Byte(b) => out.push(Item::Word(word(0, u32::from(*b), 0))),
             Tok::NotByte(b) => out.push(Item::Word(word(2, u32::from(*b), 0xFF))),
-            Tok::Masked(_, 2) => add_jump(&mut out, 1),
+            Tok::Masked(_, 2) => jump(&mut out, 1),
             Tok::Masked(d, side) => out.push(Item::Word(masked(1, *d, *side))),
             Tok::NotMasked(d, side) => out.push(Item::Word(masked(2, *d, *side))),
             Tok::Jump(_, to) if to.is_none_or(|to| to > 255) => return None,
-            Tok::Jump(from, to) if *to == Some(*from) => add_jump(&mut out, *from),
-            Tok::Jump(..) | Tok::Alts(_) if in_branch => return None,
+            Tok::Jump(from, to) if *to == Some(*from) => jump(&mut out, *from),
+            Tok::Jump(..) | Tok::Alts(_) if how.in_branch => return None,
             Tok::Jump(from, to) => out.push(Item::Word(word(4, *from, to.unwrap_or(0)))),
             Tok::Alts(lists) => {
+                let inner = Making { in_branch: true, ..how };
                 let branches: Option<Vec<_>> =
-                    lists.iter().map(|l| Some(flat(&items(l, reverse, true)?))).collect();
+                    lists.iter().map(|l| Some(flat(&items(l, inner)?))).collect();
                 out.push(Item::Alternation(branches?));
             }
         }
@@ -268,14 +280,18 @@ fn items(list: &[Tok], reverse: bool, in_branch: bool) -> Option<Vec<Item>> {
     Some(out)
 }
 
-fn add_jump(out: &mut Vec<Item>, length: u32) {
-    if let Some(Item::Word(last)) = out.last_mut() {
-        if *last % 256 == 3 && *last / 256 + length <= 255 {
-            *last += 256 * length;
-            return;
+fn add_jump(out: &mut Vec<Item>, length: u32, grows: bool) {
+    let last = match out.last_mut() {
+        Some(Item::Word(last)) => Some(last),
+        Some(Item::Alternation(branches)) if grows => {
+            branches.last_mut().and_then(|b| b.last_mut())
         }
+        _ => None,
+    };
+    match last {
+        Some(last) if *last % 256 == 3 && *last / 256 + length <= 255 => *last += 256 * length,
+        _ => out.push(Item::Word(word(3, length, 0))),
     }
-    out.push(Item::Word(word(3, length, 0)));
 }
 
 fn flat(items: &[Item]) -> Vec<u32> {
@@ -303,9 +319,19 @@ fn long_branch(items: &[Item]) -> bool {
     })
 }
 
+fn both(list: &[Tok], grows: bool) -> Option<(Vec<Item>, Vec<Item>)> {
+    let one = |reverse| items(list, Making { reverse, in_branch: false, grows });
+    Some((one(false)?, one(true)?))
+}
+
+/// What the original's builder makes of a text: with its fault, and without the limits of nodes.
+pub fn as_original(text: &[u8]) -> Option<Compiled> {
+    let (forward, reverse) = both(&tokens(text).ok()?.0, true)?;
+    Some(Compiled { forward: flat(&forward), reverse: flat(&reverse) })
+}
+
 pub fn programs(list: &[Tok]) -> Answer<Compiled> {
-    let (Some(forward), Some(reverse)) = (items(list, false, false), items(list, true, false))
-    else {
+    let Some((forward, reverse)) = both(list, false) else {
         return refuse(12, 0);
     };
     if long_branch(&forward) || long_branch(&reverse) {

@@ -13,6 +13,7 @@ pub const SIDE: Side = Side {
     read: Some(read),
     compile: Some(compile),
     literals: Some(literals),
+    sound: None,
     mirror: None,
     forward: Some(forward),
     reverse: Some(reverse),

@@ -13,6 +13,8 @@ pub fn side() -> Side {
         compile: Some(doors::compile),
         #[cfg(tm_literals)]
         literals: Some(doors::literals),
+        #[cfg(tm_sound)]
+        sound: Some(doors::sound),
         #[cfg(tm_mirror)]
         mirror: Some(doors::mirror),
         #[cfg(tm_forward)]
@@ -34,9 +36,8 @@ pub fn rooms() -> bool {
 
 #[allow(dead_code, unused_imports, unused_mut)]
 mod doors {
-    #[cfg(tm_literals)]
-    use crate::raw::tm_literals;
-    use crate::raw::{self, CheckResult, tm_compile, tm_forward, tm_mirror, tm_read, tm_reverse};
+    use crate::raw::{self, CheckResult, tm_compile, tm_forward, tm_literals, tm_mirror};
+    use crate::raw::{tm_read, tm_reverse, tm_sound, tm_tail};
     use crate::sides::{Answer, Compiled, Found, Picked, Read, Refusal, Window};
 
     const FILL: u32 = 0xA5A5_A5A5;
@@ -92,6 +93,14 @@ mod doors {
         })
     }
 
+    #[cfg(tm_sound)]
+    pub fn sound(words: &[u32]) -> Option<Answer<bool>> {
+        // As above.
+        let r = unsafe { tm_sound(words.as_ptr(), words.len()) };
+        assert!(r < 2, "1 or 0");
+        Some(Ok(r == 1))
+    }
+
     #[cfg(tm_mirror)]
     pub fn mirror(words: &[u32]) -> Option<Answer<Vec<u32>>> {
         let mut out = pool(512);
@@ -113,9 +122,23 @@ mod doors {
     #[cfg(tm_forward)]
     pub fn forward(words: &[u32], w: Window) -> Option<Answer<Found>> {
         // As above.
-        found(unsafe {
+        let r = unsafe {
             tm_forward(words.as_ptr(), words.len(), w.hay.as_ptr(), w.hay.len(), w.start, w.end)
-        })
+        };
+        #[cfg(tm_tail)]
+        tail(words, w, &r);
+        found(r)
+    }
+
+    /// The second door's part of the haystack: what the first leaves of the window, or empty.
+    #[cfg(tm_tail)]
+    fn tail(words: &[u32], w: Window, r: &CheckResult) {
+        // As above.
+        let t = unsafe {
+            tm_tail(words.as_ptr(), words.len(), w.hay.as_ptr(), w.hay.len(), w.start, w.end)
+        };
+        let due = if r.found == 1 { (r.offset, w.end as u64 - r.offset) } else { (0, 0) };
+        assert_eq!((t.offset, t.length), due, "the tail is what is left");
     }
 
     #[cfg(tm_reverse)]

@@ -52,36 +52,32 @@ fn half_after_not<T>(text: &[u8], a: &Answer<T>, b: &Answer<T>) -> Option<&'stat
     (half && digit && not).then_some("half byte after ~")
 }
 
-/// A jump after alternatives whose last branch ends with one: the original lets that one grow.
-fn grown(words: &[u32]) -> bool {
-    let mut at = 0;
-    while at < words.len() {
-        let alternation = words[at] % 256 == 6;
-        at += 1;
-        if alternation {
-            at += (words[at - 1] / 256) as usize;
-            let (Some(last), Some(next)) = (words.get(at - 1), words.get(at)) else {
-                return false;
-            };
-            if last % 256 == 3 && next % 256 == 3 && last / 256 < 255 {
-                return true;
-            }
-        }
-    }
-    false
-}
-
+/// The original's programs are then exactly those that its known faults make.
 fn known_compile(text: &[u8], a: &Answer<Compiled>, b: &Answer<Compiled>) -> Option<&'static str> {
+    let faulty = || a.as_ref().ok() == model::as_original(text).as_ref();
     match (a, b) {
-        (Ok(_), Ok(right)) => {
-            let any = grown(&right.forward) || grown(&right.reverse);
-            any.then_some("jump after alternatives grows the last branch's")
-        }
-        (Ok(left), Err(refusal)) => {
-            let many = left.forward.len() > 512 || left.reverse.len() > 512;
-            (many && refusal.number == 13).then_some("more than 512 nodes built")
+        (Ok(_), Ok(_)) => faulty().then_some("jump after alternatives grows the last branch's"),
+        (Ok(_), Err(refusal)) => {
+            (refusal.number == 13 && faulty()).then_some("more than 512 nodes built")
         }
         _ => half_after_not(text, a, b),
+    }
+}
+
+/// The counts of what is done with texts.
+#[derive(Default)]
+struct Texts {
+    read: Tally,
+    compile: Tally,
+    literals: Tally,
+}
+
+impl Texts {
+    fn report(&self, what: &str) -> bool {
+        let read = self.read.report(&format!("reading {what}"));
+        let compile = self.compile.report(&format!("compiling {what}"));
+        let literals = self.literals.report(&format!("picking from {what}"));
+        read && compile && literals
     }
 }
 
@@ -129,74 +125,73 @@ impl Judge {
         tally[1].count(&reverse, label, show, |_, _| None);
     }
 
-    fn mirror(&self, tally: &mut Tally, words: &[u32]) {
-        let answers: Answers<Vec<u32>> = answers!(self, mirror, words);
-        tally.count(&answers, |_| "mirrored".into(), || format!("{words:x?}"), |_, _| None);
+    fn mirror(&self, tally: &mut [Tally; 2], words: &[u32]) {
+        let show = || format!("{words:x?}");
+        let sound: Answers<bool> = answers!(self, sound, words);
+        let label = |s: &bool| if *s { "sound".into() } else { "unsound".into() };
+        tally[0].count(&sound, label, show, |_, _| None);
+        let mirror: Answers<Vec<u32>> = answers!(self, mirror, words);
+        tally[1].count(&mirror, |_| "mirrored".into(), show, |_, _| None);
     }
 
-    /// All texts of at most so many signs, as they are and between braces.
+    /// All texts of at most so many signs, as they are and between braces; those that are read
+    /// are compiled and picked from too.
     pub fn texts(&self, most: usize) -> bool {
-        let mut tally = Tally::default();
+        let mut tallies = Texts::default();
         generate::sequences(SIGNS, most, &mut |inner| {
             if inner.len() < most {
-                self.read(&mut tally, inner);
+                self.read(&mut tallies.read, inner);
             }
-            self.read(&mut tally, &[b"{", inner, b"}"].concat());
+            let text = [b"{", inner, b"}"].concat();
+            self.read(&mut tallies.read, &text);
+            if model::tokens(&text).is_ok() {
+                self.compile(&mut tallies.compile, &text);
+                self.literals(&mut tallies.literals, &text);
+            }
         });
-        tally.report(&format!("reading all texts of up to {most} signs"))
+        tallies.report(&format!("all texts of up to {most} signs"))
     }
 
     /// All texts of at most so many tokens and broken tokens.
     pub fn pieces(&self, most: usize) -> bool {
-        let (mut read, mut compile, mut literals) = <(Tally, Tally, Tally)>::default();
+        let mut tallies = Texts::default();
         generate::sequences(PIECES, most, &mut |inner| {
-            let text = format!("{{ {} }}", inner.join(" "));
-            self.read(&mut read, text.as_bytes());
-            self.compile(&mut compile, text.as_bytes());
-            self.literals(&mut literals, text.as_bytes());
+            self.text(&mut tallies, format!("{{ {} }}", inner.join(" ")).as_bytes());
         });
-        let title = |what: &str| format!("{what} all texts of up to {most} pieces");
-        [
-            read.report(&title("reading")),
-            compile.report(&title("compiling")),
-            literals.report(&title("picking from")),
-        ]
-        .iter()
-        .all(|good| *good)
+        tallies.report(&format!("all texts of up to {most} pieces"))
     }
 
-    /// Random patterns, patterns at the limits, and damaged copies of both.
-    pub fn random(&self, seed: u64, count: usize) -> bool {
+    fn text(&self, tallies: &mut Texts, text: &[u8]) {
+        self.read(&mut tallies.read, text);
+        self.compile(&mut tallies.compile, text);
+        self.literals(&mut tallies.literals, text);
+    }
+
+    /// Random patterns that mostly keep to the rules.
+    pub fn good(&self, seed: u64, count: usize) -> bool {
+        self.random(seed, count, "random patterns", |rng| generate::good(rng))
+    }
+
+    /// Random patterns about one of the limits.
+    pub fn limits(&self, seed: u64, count: usize) -> bool {
+        self.random(seed, count, "patterns at the limits", |rng| generate::at_limits(rng))
+    }
+
+    /// Damaged copies of random patterns, one in ten of them about a limit.
+    pub fn damaged(&self, seed: u64, count: usize) -> bool {
+        self.random(seed, count, "damaged patterns", |rng| {
+            let text = if rng.one_in(10) { generate::at_limits(rng) } else { generate::good(rng) };
+            generate::damaged(rng, &text)
+        })
+    }
+
+    fn random(&self, seed: u64, n: usize, what: &str, text: impl Fn(&mut Rng) -> Vec<u8>) -> bool {
         let mut rng = Rng::new(seed);
-        let (mut read, mut compile, mut literals) = <(Tally, Tally, Tally)>::default();
-        for _ in 0..count {
-            let taste = Taste {
-                odd: rng.pick(&[4, 50, 1000]),
-                small: rng.one_in(2),
-                negations: !rng.one_in(3),
-                bytes: rng.pick(&[2, 5, 16]),
-            };
-            let levels = rng.pick(&[0, 1, 1, 2, 7, 8, 9]);
-            let most = rng.pick(&[2, 4, 8, 8, 30]);
-            let mut text = match rng.below(20) {
-                0 => generate::at_limits(&mut rng),
-                _ => generate::pattern(&mut rng, taste, levels, most),
-            };
-            if rng.one_in(3) {
-                text = generate::damaged(&mut rng, &text);
-            }
-            self.read(&mut read, &text);
-            self.compile(&mut compile, &text);
-            self.literals(&mut literals, &text);
+        let mut tallies = Texts::default();
+        for _ in 0..n {
+            self.text(&mut tallies, &text(&mut rng));
         }
-        let title = |what: &str| format!("{what} random texts, seed {seed}");
-        [
-            read.report(&title("reading")),
-            compile.report(&title("compiling")),
-            literals.report(&title("picking from")),
-        ]
-        .iter()
-        .all(|good| *good)
+        tallies.report(&format!("{what}, seed {seed}"))
     }
 
     /// Random patterns that have literals to choose from.
@@ -265,7 +260,7 @@ impl Judge {
         let mut hays: Vec<Vec<u8>> = Vec::new();
         generate::sequences(&[0x41, 0x42], 4, &mut |hay| hays.push(hay.to_vec()));
         hays.extend([vec![0x0A], vec![0x0A, 0x41], vec![0x41, 0x0A]]);
-        let (mut checks, mut mirror) = <([Tally; 2], Tally)>::default();
+        let (mut checks, mut mirror) = <([Tally; 2], [Tally; 2])>::default();
         generate::sequences(WORDS, most, &mut |words| {
             self.mirror(&mut mirror, words);
             let sound = model::sound(words);
@@ -277,7 +272,8 @@ impl Judge {
         [
             checks[0].report(&title("forward checks of")),
             checks[1].report(&title("reverse checks of")),
-            mirror.report(&title("mirrors of")),
+            mirror[0].report(&title("soundness of")),
+            mirror[1].report(&title("mirrors of")),
         ]
         .iter()
         .all(|good| *good)
@@ -286,7 +282,7 @@ impl Judge {
     /// Random programs and windows; some programs spoilt, some windows wrong.
     pub fn random_checks(&self, seed: u64, count: usize) -> bool {
         let mut rng = Rng::new(seed);
-        let (mut checks, mut mirror) = <([Tally; 2], Tally)>::default();
+        let (mut checks, mut mirror) = <([Tally; 2], [Tally; 2])>::default();
         for _ in 0..count {
             let alphabet: &[u8] =
                 rng.pick(&[&b"AB"[..], &b"A"[..], &b"AB\n"[..], &b"\x00\x01\x10\xff"[..]]);
@@ -314,7 +310,8 @@ impl Judge {
         [
             checks[0].report(&title("forward checks of")),
             checks[1].report(&title("reverse checks of")),
-            mirror.report(&title("mirrors of")),
+            mirror[0].report(&title("soundness of")),
+            mirror[1].report(&title("mirrors of")),
         ]
         .iter()
         .all(|good| *good)

@@ -74,6 +74,7 @@ pub struct Side {
     pub read: Option<fn(&[u8]) -> Option<Answer<Read>>>,
     pub compile: Option<fn(&[u8]) -> Option<Answer<Compiled>>>,
     pub literals: Option<fn(&[u8]) -> Option<Answer<Picked>>>,
+    pub sound: Option<fn(&[u32]) -> Option<Answer<bool>>>,
     pub mirror: Option<fn(&[u32]) -> Option<Answer<Vec<u32>>>>,
     pub forward: Option<fn(&[u32], Window) -> Option<Answer<Found>>>,
     pub reverse: Option<fn(&[u32], Window) -> Option<Answer<Found>>>,

@@ -7,11 +7,11 @@ use crate::sides::Answer;
 
 const EXAMPLES: usize = 5;
 
-fn shortened(text: String) -> String {
-    if text.chars().count() > 300 {
-        text.chars().take(300).chain("..".chars()).collect()
+fn shortened(text: &str, most: usize) -> String {
+    if text.chars().count() > most {
+        text.chars().take(most).chain("..".chars()).collect()
     } else {
-        text
+        text.into()
     }
 }
 
@@ -82,7 +82,8 @@ impl Tally {
         } else {
             pair.differ += 1;
             if pair.examples.len() < EXAMPLES {
-                let [x, a, b] = [show(), format!("{a:?}"), format!("{b:?}")].map(shortened);
+                let [x, a, b] =
+                    [show(), format!("{a:?}"), format!("{b:?}")].map(|t| shortened(&t, 300));
                 pair.examples.push(format!("{x}\n      {a}\n      {b}"));
             }
         }
@@ -97,7 +98,7 @@ impl Tally {
         for (name, pair) in &self.pairs {
             println!("  {name}: {} equal, {} differ", pair.equal, pair.differ);
             for (label, (n, example)) in &pair.known {
-                println!("    known, {label}: {n}, e.g. {}", shortened(example.clone()));
+                println!("    known, {label}: {n}, e.g. {}", shortened(example, 60));
             }
             for example in &pair.examples {
                 println!("    DIFFERS {example}");

@@ -1,4 +1,4 @@
-//! Byte patterns in YARA's hexadecimal strings, read, compiled and searched by proved code.
+//! Byte patterns in YARA's hexadecimal strings, read, compiled, searched and picked from by proved code.
 //!
 //! The work is done by libtokenmarsh.a, a library whose every function is proved to meet its contract; this crate is a thin and safe layer over
 //! its C functions. What the types rule out needs no test at run time: a [`Program`] is sound, and a window is a slice.
@@ -18,12 +18,14 @@
 #![warn(missing_docs, clippy::pedantic)]
 #![allow(clippy::cast_possible_truncation)]
 
+mod literals;
 mod program;
 #[allow(missing_docs)]
 pub mod raw;
 mod refusal;
 mod tokens;
 
+pub use literals::{literals, Literals};
 pub use program::{Pattern, Program};
 pub use refusal::{Refusal, Refused};
 pub use tokens::{read, Mask, Token, Tokens};

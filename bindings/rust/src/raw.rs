@@ -23,6 +23,15 @@ pub struct CompileResult {
 
 #[repr(C)]
 #[derive(Clone, Copy, Debug, PartialEq, Eq)]
+pub struct LiteralsResult {
+    pub refusal: u32,
+    pub rank: u32,
+    pub place: u64,
+    pub count: u64,
+}
+
+#[repr(C)]
+#[derive(Clone, Copy, Debug, PartialEq, Eq)]
 pub struct CheckResult {
     pub refusal: u32,
     pub found: u32,
@@ -53,6 +62,14 @@ unsafe extern "C" {
         reverse: *mut u32,
         reverse_len: usize,
     ) -> CompileResult;
+    pub fn tm_literals(
+        text: *const u8,
+        text_len: usize,
+        bytes: *mut u8,
+        bytes_len: usize,
+        lengths: *mut u16,
+        lengths_len: usize,
+    ) -> LiteralsResult;
     pub fn tm_forward(
         program: *const u32,
         program_len: usize,

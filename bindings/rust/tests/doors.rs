@@ -1,6 +1,6 @@
 //! The doors through the safe types: 01's samples and false friends.
 
-use tokenmarsh::{raw, read, Mask, Pattern, Program, Refusal, Refused, Token};
+use tokenmarsh::{literals, raw, read, Mask, Pattern, Program, Refusal, Refused, Token};
 
 fn refusal(text: &str) -> (u32, usize) {
     let Refused { refusal, place } = read(text.as_bytes()).expect_err(text);
@@ -100,6 +100,30 @@ fn unsound_words_make_no_program() {
     // An empty branch, and a value with bits outside its mask, are sound.
     assert!(Program::new(&[0x0106, 0x0007]).is_ok());
     assert!(Program::new(&[0x0000_FF01]).is_ok());
+}
+
+#[test]
+fn literals_are_those_of_the_samples() {
+    let picked = literals(b"{ 01 02 ?3 04 }").unwrap();
+    assert_eq!((picked.rank, picked.literals.len()), (70, 16));
+    assert_eq!(picked.literals[0], [1, 2, 0x03, 4]);
+    assert_eq!(picked.literals[15], [1, 2, 0xF3, 4]);
+    let picked = literals(b"{ ?1 (AA | BB CC) }").unwrap();
+    assert_eq!((picked.rank, picked.literals.len()), (30, 32));
+    assert!(picked.literals[..16].iter().all(|l| l.len() == 2 && l[1] == 0xAA));
+    assert_eq!(literals(b"{ (AA|BB) }").unwrap().literals, [[0xAA], [0xBB]]);
+    // A match may hold nothing worth a search.
+    assert_eq!(literals(b"{ ?? }").unwrap().literals, Vec::<Vec<u8>>::new());
+}
+
+#[test]
+fn literals_are_refused_by_their_own_numbers() {
+    let refused = |text: &str| literals(text.as_bytes()).map_err(|r| (r.refusal, r.place)).unwrap_err();
+    assert_eq!(refused("{ (41|??) }"), (Refusal::NotPlain, 0));
+    assert_eq!(refused(&format!("{{ ({}41) }}", "41|".repeat(256))), (Refusal::TooManyLiterals, 0));
+    assert_eq!(refused("{ AB [0] CD }"), (Refusal::JumpEmpty, 5));
+    // What is not simple may still have literals.
+    assert_eq!(literals(b"{ 41 [256] 42 43 }").unwrap().literals, [[0x42, 0x43]]);
 }
 
 #[test]
