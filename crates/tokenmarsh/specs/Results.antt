@@ -7,11 +7,13 @@ use lib.Dec.{eqb}
 use lib.ListN.{take, drop}
 use Rattle.readdoor.specs.Door as readdoor
 use Rattle.compiledoor.specs.Door as compiledoor
+use Rattle.literaldoor.specs.Door as literaldoor
 use Rattle.mirror.specs.MirrorDoor.{Said, mirrored, refused}
 use Rattle.checkdoors.specs.Doors as doors
 use Rattle.checkdoors.specs.declared.Answer.{Answer}
 use Rattle.tokenmarsh.specs.declared.ReadResult.{ReadResult}
 use Rattle.tokenmarsh.specs.declared.CompileResult.{CompileResult}
+use Rattle.tokenmarsh.specs.declared.LiteralsResult.{LiteralsResult}
 use Rattle.tokenmarsh.specs.declared.MirrorResult.{MirrorResult}
 use Rattle.tokenmarsh.specs.declared.CheckResult.{CheckResult}
 use Rattle.tokenmarsh.specs.declared.TailResult.{TailResult}
@@ -22,6 +24,9 @@ readSaid r = cond (eqb (r .refusal) 0) (readdoor.gives (r .reached) (r .words)) 
 
 abbrev pub compileSaid : CompileResult → compiledoor.Said
 compileSaid r = cond (eqb (r .refusal) 0) (compiledoor.gives (r .forward) (r .reverse)) (compiledoor.refuses (r .refusal) (r .place))
+
+abbrev pub literalsSaid : LiteralsResult → literaldoor.Said
+literalsSaid r = cond (eqb (r .refusal) 0) (literaldoor.gives (r .count) (r .rank)) (literaldoor.refuses (r .refusal) (r .place))
 
 abbrev pub mirrorSaid : MirrorResult → Said
 mirrorSaid r = cond (eqb (r .refusal) 0) (mirrored (r .words)) (refused (r .refusal) 0)

@@ -1,6 +1,7 @@
 // The doors as C functions: include/tokenmarsh.h documents them. An answer is a struct by value, whose `refusal` is 0 where there is none.
 use checkdoors::Answer;
 use compiledoor::CompileAnswer;
+use literaldoor::LiteralsAnswer;
 use mirror::MirrorAnswer;
 use readdoor::ReadAnswer;
 ghost use mathlib.Core.Path.{_≡_};
@@ -9,8 +10,9 @@ ghost use Rattle.meaning.specs.Words.{sound};
 ghost use Rattle.mirror.specs.MirrorDoor.{mirrorSays, mirrorLeaves};
 ghost use Rattle.compiledoor.specs.Door.{compileSays, forwardLeaves, reverseLeaves};
 ghost use Rattle.checkdoors.specs.Doors.{forwardSays, reverseSays};
+ghost use Rattle.literaldoor.specs.Door.{literalsSays, bytesLeft, lengthsLeft};
 ghost use Rattle.readdoor.specs.Door.{readSays, readLeaves};
-ghost use Rattle.tokenmarsh.specs.Results.{readSaid, compileSaid, mirrorSaid, checkSaid, checkTells, tailSaid, tailAt};
+ghost use Rattle.tokenmarsh.specs.Results.{readSaid, compileSaid, literalsSaid, mirrorSaid, checkSaid, checkTells, tailSaid, tailAt};
 
 #[repr(C)]
 pub struct ReadResult {
@@ -68,6 +70,37 @@ pub extern "C" fn tm_compile(text: &[u8], forward: &mut [u32], reverse: &mut [u3
             place: place as u64,
             forward: 0,
             reverse: 0,
+        },
+    }
+}
+
+#[repr(C)]
+pub struct LiteralsResult {
+    pub refusal: u32,
+    pub rank: u32,
+    pub place: u64,
+    pub count: u64,
+}
+
+#[no_mangle]
+pub extern "C" fn tm_literals(text: &[u8], bytes: &mut [u8], lengths: &mut [u16]) -> LiteralsResult
+    ensures { λ r. ⌜ (literalsSaid r ≡ literalsSays (now (text .entry)) (now (bytes .entry)) (now (lengths .entry)))
+        × (now (bytes .exit) ≡ bytesLeft (now (text .entry)) (now (bytes .entry)) (now (lengths .entry)))
+        × (now (lengths .exit) ≡ lengthsLeft (now (text .entry)) (now (bytes .entry)) (now (lengths .entry))) ⌝ }
+{
+    let r = literaldoor::literals(text, bytes, lengths);
+    match r {
+        LiteralsAnswer::Picked { count, rank } => LiteralsResult {
+            refusal: 0,
+            rank,
+            place: 0,
+            count: count as u64,
+        },
+        LiteralsAnswer::Refused(why, place) => LiteralsResult {
+            refusal: why.number(),
+            rank: 0,
+            place: place as u64,
+            count: 0,
         },
     }
 }

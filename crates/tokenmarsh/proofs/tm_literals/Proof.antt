@@ -1,0 +1,60 @@
+-- The struct says what the door answers, and the buffers are the door's. Assumes nothing.
+use mathlib.Core.Path.{_≡_, sym, ap, _∙_}
+use Prim.Native.Nat.{ℕ}
+use Rattle.literaldoor.specs.Door.{said, refuses}
+use Rattle.tokenmarsh.proofs.Answers.{refused-one}
+use native.Mathlib.Omega.{arith}
+use borrow.Author.Needs.{needs}
+use Rattle.tokenmarsh.proofs.tm_literals.Statement.{statement}
+use Rattle.tokenmarsh.proofs.tm_literals.Tie as tie
+
+literals-requires : tie.Need-literals-requires
+literals-requires c κs = search needs
+
+enum-known-r : tie.Need-enum-known-r
+enum-known-r c = search needs
+
+enum-known-r-2 : tie.Need-enum-known-r-2
+enum-known-r-2 c = search needs
+
+number-requires : tie.Need-number-requires
+number-requires c κs = search needs
+
+same-length : tie.Need-same-length
+same-length c = search needs
+
+same-length-2 : tie.Need-same-length-2
+same-length-2 c = search needs
+
+returns : tie.Need-returns
+returns c = let m = c .before .before .before .before .before .before .before .literals in (sym (ap said (c .before .r .given .1)) ∙ m .ensures .0, m .ensures .1, m .ensures .2)
+
+same-length-3 : tie.Need-same-length-3
+same-length-3 c = search needs
+
+same-length-4 : tie.Need-same-length-4
+same-length-4 c = search needs
+
+returns-2 : tie.Need-returns-2
+returns-2 c =
+    let m = c .before .before .before .before .before .before .before .before .literals in
+    let q = c .before .before .r2 in (
+      refused-one (c .number .result) (q .given .0 .0) (c .number .ensures) _ _ ∙ ap (λ (n : ℕ). refuses n (q .given .0 .1 .0)) (c .number .ensures) ∙ sym (ap said (q .given .1)) ∙ m .ensures .0,
+      m .ensures .1,
+      m .ensures .2,
+    )
+
+pub tm-literals-spec : {M : Type 1} → statement M
+tm-literals-spec =
+    tie.close
+    (tie.spec
+    literals-requires
+    enum-known-r
+    enum-known-r-2
+    number-requires
+    same-length
+    same-length-2
+    returns
+    same-length-3
+    same-length-4
+    returns-2)
