@@ -5,7 +5,7 @@ use lib.ListN.{length}
 use Rattle.meaning.specs.Programs.{Test, byte, mask, negatedMask, any, dot, Item, Prog, Branches, one, jump, range, alt, end, _▹_, stop, or}
 use Rattle.meaning.specs.Words.{fieldSize, word}
 
--- the word of a test; any byte at all is a Jump of 1
+-- the word of a test; one that asks nothing is a Jump of 1, though no compiled program holds it
 unfoldable pub wordFor : Test → ℕ
 wordFor (byte v) = word 0 v 0
 wordFor (mask v m) = word 1 v m

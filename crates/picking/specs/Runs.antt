@@ -62,7 +62,7 @@ firstLast (s ∷ ss) = ss ++ (s ∷ [])
 unfoldable pub runs : Tokens → List Tokens
 runs ts = filledOnes (firstLast (segments ts))
 
--- a part is a literal if it is made of bytes
+-- a part that begins with a byte is a literal: only bytes join a byte in a part
 unfoldable pub isLiteral : Tokens → Bool
 isLiteral nothing = false
 isLiteral (t then ts) = isByte t

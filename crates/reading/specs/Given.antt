@@ -46,7 +46,7 @@ pub data InToken (t : List ℕ) (inside : Bool) (at : ℕ) : Refusal → ℕ →
   long-inside : {from to stop : ℕ} → inside ≡ true → Jumps t at from (some to) stop → from ≤ to → 200 < to → InToken t inside at JumpTooBigInAlternation at
 
 mutual
-  -- a list of this level begins at `at`, after so many tokens: the outer one, or one of at most eight levels in brackets
+  -- a list of this level begins at `at`, after so many tokens: the outer one, of level 1, or one in brackets, of level 2 to 8
   pub data Begins (t : List ℕ) : ℕ → ℕ → ℕ → Type 0 where
     outermost : {level count at : ℕ} → length t ≤ 4096 → here t 0 ≡ 123 → level ≡ 1 → count ≡ 0 → at ≡ skip t 1 → Begins t level count at
     bracketed : {level count at miss : ℕ} → InBrackets t level count at miss → level ≤ 8 → Begins t level count at
