@@ -10,7 +10,7 @@ use Rattle.meaning.specs.Words.{prog}
 use Rattle.checkdoors.specs.Doors.{Outcome, found, noMatch, refused, window, refusal, unless, endAt, forwardSays, leftSays}
 use Rattle.checkdoors.proofs.DoorLaws.{fine, forward-refused, left-refused}
 use Rattle.checkdoors.proofs.Theorems.{left-tail, left-nothing}
-use Rattle.tokenmarsh.specs.Results.{tailAt, bytesOf}
+use Rattle.tokenmarsh.specs.Results.{tailTold, bytesOf}
 
 -- the end that is found is not after the window's
 found-within : (x : Option ℕ) (e n : ℕ) (y : Option (List ℕ)) → unless x (endAt e y) ≡ found n → n ≤ e
@@ -30,7 +30,7 @@ not-refused (some k) e n y g h = let z : _≡_ {A = ℕ} 0 1 = cc in omega arith
 
 module _ (ws hay : List ℕ) (s e : ℕ) where
   abbrev Left : Outcome → Type 0
-  Left o = bytesOf (tailAt e o) hay ≡ leftSays ws hay s e
+  Left o = bytesOf (tailTold e o) hay ≡ leftSays ws hay s e
 
   answered : none ≡ refusal ws (length hay) s e → (o : Outcome) → forwardSays ws hay s e ≡ o → Left o
   unfolding forwardSays
@@ -40,7 +40,7 @@ module _ (ws hay : List ℕ) (s e : ℕ) where
 
   either : (x : Option ℕ) → x ≡ refusal ws (length hay) s e → Left (forwardSays ws hay s e)
   either none h = answered h (forwardSays ws hay s e) refl
-  either (some k) h = ap (λ (o : Outcome). bytesOf (tailAt e o) hay) (sym (forward-refused ws hay s e k h)) ∙ left-refused ws hay s e k h
+  either (some k) h = ap (λ (o : Outcome). bytesOf (tailTold e o) hay) (sym (forward-refused ws hay s e k h)) ∙ left-refused ws hay s e k h
 
-  pub tail-is-left : bytesOf (tailAt e (forwardSays ws hay s e)) hay ≡ leftSays ws hay s e
+  pub tail-is-left : bytesOf (tailTold e (forwardSays ws hay s e)) hay ≡ leftSays ws hay s e
   tail-is-left = either (refusal ws (length hay) s e) refl

@@ -1,16 +1,12 @@
 -- What the C functions' structs say, in 01's answers. Assumes nothing: these are definitions.
-use mathlib.Core.Path.{_≡_}
-use mathlib.Core.Bool.{Bool, true, false, cond}
 use mathlib.Core.List.{List}
 use Prim.Native.Nat.{ℕ, _-_}
-use lib.Dec.{eqb}
 use lib.ListN.{take, drop}
 use Rattle.readdoor.specs.Door as readdoor
 use Rattle.compiledoor.specs.Door as compiledoor
 use Rattle.literaldoor.specs.Door as literaldoor
 use Rattle.mirror.specs.MirrorDoor.{Said, mirrored, refused}
 use Rattle.checkdoors.specs.Doors as doors
-use Rattle.checkdoors.specs.declared.Answer.{Answer}
 use Rattle.tokenmarsh.specs.declared.ReadResult.{ReadResult}
 use Rattle.tokenmarsh.specs.declared.CompileResult.{CompileResult}
 use Rattle.tokenmarsh.specs.declared.LiteralsResult.{LiteralsResult}
@@ -18,40 +14,35 @@ use Rattle.tokenmarsh.specs.declared.MirrorResult.{MirrorResult}
 use Rattle.tokenmarsh.specs.declared.CheckResult.{CheckResult}
 use Rattle.tokenmarsh.specs.declared.TailResult.{TailResult}
 
--- a refusal unless its number is 0
-abbrev pub readSaid : ReadResult → readdoor.Said
-readSaid r = cond (eqb (r .refusal) 0) (readdoor.gives (r .reached) (r .words)) (readdoor.refuses (r .refusal) (r .place))
+-- The struct for each answer: `refusal` is 0 where there is none, and a field of which the answer makes no use is 0.
 
-abbrev pub compileSaid : CompileResult → compiledoor.Said
-compileSaid r = cond (eqb (r .refusal) 0) (compiledoor.gives (r .forward) (r .reverse)) (compiledoor.refuses (r .refusal) (r .place))
+abbrev pub readTold : readdoor.Said → ReadResult
+readTold (readdoor.gives reached words) = record { refusal = 0; place = 0; reached = reached; words = words }
+readTold (readdoor.refuses n place) = record { refusal = n; place = place; reached = 0; words = 0 }
 
-abbrev pub literalsSaid : LiteralsResult → literaldoor.Said
-literalsSaid r = cond (eqb (r .refusal) 0) (literaldoor.gives (r .count) (r .rank)) (literaldoor.refuses (r .refusal) (r .place))
+abbrev pub compileTold : compiledoor.Said → CompileResult
+compileTold (compiledoor.gives forward reverse) = record { refusal = 0; place = 0; forward = forward; reverse = reverse }
+compileTold (compiledoor.refuses n place) = record { refusal = n; place = place; forward = 0; reverse = 0 }
 
-abbrev pub mirrorSaid : MirrorResult → Said
-mirrorSaid r = cond (eqb (r .refusal) 0) (mirrored (r .words)) (refused (r .refusal) 0)
+abbrev pub literalsTold : literaldoor.Said → LiteralsResult
+literalsTold (literaldoor.gives count rank) = record { refusal = 0; rank = rank; place = 0; count = count }
+literalsTold (literaldoor.refuses n place) = record { refusal = n; rank = 0; place = place; count = 0 }
 
--- a refusal unless its number is 0; found unless that is 0
-abbrev pub checkSaid : CheckResult → doors.Outcome
-checkSaid r = cond (eqb (r .refusal) 0) (cond (eqb (r .found) 0) doors.noMatch (doors.found (r .offset))) (doors.refused (r .refusal))
+abbrev pub mirrorTold : Said → MirrorResult
+mirrorTold (mirrored words) = record { refusal = 0; words = words }
+mirrorTold (refused n place) = record { refusal = n; words = 0 }
 
--- the struct says what the answer says
-abbrev pub checkTells : Answer → CheckResult → Type 0
-checkTells a r = checkSaid r ≡ doors.said a
+abbrev pub checkTold : doors.Outcome → CheckResult
+checkTold (doors.found n) = record { refusal = 0; found = 1; offset = n }
+checkTold doors.noMatch = record { refusal = 0; found = 0; offset = 0 }
+checkTold (doors.refused n) = record { refusal = n; found = 0; offset = 0 }
 
--- a part of a haystack: from an offset, so many bytes
-pub data Part : Type 0 where
-  part : ℕ → ℕ → Part
+-- the part of the haystack from the end that was found to the window's end; else the empty part at 0
+abbrev pub tailTold : ℕ → doors.Outcome → TailResult
+tailTold e (doors.found n) = record { offset = n; length = e - n }
+tailTold e doors.noMatch = record { offset = 0; length = 0 }
+tailTold e (doors.refused n) = record { offset = 0; length = 0 }
 
-abbrev pub tailSaid : TailResult → Part
-tailSaid r = part (r .offset) (r .length)
-
--- from the end that was found to the window's end; else the empty part at 0
-abbrev pub tailAt : ℕ → doors.Outcome → Part
-tailAt e (doors.found n) = part n (e - n)
-tailAt e doors.noMatch = part 0 0
-tailAt e (doors.refused n) = part 0 0
-
--- the bytes of a part
-abbrev pub bytesOf : Part → List ℕ → List ℕ
-bytesOf (part at n) hay = take n (drop at hay)
+-- the bytes of such a part
+abbrev pub bytesOf : TailResult → List ℕ → List ℕ
+bytesOf r hay = take (r .length) (drop (r .offset) hay)

@@ -9,10 +9,10 @@ ghost use mathlib.Core.Bool.{cond};
 ghost use Rattle.meaning.specs.Words.{sound};
 ghost use Rattle.mirror.specs.MirrorDoor.{mirrorSays, mirrorLeaves};
 ghost use Rattle.compiledoor.specs.Door.{compileSays, forwardLeaves, reverseLeaves};
-ghost use Rattle.checkdoors.specs.Doors.{forwardSays, reverseSays};
+ghost use Rattle.checkdoors.specs.Doors.{said, forwardSays, reverseSays};
 ghost use Rattle.literaldoor.specs.Door.{literalsSays, bytesLeft, lengthsLeft};
 ghost use Rattle.readdoor.specs.Door.{readSays, readLeaves};
-ghost use Rattle.tokenmarsh.specs.Results.{readSaid, compileSaid, literalsSaid, mirrorSaid, checkSaid, checkTells, tailSaid, tailAt};
+ghost use Rattle.tokenmarsh.specs.Results.{readTold, compileTold, literalsTold, mirrorTold, checkTold, tailTold};
 
 #[repr(C)]
 pub struct ReadResult {
@@ -24,7 +24,7 @@ pub struct ReadResult {
 
 #[no_mangle]
 pub extern "C" fn tm_read(text: &[u8], pool: &mut [u32]) -> ReadResult
-    ensures { λ r. ⌜ (readSaid r ≡ readSays (now (text .entry)) (now (pool .entry))) × (now (pool .exit) ≡ readLeaves (now (text .entry)) (now (pool .entry))) ⌝ }
+    ensures { λ r. ⌜ (r ≡ readTold (readSays (now (text .entry)) (now (pool .entry)))) × (now (pool .exit) ≡ readLeaves (now (text .entry)) (now (pool .entry))) ⌝ }
 {
     let r = readdoor::read(text, pool);
     match r {
@@ -53,7 +53,7 @@ pub struct CompileResult {
 
 #[no_mangle]
 pub extern "C" fn tm_compile(text: &[u8], forward: &mut [u32], reverse: &mut [u32]) -> CompileResult
-    ensures { λ r. ⌜ (compileSaid r ≡ compileSays (now (text .entry)) (now (forward .entry)) (now (reverse .entry)))
+    ensures { λ r. ⌜ (r ≡ compileTold (compileSays (now (text .entry)) (now (forward .entry)) (now (reverse .entry))))
         × (now (forward .exit) ≡ forwardLeaves (now (text .entry)) (now (forward .entry)) (now (reverse .entry)))
         × (now (reverse .exit) ≡ reverseLeaves (now (text .entry)) (now (forward .entry)) (now (reverse .entry))) ⌝ }
 {
@@ -84,7 +84,7 @@ pub struct LiteralsResult {
 
 #[no_mangle]
 pub extern "C" fn tm_literals(text: &[u8], bytes: &mut [u8], lengths: &mut [u16]) -> LiteralsResult
-    ensures { λ r. ⌜ (literalsSaid r ≡ literalsSays (now (text .entry)) (now (bytes .entry)) (now (lengths .entry)))
+    ensures { λ r. ⌜ (r ≡ literalsTold (literalsSays (now (text .entry)) (now (bytes .entry)) (now (lengths .entry))))
         × (now (bytes .exit) ≡ bytesLeft (now (text .entry)) (now (bytes .entry)) (now (lengths .entry)))
         × (now (lengths .exit) ≡ lengthsLeft (now (text .entry)) (now (bytes .entry)) (now (lengths .entry))) ⌝ }
 {
@@ -120,7 +120,7 @@ pub extern "C" fn tm_sound(program: &[u32]) -> u32
 
 #[no_mangle]
 pub extern "C" fn tm_mirror(program: &[u32], pool: &mut [u32]) -> MirrorResult
-    ensures { λ r. ⌜ (mirrorSaid r ≡ mirrorSays (now (program .entry)) (now (pool .entry))) × (now (pool .exit) ≡ mirrorLeaves (now (program .entry)) (now (pool .entry))) ⌝ }
+    ensures { λ r. ⌜ (r ≡ mirrorTold (mirrorSays (now (program .entry)) (now (pool .entry)))) × (now (pool .exit) ≡ mirrorLeaves (now (program .entry)) (now (pool .entry))) ⌝ }
 {
     let r = mirror::mirror(program, pool);
     match r {
@@ -144,7 +144,7 @@ pub struct CheckResult {
 
 // A check's answer as a struct: what has no meaning is 0.
 fn told(r: Answer) -> CheckResult
-    ensures { λ s. ⌜ checkTells r s ⌝ }
+    ensures { λ s. ⌜ s ≡ checkTold (said r) ⌝ }
 {
     match r {
         Answer::At(n) => CheckResult {
@@ -172,7 +172,7 @@ pub extern "C" fn tm_forward(
     start: usize,
     end: usize,
 ) -> CheckResult
-    ensures { λ r. ⌜ checkSaid r ≡ forwardSays (now (program .entry)) (now (haystack .entry)) start end ⌝ }
+    ensures { λ r. ⌜ r ≡ checkTold (forwardSays (now (program .entry)) (now (haystack .entry)) start end) ⌝ }
 {
     told(checkdoors::forward(program, haystack, start, end))
 }
@@ -184,7 +184,7 @@ pub extern "C" fn tm_reverse(
     start: usize,
     end: usize,
 ) -> CheckResult
-    ensures { λ r. ⌜ checkSaid r ≡ reverseSays (now (program .entry)) (now (haystack .entry)) start end ⌝ }
+    ensures { λ r. ⌜ r ≡ checkTold (reverseSays (now (program .entry)) (now (haystack .entry)) start end) ⌝ }
 {
     told(checkdoors::reverse(program, haystack, start, end))
 }
@@ -198,7 +198,7 @@ pub struct TailResult {
 // The part of the haystack that the second forward door hands back: C has no slice to return.
 #[no_mangle]
 pub extern "C" fn tm_tail(program: &[u32], haystack: &[u8], start: usize, end: usize) -> TailResult
-    ensures { λ r. ⌜ tailSaid r ≡ tailAt end (forwardSays (now (program .entry)) (now (haystack .entry)) start end) ⌝ }
+    ensures { λ r. ⌜ r ≡ tailTold end (forwardSays (now (program .entry)) (now (haystack .entry)) start end) ⌝ }
 {
     let r = checkdoors::forward(program, haystack, start, end);
     match r {

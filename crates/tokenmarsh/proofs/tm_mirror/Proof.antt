@@ -1,7 +1,7 @@
 use Prim.Native.Nat.{ℕ}
 use mathlib.Core.Path.{_≡_, sym, ap, _∙_}
 use Rattle.mirror.specs.MirrorDoor.{Said, said, refused}
-use Rattle.tokenmarsh.proofs.Answers.{refused-one}
+use Rattle.tokenmarsh.specs.Results.{mirrorTold}
 use native.Mathlib.Omega.{arith}
 use borrow.Author.Needs.{needs}
 use Rattle.tokenmarsh.proofs.tm_mirror.Statement.{statement}
@@ -33,7 +33,7 @@ same-length c = search needs
 
 -- src/lib.rt:22:1
 returns : tie.Need-returns
-returns c = let m = c .before .before .before .before .before .mirror in (sym (ap said (c .before .r .given .1)) ∙ m .ensures .0, m .ensures .1)
+returns c = let m = c .before .before .before .before .before .mirror in (ap mirrorTold (sym (ap said (c .before .r .given .1)) ∙ m .ensures .0), m .ensures .1)
 
 -- src/lib.rt:22:1
 same-length-2 : tie.Need-same-length-2
@@ -44,7 +44,7 @@ returns-2 : tie.Need-returns-2
 returns-2 c =
     let m = c .before .before .before .before .before .before .mirror in
     let q = c .before .before .r2 in (
-      refused-one (c .number .result) (q .given .0 .0) (c .number .ensures) _ _ ∙ ap (λ (n : ℕ). refused n 0) (c .number .ensures) ∙ sym (ap said (q .given .1)) ∙ m .ensures .0,
+      ap (λ (n : ℕ). mirrorTold (refused n 0)) (c .number .ensures) ∙ ap mirrorTold (sym (ap said (q .given .1)) ∙ m .ensures .0),
       m .ensures .1,
     )
 

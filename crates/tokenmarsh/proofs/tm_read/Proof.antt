@@ -2,7 +2,7 @@
 use mathlib.Core.Path.{_≡_, sym, ap, _∙_}
 use Prim.Native.Nat.{ℕ}
 use Rattle.readdoor.specs.Door.{said, refuses}
-use Rattle.tokenmarsh.proofs.Answers.{refused-one}
+use Rattle.tokenmarsh.specs.Results.{readTold}
 use native.Mathlib.Omega.{arith}
 use borrow.Author.Needs.{needs}
 use Rattle.tokenmarsh.proofs.tm_read.Statement.{statement}
@@ -24,7 +24,7 @@ same-length : tie.Need-same-length
 same-length c = search needs
 
 returns : tie.Need-returns
-returns c = let m = c .before .before .before .before .before .read in (sym (ap said (c .before .r .given .1)) ∙ m .ensures .0, m .ensures .1)
+returns c = let m = c .before .before .before .before .before .read in (ap readTold (sym (ap said (c .before .r .given .1)) ∙ m .ensures .0), m .ensures .1)
 
 same-length-2 : tie.Need-same-length-2
 same-length-2 c = search needs
@@ -33,7 +33,7 @@ returns-2 : tie.Need-returns-2
 returns-2 c =
     let m = c .before .before .before .before .before .before .read in
     let q = c .before .before .r2 in (
-      refused-one (c .number .result) (q .given .0 .0) (c .number .ensures) _ _ ∙ ap (λ (n : ℕ). refuses n (q .given .0 .1 .0)) (c .number .ensures) ∙ sym (ap said (q .given .1)) ∙ m .ensures .0,
+      ap (λ (n : ℕ). readTold (refuses n (q .given .0 .1 .0))) (c .number .ensures) ∙ ap readTold (sym (ap said (q .given .1)) ∙ m .ensures .0),
       m .ensures .1,
     )
 

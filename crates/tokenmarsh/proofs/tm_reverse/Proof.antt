@@ -1,7 +1,8 @@
 -- The struct says what the door answers. Assumes nothing.
-use mathlib.Core.Path.{_∙_}
+use mathlib.Core.Path.{ap, _∙_}
 use native.Mathlib.Omega.{arith}
 use borrow.Author.Needs.{needs}
+use Rattle.tokenmarsh.specs.Results.{checkTold}
 use Rattle.tokenmarsh.proofs.tm_reverse.Statement.{statement}
 use Rattle.tokenmarsh.proofs.tm_reverse.Tie as tie
 
@@ -12,7 +13,7 @@ told-requires : tie.Need-told-requires
 told-requires c κs = search needs
 
 returns : tie.Need-returns
-returns c = c .told .ensures ∙ c .before .reverse .ensures
+returns c = c .told .ensures ∙ ap checkTold (c .before .reverse .ensures)
 
 pub tm-reverse-spec : {M : Type 1} → statement M
 tm-reverse-spec = tie.close (tie.spec reverse-requires told-requires returns)

@@ -1,7 +1,7 @@
 -- The part begins where the match ends; nothing is left after no match and after a refusal. Assumes nothing.
 use mathlib.Core.Path.{_≡_, sym, ap, _∙_}
 use Rattle.checkdoors.specs.Doors.{said}
-use Rattle.tokenmarsh.specs.Results.{tailAt}
+use Rattle.tokenmarsh.specs.Results.{tailTold}
 use Rattle.tokenmarsh.proofs.TailLaws.{forward-within}
 use native.Mathlib.Omega.{arith}
 use borrow.Author.Needs.{needs}
@@ -24,13 +24,13 @@ enum-told-2 : tie.Need-enum-told-2
 enum-told-2 c = search needs
 
 returns : tie.Need-returns
-returns c = ap (tailAt _) (sym (ap said (c .before .r .given .1)) ∙ c .before .before .before .forward .ensures)
+returns c = ap (tailTold _) (sym (ap said (c .before .r .given .1)) ∙ c .before .before .before .forward .ensures)
 
 returns-2 : tie.Need-returns-2
-returns-2 c = ap (tailAt _) (sym (ap said (c .enum-told .given .1)) ∙ c .before .before .forward .ensures)
+returns-2 c = ap (tailTold _) (sym (ap said (c .enum-told .given .1)) ∙ c .before .before .forward .ensures)
 
 returns-3 : tie.Need-returns-3
-returns-3 c = ap (tailAt _) (sym (ap said (c .enum-told2 .given .1)) ∙ c .before .before .forward .ensures)
+returns-3 c = ap (tailTold _) (sym (ap said (c .enum-told2 .given .1)) ∙ c .before .before .forward .ensures)
 
 pub tm-tail-spec : {M : Type 1} → statement M
 tm-tail-spec =

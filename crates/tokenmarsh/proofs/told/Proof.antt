@@ -2,7 +2,8 @@
 use mathlib.Core.Path.{_≡_, sym, ap, _∙_}
 use Prim.Native.Nat.{ℕ}
 use Rattle.checkdoors.specs.Doors.{said, refused}
-use Rattle.tokenmarsh.proofs.Answers.{refused-one}
+use Rattle.checkdoors.specs.declared.Answer.{Answer}
+use Rattle.tokenmarsh.specs.Results.{checkTold}
 use native.Mathlib.Omega.{arith}
 use borrow.Author.Needs.{needs}
 use Rattle.tokenmarsh.proofs.told.Statement.{statement}
@@ -21,13 +22,13 @@ number-requires : tie.Need-number-requires
 number-requires c κs = search needs
 
 returns : tie.Need-returns
-returns c = sym (ap said (c .before .r .given .1))
+returns c = ap (λ (a : Answer). checkTold (said a)) (sym (c .before .r .given .1))
 
 returns-2 : tie.Need-returns-2
-returns-2 c = sym (ap said (c .enum-told .given .1))
+returns-2 c = ap (λ (a : Answer). checkTold (said a)) (sym (c .enum-told .given .1))
 
 returns-3 : tie.Need-returns-3
-returns-3 c = refused-one (c .number .result) (c .before .before .r2 .given .0 .0) (c .number .ensures) _ _ ∙ ap (λ (n : ℕ). refused n) (c .number .ensures) ∙ sym (ap said (c .before .before .r2 .given .1))
+returns-3 c = ap (λ (n : ℕ). checkTold (refused n)) (c .number .ensures) ∙ ap (λ (a : Answer). checkTold (said a)) (sym (c .before .before .r2 .given .1))
 
 pub told-spec : {M : Type 1} → statement M
 told-spec =
