@@ -17,7 +17,7 @@ use Rattle.literals.specs.declared.Pick.the-variants.{Nothing, Taken, TooMany}
 use Rattle.literals.specs.Ranks.{choiceSays}
 use Rattle.literals.specs.Whole.{Whole}
 use Rattle.literals.proofs.WholeLaws.{whole-first}
-use Rattle.chooser.specs.Kept.{Inside, Kept, Stretch}
+use Rattle.chooser.specs.Kept.{Inside, Kept, Told, Stretch}
 use Rattle.chooser.proofs.ShiftLaws.{Shifts}
 
 -- r is the choice between two
@@ -67,13 +67,15 @@ module _ (ws : List ℕ) (f t m : ℕ) (next : Pick) where
 pub part-few : (ws : List ℕ) (a b : ℕ) → length ws ≤ 4096 → length (take (b - a) (drop a ws)) ≤ 4096
 part-few ws a b h = let d = length-take (b - a) (drop a ws) in let e = length-drop a ws in omega arith
 
--- a choice in a run keeps to the run, and has few literals
-pub shifted-kept : (ws : List ℕ) (p : Pick) (from n : ℕ) (r : Pick) → Shifts p from n r → from + n ≤ length ws → choiceSays (take n (drop from ws)) p ≡ inRun (tokensIn (take n (drop from ws))) → Kept ws r
-shifted-kept ws p from n Nothing s h e = tt
-shifted-kept ws p from n (Taken a b m) s h e =
+-- a choice in a run keeps to the run, has few literals and is measured
+pub shifted-kept : (ws : List ℕ) (p : Pick) (from n : ℕ) (r : Pick) → Shifts p from n r → from + n ≤ length ws → choiceSays (take n (drop from ws)) p ≡ inRun (tokensIn (take n (drop from ws))) → Told (tokensIn (take n (drop from ws))) → Kept ws r
+shifted-kept ws p from n Nothing s h e g = tt
+shifted-kept ws p from n (Taken a b m) s h e g =
     let k = s .1 in
-    (k .0, omega arith, chosen-few (tokensIn (take n (drop from ws))) m (tokensIn (take (b - a) (drop a ws))) (sym (s .0 ws h ∙ e)))
-shifted-kept ws p from n TooMany s h e = tt
+    let us = tokensIn (take (b - a) (drop a ws)) in
+    let c : inRun (tokensIn (take n (drop from ws))) ≡ chosen m (tokensIn (take (b - a) (drop a ws))) = sym (s .0 ws h ∙ e) in
+    (k .0, omega arith, chosen-few (tokensIn (take n (drop from ws))) m us c, g m us c)
+shifted-kept ws p from n TooMany s h e g = tt
 
 -- one run more
 abbrev pub With : List ℕ → ℕ → ℕ → Pick → Pick → Type 0

@@ -17,7 +17,7 @@ use Rattle.literals.specs.Ranks.{choiceSays}
 use Rattle.literals.specs.Whole.{Entire, Whole, none, more, runEnd, afterward}
 use Rattle.literals.proofs.WholeLaws.{whole-first, whole-short}
 use Rattle.literals.proofs.SegmentLaws.{Segment, first-segment}
-use Rattle.chooser.specs.Kept.{Kept, Stretch, laterRuns}
+use Rattle.chooser.specs.Kept.{Kept, Told, AllTold, Stretch, laterRuns}
 
 among-first : (c : Choice) (s : Tokens) (ss : List Tokens) → among c (filledOnes (s ∷ ss)) ≡ among (among c (filledOnes (s ∷ []))) (filledOnes ss)
 unfolding among filledOnes
@@ -44,13 +44,20 @@ module _ (ws : List ℕ) (n : ℕ) (e : n ≡ runEnd ws) (w : Whole ws) where
   front : n - 0 ≡ n
   front = omega arith
 
-  pub first-stretch : length ws ≤ 4096 → Stretch ws 0 n
-  first-stretch few =
+  split-told : AllTold (segments (tokensIn ws)) → AllTold (tokensIn (take n ws) ∷ afterward (tokensIn (drop n ws)))
+  split-told g = subst AllTold (first-is .segment-is) g
+
+  pub rest-told : AllTold (segments (tokensIn ws)) → AllTold (afterward (tokensIn (drop n ws)))
+  rest-told g = split-told g .1
+
+  pub first-stretch : length ws ≤ 4096 → AllTold (segments (tokensIn ws)) → Stretch ws 0 n
+  first-stretch few g =
       record {
         few = few;
         ordered = (omega arith);
         inside = first-is .fits;
         stretch-whole = subst (λ (x : ℕ). Whole (take x ws)) (sym front) (first-is .segment-whole);
+        told = subst (λ (x : ℕ). Told (tokensIn (take x ws))) (sym front) (split-told g .0);
       }
 
   pub first-asked-last : (c : Choice) → c ≡ among unranked (laterRuns (drop n ws)) → among c (filledOnes (tokensIn (take (n - 0) ws) ∷ [])) ≡ choice (tokensIn ws)
@@ -79,11 +86,12 @@ module _ (us : List ℕ) (w : Whole us) (long : 4 ≤ length us) where
 pub record Asked (ws : List ℕ) (first at : ℕ) (top : Pick) : Type 0 where
   pub here : at ≤ length ws
   pub rest-whole : Whole (drop at ws)
+  pub rest-told : AllTold (afterward (tokensIn (drop at ws)))
   pub kept : Kept ws top
   pub same : among unranked (laterRuns (drop first ws)) ≡ among (choiceSays ws top) (laterRuns (drop at ws))
 
-pub asked-none : (ws : List ℕ) (first : ℕ) → first ≤ length ws → Whole (drop first ws) → Asked ws first first Nothing
-asked-none ws first h w = record { here = h; rest-whole = w; kept = tt; same = refl }
+pub asked-none : (ws : List ℕ) (first : ℕ) → first ≤ length ws → Whole (drop first ws) → AllTold (afterward (tokensIn (drop first ws))) → Asked ws first first Nothing
+asked-none ws first h w g = record { here = h; rest-whole = w; rest-told = g; kept = tt; same = refl }
 
 pub asked-all : (ws : List ℕ) (first at : ℕ) (top : Pick) → Asked ws first at top → length ws - at < 4
     → (choiceSays ws top ≡ among unranked (laterRuns (drop first ws))) × Kept ws top
@@ -114,12 +122,20 @@ module _ (ws : List ℕ) (first at from : ℕ) (top : Pick) (a : Asked ws first 
   rest : Whole (drop from ws)
   rest = subst Whole after-is (rest-after (drop at ws) (a .rest-whole) there)
 
+  after-told : AllTold (segments (tokensIn (drop from ws)))
+  unfolding afterward
+  after-told =
+      subst (λ (l : List ℕ). AllTold (segments (tokensIn l))) after-is (subst (λ (ts : Tokens). AllTold (afterward ts)) (tokens-step (drop at ws) there) (a .rest-told))
+
   module _ (n to : ℕ) (t : to ≡ from + n) (e : n ≡ runEnd (take (length ws - from) (drop from ws))) where
     run-is : n ≡ runEnd (drop from ws)
     run-is = e ∙ ap runEnd (part-all from ws)
 
     seg : Segment (drop from ws) n
     seg = subst (Segment (drop from ws)) (sym run-is) (first-segment (drop from ws) rest)
+
+    both-told : AllTold (tokensIn (take n (drop from ws)) ∷ afterward (tokensIn (drop n (drop from ws))))
+    both-told = subst AllTold (seg .segment-is) after-told
 
     words-are : take (to - from) (drop from ws) ≡ take n (drop from ws)
     words-are = ap (λ (x : ℕ). take x (drop from ws)) (let q : to - from ≡ n = omega (arith, t) in q)
@@ -130,7 +146,13 @@ module _ (ws : List ℕ) (first at from : ℕ) (top : Pick) (a : Asked ws first 
         let l = length-drop from ws in
         let s = seg .fits in
         let k = from-fits .0 in
-        record { few = few; ordered = (omega arith); inside = (omega arith); stretch-whole = subst Whole (sym words-are) (seg .segment-whole) }
+        record {
+          few = few;
+          ordered = (omega arith);
+          inside = (omega arith);
+          stretch-whole = subst Whole (sym words-are) (seg .segment-whole);
+          told = subst (λ (l : List ℕ). Told (tokensIn l)) (sym words-are) (both-told .0);
+        }
 
     pub asked-more : (next : Pick) → choiceSays ws next ≡ among (choiceSays ws top) (filledOnes (tokensIn (take (to - from) (drop from ws)) ∷ [])) → Kept ws next
         → Asked ws first to next
@@ -138,6 +160,7 @@ module _ (ws : List ℕ) (first at from : ℕ) (top : Pick) (a : Asked ws first 
         record {
           here = run-stretch .inside;
           rest-whole = subst Whole (drop-drop n from ws ∙ ap (λ (x : ℕ). drop x ws) (sym t)) (seg .rest-whole);
+          rest-told = subst (λ (l : List ℕ). AllTold (afterward (tokensIn l))) (drop-drop n from ws ∙ ap (λ (x : ℕ). drop x ws) (sym t)) (both-told .1);
           kept = k;
           same =
               a .same ∙ after-token (drop at ws) (a .rest-whole) there n (run-is ∙ ap runEnd (sym after-is)) (choiceSays ws top)

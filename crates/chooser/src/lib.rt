@@ -5,14 +5,13 @@ ghost use mathlib.Core.List.{List, [], _∷_};
 ghost use Prim.Native.Nat.{ℕ, _+_, _-_, _≤_, min};
 ghost use lib.ListN.{length, take, drop};
 ghost use Rattle.picking.specs.Literals.{literals};
-ghost use Rattle.picking.specs.Numbers.{count};
-ghost use Rattle.picking.specs.Runs.{filledOnes};
+ghost use Rattle.picking.specs.Runs.{segments, filledOnes};
 ghost use Rattle.picking.specs.Choice.{least, beats, between, among, choice, unranked};
 ghost use Rattle.spelling.specs.Words.{tokensIn};
 ghost use Rattle.literals.specs.Ranks.{choiceSays};
-ghost use Rattle.literals.specs.Whole.{Whole};
+ghost use Rattle.literals.specs.Whole.{Whole, afterward};
 ghost use Rattle.literals.specs.declared.Pick.the-variants.{Taken};
-ghost use Rattle.chooser.specs.Kept.{Inside, Kept, Stretch, laterRuns};
+ghost use Rattle.chooser.specs.Kept.{Inside, Measured, Kept, AllTold, Stretch, laterRuns};
 use literals::Pick;
 
 fn smaller(a: usize, b: usize) -> usize
@@ -21,36 +20,17 @@ fn smaller(a: usize, b: usize) -> usize
     if a < b { a } else { b }
 }
 
-// The bytes of the shortest of n literals.
-fn shortest_of(ws: &[u32], n: usize) -> usize
-    requires { ⌜ (length (now ws) ≤ 4096) × (n ≡ count (tokensIn (now ws))) × (n ≤ 256) ⌝ }
-    ensures { λ r. ⌜ r ≡ least length (literals (tokensIn (now (ws .entry)))) ⌝ }
-{
-    if n == 0 {
-        return 0;
-    }
-    let mut shortest = generator::length_at(ws, 0);
-    let mut k = 1;
-    while k < n {
-        let s = generator::length_at(ws, k);
-        shortest = smaller(shortest, s);
-        k += 1;
-    }
-    shortest
-}
-
-// The bytes of the shortest literal.
+// The bytes of the shortest literal, told by the tokens: to write all literals out takes too long where many runs have one rank.
 fn shortest_in(ws: &[u32]) -> usize
-    requires { ⌜ (length (now ws) ≤ 4096) × (count (tokensIn (now ws)) ≤ 256) ⌝ }
+    requires { ⌜ Measured (tokensIn (now ws)) ⌝ }
     ensures { λ r. ⌜ r ≡ least length (literals (tokensIn (now (ws .entry)))) ⌝ }
 {
-    let t = spelling::tally_tokens(ws);
-    shortest_of(ws, t.literals)
+    spelling::length_of(ws)
 }
 
 // A higher rank, then a longer shortest literal.
 fn wins(new: &[u32], n: u32, old: &[u32], m: u32) -> bool
-    requires { ⌜ (length (now new) ≤ 4096) × (count (tokensIn (now new)) ≤ 256) × (length (now old) ≤ 4096) × (count (tokensIn (now old)) ≤ 256) ⌝ }
+    requires { ⌜ Measured (tokensIn (now new)) × Measured (tokensIn (now old)) ⌝ }
     ensures { λ r. ⌜ r ≡ beats n (tokensIn (now (new .entry))) m (tokensIn (now (old .entry))) ⌝ }
 {
     if m < n {
@@ -64,7 +44,7 @@ fn wins(new: &[u32], n: u32, old: &[u32], m: u32) -> bool
 
 // A run's choice against what was taken so far from `from` to `to`, with rank m.
 fn against_taken(ws: &[u32], from: usize, to: usize, m: u32, next: Pick) -> Pick
-    requires { ⌜ (length (now ws) ≤ 4096) × Kept (now ws) (Taken from to m) × Kept (now ws) next ⌝ }
+    requires { ⌜ Kept (now ws) (Taken from to m) × Kept (now ws) next ⌝ }
     ensures { λ r. ⌜ (choiceSays (now (ws .entry)) r ≡ between (choiceSays (now (ws .entry)) (Taken from to m)) (choiceSays (now (ws .entry)) next)) × Kept (now (ws .entry)) r ⌝ }
 {
     match next {
@@ -81,7 +61,7 @@ fn against_taken(ws: &[u32], from: usize, to: usize, m: u32, next: Pick) -> Pick
 
 // Between two runs: the one that beats the other, else the earlier.
 fn better(ws: &[u32], top: Pick, next: Pick) -> Pick
-    requires { ⌜ (length (now ws) ≤ 4096) × Kept (now ws) top × Kept (now ws) next ⌝ }
+    requires { ⌜ Kept (now ws) top × Kept (now ws) next ⌝ }
     ensures { λ r. ⌜ (choiceSays (now (ws .entry)) r ≡ between (choiceSays (now (ws .entry)) top) (choiceSays (now (ws .entry)) next)) × Kept (now (ws .entry)) r ⌝ }
 {
     match top {
@@ -121,7 +101,7 @@ fn with_run(ws: &[u32], from: usize, to: usize, top: Pick) -> Pick
 
 // What is chosen among the runs after the first segment, which ends at `first`.
 fn later_runs(ws: &[u32], first: usize) -> Pick
-    requires { ⌜ (length (now ws) ≤ 4096) × (first ≤ length (now ws)) × Whole (drop first (now ws)) ⌝ }
+    requires { ⌜ (length (now ws) ≤ 4096) × (first ≤ length (now ws)) × Whole (drop first (now ws)) × AllTold (afterward (tokensIn (drop first (now ws)))) ⌝ }
     ensures { λ r. ⌜ (choiceSays (now (ws .entry)) r ≡ among unranked (laterRuns (drop first (now (ws .entry))))) × Kept (now (ws .entry)) r ⌝ }
 {
     let mut at = first;
@@ -137,7 +117,7 @@ fn later_runs(ws: &[u32], first: usize) -> Pick
 
 // What is chosen in a pattern: among the second run, the third and so on, the first last.
 pub fn choose(ws: &[u32]) -> Pick
-    requires { ⌜ (length (now ws) ≤ 4096) × Whole (now ws) ⌝ }
+    requires { ⌜ (length (now ws) ≤ 4096) × Whole (now ws) × AllTold (segments (tokensIn (now ws))) ⌝ }
     ensures { λ r. ⌜ (choiceSays (now (ws .entry)) r ≡ choice (tokensIn (now (ws .entry)))) × Kept (now (ws .entry)) r ⌝ }
 {
     let first = literals::run_words(ws);

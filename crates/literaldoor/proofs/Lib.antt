@@ -1,3 +1,4 @@
 -- The laws of the literal door.
 pub mod DoorLaws
+pub mod ToldLaws
 pub mod Promises

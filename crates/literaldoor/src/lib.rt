@@ -5,15 +5,17 @@ use generator::Wrote;
 use literals::Pick;
 use readdoor::ReadAnswer;
 ghost use mathlib.Core.Path.{_≡_};
+ghost use mathlib.Core.Bool.{true};
 ghost use Prim.Native.Nat.{_≤_};
 ghost use lib.ListN.{length};
 ghost use Rattle.picking.specs.Literals.{literals as literalsOf};
 ghost use Rattle.picking.specs.Numbers.{count};
+ghost use Rattle.picking.specs.Runs.{plain, segments};
 ghost use Rattle.picking.specs.Choice.{pick, taking, picked};
 ghost use Rattle.spelling.specs.Words.{tokensIn};
 ghost use Rattle.literals.specs.Ranks.{choiceSays};
 ghost use Rattle.literals.specs.Whole.{Whole};
-ghost use Rattle.chooser.specs.Kept.{Kept};
+ghost use Rattle.chooser.specs.Kept.{Kept, AllTold};
 ghost use Rattle.literaldoor.specs.Door.{said, literalsSays, bytesLeft, lengthsLeft, Picks};
 
 // How many literals and their rank, or a refusal and its place.
@@ -48,7 +50,7 @@ fn write_choice(ws: &[u32], choice: Pick, bytes: &mut [u8], lengths: &mut [u16])
 
 // 19, then 17, then 18.
 fn pick_tokens(ws: &[u32], bytes: &mut [u8], lengths: &mut [u16]) -> LiteralsAnswer
-    requires { ⌜ (length (now ws) ≤ 4096) × Whole (now ws) ⌝ }
+    requires { ⌜ (length (now ws) ≤ 4096) × Whole (now ws) × (plain (tokensIn (now ws)) ≡ true → AllTold (segments (tokensIn (now ws)))) ⌝ }
     ensures { λ r. ⌜ Picks (pick (tokensIn (now (ws .entry)))) (said r) (now (bytes .entry)) (now (lengths .entry)) (now (bytes .exit)) (now (lengths .exit)) ⌝ }
 {
     if !spelling::is_plain(ws) {

@@ -8,3 +8,4 @@ pub mod KeepLaws
 pub mod FactorLaws
 pub mod ChosenLaws
 pub mod PickedLaws
+pub mod ShortestLaws

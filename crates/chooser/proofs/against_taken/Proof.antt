@@ -26,19 +26,19 @@ enum-known-next c = search needs
 
 -- src/lib.rt:73:21
 mul-wins : tie.Need-mul-wins
-mul-wins c = let k = subst (Kept (c .before .before .before .before .args .ws .now)) (c .before .next .given .1) (c .before .before .before .before .pre .2) in let i = k .0 in let j = k .1 in omega arith
+mul-wins c = let k = subst (Kept (c .before .before .before .before .args .ws .now)) (c .before .next .given .1) (c .before .before .before .before .pre .1) in let i = k .0 in let j = k .1 in omega arith
 
 -- src/lib.rt:73:21
 sub-wins : tie.Need-sub-wins
-sub-wins c = let k = subst (Kept (c .before .before .before .before .args .ws .now)) (c .before .next .given .1) (c .before .before .before .before .pre .2) in k .0
+sub-wins c = let k = subst (Kept (c .before .before .before .before .args .ws .now)) (c .before .next .given .1) (c .before .before .before .before .pre .1) in k .0
 
 -- src/lib.rt:73:21
 part-wins-start : tie.Need-part-wins-start
-part-wins-start c = let k = subst (Kept (c .before .before .before .before .args .ws .now)) (c .before .next .given .1) (c .before .before .before .before .pre .2) in k .0
+part-wins-start c = let k = subst (Kept (c .before .before .before .before .args .ws .now)) (c .before .next .given .1) (c .before .before .before .before .pre .1) in k .0
 
 -- src/lib.rt:73:21
 part-wins-end : tie.Need-part-wins-end
-part-wins-end c = let k = subst (Kept (c .before .before .before .before .args .ws .now)) (c .before .next .given .1) (c .before .before .before .before .pre .2) in k .1
+part-wins-end c = let k = subst (Kept (c .before .before .before .before .args .ws .now)) (c .before .next .given .1) (c .before .before .before .before .pre .1) in k .1
 
 -- src/lib.rt:73:35
 mul-wins-2 : tie.Need-mul-wins-2
@@ -58,11 +58,11 @@ part-wins-end-2 c = search needs
 
 -- src/lib.rt:73:16
 wins-requires : tie.Need-wins-requires
-wins-requires c κs = let k = subst (Kept (c .before .before .before .before .before .before .args .ws .now)) (c .before .before .before .next .given .1) (c .before .before .before .before .before .before .pre .2) in let j = c .before .before .before .before .before .before .pre .1 in (law.part-few (c .before .before .before .before .before .before .args .ws .now) (c .before .before .before .next .given .0 .0) (c .before .before .before .next .given .0 .1 .0) (c .before .before .before .before .before .before .pre .0), k .2, law.part-few (c .before .before .before .before .before .before .args .ws .now) (c .before .before .before .before .before .before .args .from) (c .before .before .before .before .before .before .args .to) (c .before .before .before .before .before .before .pre .0), j .2)
+wins-requires c κs = (subst (Kept (c .before .before .before .before .before .before .args .ws .now)) (c .before .before .before .next .given .1) (c .before .before .before .before .before .before .pre .1) .3, c .before .before .before .before .before .before .pre .0 .3)
 
 -- src/lib.rt:74:17
 returns : tie.Need-returns
-returns c = law.new-taken (c .before .before .before .before .before .before .before .before .args .ws .now) (c .before .before .before .before .before .before .before .before .args .from) (c .before .before .before .before .before .before .before .before .args .to) (c .before .before .before .before .before .before .before .before .args .m) (c .before .before .before .before .before .before .before .before .args .next) _ _ _ (c .before .before .before .before .before .next .given .1) (c .before .before .before .before .before .before .before .before .pre .2) (sym (c .if1 .taken) ∙ c .before .wins .ensures)
+returns c = law.new-taken (c .before .before .before .before .before .before .before .before .args .ws .now) (c .before .before .before .before .before .before .before .before .args .from) (c .before .before .before .before .before .before .before .before .args .to) (c .before .before .before .before .before .before .before .before .args .m) (c .before .before .before .before .before .before .before .before .args .next) _ _ _ (c .before .before .before .before .before .next .given .1) (c .before .before .before .before .before .before .before .before .pre .1) (sym (c .if1 .taken) ∙ c .before .wins .ensures)
 
 -- src/lib.rt:78:26
 enum-told-2 : tie.Need-enum-told-2
@@ -70,11 +70,11 @@ enum-told-2 c = search needs
 
 -- src/lib.rt:66:1
 returns-2 : tie.Need-returns-2
-returns-2 c = law.nothing-more (c .before .before .before .args .ws .now) (c .before .before .before .args .from) (c .before .before .before .args .to) (c .before .before .before .args .m) (c .before .before .before .args .next) (c .enum-told .given .1) (c .before .before .before .pre .1)
+returns-2 c = law.nothing-more (c .before .before .before .args .ws .now) (c .before .before .before .args .from) (c .before .before .before .args .to) (c .before .before .before .args .m) (c .before .before .before .args .next) (c .enum-told .given .1) (c .before .before .before .pre .0)
 
 -- src/lib.rt:66:1
 returns-3 : tie.Need-returns-3
-returns-3 c = law.old-taken (c .before .before .before .before .before .before .before .before .args .ws .now) (c .before .before .before .before .before .before .before .before .args .from) (c .before .before .before .before .before .before .before .before .args .to) (c .before .before .before .before .before .before .before .before .args .m) (c .before .before .before .before .before .before .before .before .args .next) _ _ _ (c .before .before .before .before .before .next .given .1) (c .before .before .before .before .before .before .before .before .pre .1) (sym (c .if1 .left) ∙ c .before .wins .ensures)
+returns-3 c = law.old-taken (c .before .before .before .before .before .before .before .before .args .ws .now) (c .before .before .before .before .before .before .before .before .args .from) (c .before .before .before .before .before .before .before .before .args .to) (c .before .before .before .before .before .before .before .before .args .m) (c .before .before .before .before .before .before .before .before .args .next) _ _ _ (c .before .before .before .before .before .next .given .1) (c .before .before .before .before .before .before .before .before .pre .0) (sym (c .if1 .left) ∙ c .before .wins .ensures)
 
 -- src/lib.rt:66:1
 returns-4 : tie.Need-returns-4

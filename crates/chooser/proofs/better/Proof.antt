@@ -26,7 +26,7 @@ enum-known-top c = search needs
 
 -- src/lib.rt:89:37
 against-taken-requires : tie.Need-against-taken-requires
-against-taken-requires c κs = (c .before .before .before .before .pre .0, subst (Kept (c .before .before .before .before .args .ws .now)) (c .before .top .given .1) (c .before .before .before .before .pre .1), c .before .before .before .before .pre .2)
+against-taken-requires c κs = (subst (Kept (c .before .before .before .before .args .ws .now)) (c .before .top .given .1) (c .before .before .before .before .pre .0), c .before .before .before .before .pre .1)
 
 -- src/lib.rt:90:26
 enum-told-2 : tie.Need-enum-told-2
@@ -34,7 +34,7 @@ enum-told-2 c = search needs
 
 -- src/lib.rt:83:1
 returns : tie.Need-returns
-returns c = law.nothing-yet (c .before .before .before .args .ws .now) (c .before .before .before .args .top) (c .before .before .before .args .next) (c .enum-told .given .1) (c .before .before .before .pre .2)
+returns c = law.nothing-yet (c .before .before .before .args .ws .now) (c .before .before .before .args .top) (c .before .before .before .args .next) (c .enum-told .given .1) (c .before .before .before .pre .1)
 
 -- src/lib.rt:83:1
 returns-2 : tie.Need-returns-2

@@ -16,11 +16,11 @@ run-words-requires c κs = search needs
 
 -- src/lib.rt:144:9
 later-runs-requires : tie.Need-later-runs-requires
-later-runs-requires c κs = (c .before .before .pre .0, run.first-fits (c .before .before .args .ws .now) _ (c .run-words .ensures .0) (c .before .before .pre .1), run.rest-whole (c .before .before .args .ws .now) _ (c .run-words .ensures .0) (c .before .before .pre .1))
+later-runs-requires c κs = (c .before .before .pre .0, run.first-fits (c .before .before .args .ws .now) _ (c .run-words .ensures .0) (c .before .before .pre .1), run.rest-whole (c .before .before .args .ws .now) _ (c .run-words .ensures .0) (c .before .before .pre .1), run.rest-told (c .before .before .args .ws .now) _ (c .run-words .ensures .0) (c .before .before .pre .1) (c .before .before .pre .2))
 
 -- src/lib.rt:145:5
 with-run-requires : tie.Need-with-run-requires
-with-run-requires c κs = (run.first-stretch (c .before .before .before .args .ws .now) _ (c .before .run-words .ensures .0) (c .before .before .before .pre .1) (c .before .before .before .pre .0), c .later-runs .ensures .1)
+with-run-requires c κs = (run.first-stretch (c .before .before .before .args .ws .now) _ (c .before .run-words .ensures .0) (c .before .before .before .pre .1) (c .before .before .before .pre .0) (c .before .before .before .pre .2), c .later-runs .ensures .1)
 
 -- src/lib.rt:139:1
 returns : tie.Need-returns

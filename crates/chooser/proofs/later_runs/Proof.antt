@@ -26,7 +26,7 @@ abbrev μ-loop : tie.MeasureT-loop
 
 -- src/lib.rt:129:5
 loop-holds : tie.Need-loop-holds Inv-loop μ-loop
-loop-holds c = run.asked-none (c .before .args .ws .now) (c .before .args .first) (c .before .pre .1) (c .before .pre .2)
+loop-holds c = run.asked-none (c .before .args .ws .now) (c .before .args .first) (c .before .pre .1) (c .before .pre .2) (c .before .pre .3)
 
 -- src/lib.rt:129:16
 sub-loop : tie.Need-sub-loop Inv-loop μ-loop

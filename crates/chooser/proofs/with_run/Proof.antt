@@ -52,7 +52,7 @@ shifted-requires c κs = search needs
 
 -- src/lib.rt:119:5
 better-requires : tie.Need-better-requires
-better-requires c κs = (c .before .before .before .before .before .pre .0 .few, c .before .before .before .before .before .pre .1, law.shifted-kept (c .before .before .before .before .before .args .ws .now) (c .before .in-run .result) (c .before .before .before .before .before .args .from) (c .before .before .before .before .before .args .to - c .before .before .before .before .before .args .from) (c .shifted .result) (c .shifted .ensures) (law.stretch-in (c .before .before .before .before .before .args .ws .now) (c .before .before .before .before .before .args .from) (c .before .before .before .before .before .args .to) (c .before .before .before .before .before .pre .0)) (c .before .in-run .ensures))
+better-requires c κs = (c .before .before .before .before .before .pre .1, law.shifted-kept (c .before .before .before .before .before .args .ws .now) (c .before .in-run .result) (c .before .before .before .before .before .args .from) (c .before .before .before .before .before .args .to - c .before .before .before .before .before .args .from) (c .shifted .result) (c .shifted .ensures) (law.stretch-in (c .before .before .before .before .before .args .ws .now) (c .before .before .before .before .before .args .from) (c .before .before .before .before .before .args .to) (c .before .before .before .before .before .pre .0)) (c .before .in-run .ensures) (c .before .before .before .before .before .pre .0 .told))
 
 -- src/lib.rt:111:1
 returns-2 : tie.Need-returns-2

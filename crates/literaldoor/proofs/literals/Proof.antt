@@ -1,6 +1,7 @@
 use native.Mathlib.Omega.{arith}
 use borrow.Author.Needs.{needs}
 use Rattle.literaldoor.proofs.DoorLaws as law
+use Rattle.literaldoor.proofs.ToldLaws as told
 use Rattle.literaldoor.specs.Door.{said}
 use Rattle.readdoor.proofs.Got as into
 use Rattle.chooser.proofs.BetweenLaws.{part-few}
@@ -47,7 +48,7 @@ part-pick-tokens-end c = let g = (into.got (c .before .before .before .before .b
 
 -- src/lib.rt:70:47
 pick-tokens-requires : tie.Need-pick-tokens-requires
-pick-tokens-requires c κs = let g = into.got (c .before .before .before .before .before .before .before .before .before .before .before .before .before .args .text .now) _ (c .before .before .before .before .before .before .before .before .read .last .1 .0) (c .before .before .before .before .before .before .before .before .read .result) (c .before .before .before .before .before .before .before .before .read .ensures .0) (c .before .before .before .before .before .before .before .before .read .ensures .1) (le-refl 4096) (c .before .before .before .before .before .r .given .0 .0) (c .before .before .before .before .before .r .given .0 .1 .0) (c .before .before .before .before .before .r .given .1) in law.entries-whole (g .tokens) _ (g .words) (g .few)
+pick-tokens-requires c κs = let g = into.got (c .before .before .before .before .before .before .before .before .before .before .before .before .before .args .text .now) _ (c .before .before .before .before .before .before .before .before .read .last .1 .0) (c .before .before .before .before .before .before .before .before .read .result) (c .before .before .before .before .before .before .before .before .read .ensures .0) (c .before .before .before .before .before .before .before .before .read .ensures .1) (le-refl 4096) (c .before .before .before .before .before .r .given .0 .0) (c .before .before .before .before .before .r .given .0 .1 .0) (c .before .before .before .before .before .r .given .1) in told.entries-asked (c .before .before .before .before .before .before .before .before .before .before .before .before .before .args .text .now) _ (g .tokens) (g .outcome) _ (g .words) (g .few)
 
 -- src/lib.rt:71:29
 enum-known-r-2 : tie.Need-enum-known-r-2

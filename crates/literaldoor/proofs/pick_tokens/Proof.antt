@@ -32,7 +32,7 @@ returns c = law.not-plain (tokensIn (c .before .before .before .before .before .
 
 -- src/lib.rt:57:9
 choose-requires : tie.Need-choose-requires
-choose-requires c κs = search needs
+choose-requires c κs = let p = c .before .before .before .before .before .pre in (p .0, p .1, p .2 (sym (c .before .is-plain .ensures) ∙ not-false _ (c .if1 .left)))
 
 -- src/lib.rt:58:5
 write-choice-requires : tie.Need-write-choice-requires

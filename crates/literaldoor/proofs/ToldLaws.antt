@@ -1,0 +1,59 @@
+-- What the choice asks of the words of an accepted text. Assumes nothing.
+use mathlib.Core.Path.{_≡_, sym, ap, _∙_, subst}
+use mathlib.Core.Bool.{true}
+use mathlib.Core.List.{List, [], _∷_}
+use Prim.Native.Nat.{ℕ, _≤_}
+use lib.ListN.{length}
+use Rattle.meaning.specs.Tokens.{Tokens, Lists, neither, _or_}
+use Rattle.meaning.specs.Values.{SpelledOne, Spelled, SpelledFirst, SpelledMore}
+use Rattle.meaning.specs.Entries.{entries}
+use Rattle.reading.specs.Lists.{accepted, reading}
+use Rattle.reading.proofs.Kept.{Keeps, accepted-keeps}
+use Rattle.picking.specs.Runs.{plain, segments}
+use Rattle.picking.proofs.KeepLaws.{Every}
+use Rattle.picking.proofs.ShortestLaws.{segments-told}
+use Rattle.spelling.specs.Words.{tokensIn}
+use Rattle.literals.specs.Whole.{Whole}
+use Rattle.literals.proofs.EntryLaws.{plain-entries, segments-entries}
+use Rattle.literals.proofs.ReadLaws.{accepted-ranged}
+use Rattle.chooser.specs.Kept.{Told, AllTold}
+use Rattle.literaldoor.proofs.DoorLaws.{entries-whole}
+
+-- what a text spells
+any-spelled : (ls : Lists) → SpelledFirst ls → SpelledMore ls
+unfolding Spelled
+any-spelled neither h = absurd h
+any-spelled (ts or ls) h = h
+
+spelled-keeps : Keeps SpelledOne Spelled SpelledFirst
+unfolding Spelled
+spelled-keeps =
+    record {
+      byte = λ v h. h;
+      not-byte = λ v h. h;
+      masked-byte = λ v m h. h;
+      not-masked = λ v m h. h;
+      open-jump = λ from. tt;
+      jump = λ from to h. h;
+      alternatives = λ ls h. h;
+      empty = tt;
+      next = λ tok ts a b. (a, b);
+      last-list = λ ts a. (a, tt);
+      next-list = λ ts ls a b. (a, any-spelled ls b);
+    }
+
+every-told : (ss : List Tokens) → Every Told ss → AllTold ss
+unfolding Every
+every-told [] h = tt
+every-told (s ∷ ss) h = (h .0, every-told ss (h .1))
+
+module _ (t : List ℕ) (e : ℕ) (ts : Tokens) (r : reading t ≡ accepted e ts) (ws : List ℕ) (w : ws ≡ entries ts) where
+  plain-told : plain ts ≡ true → AllTold (segments (tokensIn ws))
+  plain-told p =
+      subst AllTold (sym (ap (λ (x : List ℕ). segments (tokensIn x)) w ∙ segments-entries ts p (accepted-ranged t e ts r)))
+      (every-told (segments ts) (segments-told ts p (accepted-keeps SpelledOne Spelled SpelledFirst spelled-keeps t e ts r)))
+
+  pub entries-asked : length (entries ts) ≤ 4092 → (length ws ≤ 4096) × Whole ws × (plain (tokensIn ws) ≡ true → AllTold (segments (tokensIn ws)))
+  entries-asked h =
+      let (few, whole) = entries-whole ts ws w h in
+      (few, whole, λ p. plain-told (sym (ap (λ (x : List ℕ). plain (tokensIn x)) w ∙ plain-entries ts) ∙ p))
