@@ -11,7 +11,7 @@ ghost use Rattle.picking.specs.Literals.{literals};
 ghost use Rattle.picking.specs.Numbers.{count, literalAt};
 ghost use Rattle.meaning.specs.Tokens.{Tokens, nothing};
 ghost use Rattle.picking.specs.Runs.{Slice, parts, longer, slices, closes};
-ghost use Rattle.picking.specs.Choice.{least, penalty, rank, ranked, widened, against, best as bestOf, unranked, strong, aloneOr, inRun};
+ghost use Rattle.picking.specs.Choice.{least, penalty, rank, ranked, widened, against, best as bestOf, unranked, tooMany, strong, aloneOr, inRun};
 ghost use Rattle.spelling.specs.Words.{tokenIn, tokensIn};
 ghost use Rattle.literals.specs.Ranks.{rankSays, choiceSays, Settles, Beaten};
 ghost use Rattle.literals.specs.Whole.{byteEnd, partEnd, Placed, Whole, runEnd};
@@ -204,6 +204,17 @@ fn literal_start(kind: u32, at: usize, e: usize) -> usize
     if kind == 0 { at } else { e }
 }
 
+// Too many literals somewhere, which no further slice changes.
+fn is_full(best: Pick) -> bool
+    ensures { λ r. ⌜ (r ≡ true → (run : List ℕ) → choiceSays run best ≡ tooMany) ⌝ }
+{
+    match best {
+        Pick::Nothing => false,
+        Pick::Taken(_, _, _) => false,
+        Pick::TooMany => true,
+    }
+}
+
 // The first highest slice of a run, with the literal parts on either side.
 fn best_slice(run: &[u32]) -> Pick
     requires { ⌜ (length (now run) ≤ 4096) × Whole (now run) ⌝ }
@@ -213,6 +224,9 @@ fn best_slice(run: &[u32]) -> Pick
     let mut at = 0;
     let mut top = Pick::Nothing;
     while 4 <= run.len() - at {
+        if is_full(top) {
+            return Pick::TooMany;
+        }
         top = longer_slices(run, prior, at, top);
         let n = part_words(&run[at..]);
         let e = at + n;
