@@ -3,6 +3,7 @@ pub mod RankLaws
 pub mod WholeLaws
 pub mod PartLaws
 pub mod PickLaws
+pub mod WorthLaws
 pub mod SliceLaws
 pub mod LongerLaws
 pub mod RunLaws

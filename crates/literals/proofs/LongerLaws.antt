@@ -14,7 +14,7 @@ use Rattle.spelling.specs.Words.{tokensIn}
 use Rattle.spelling.proofs.PartLaws.{part-all, part-long}
 use Rattle.literals.specs.declared.Pick.{Pick}
 use Rattle.literals.specs.declared.Rank.{Rank}
-use Rattle.literals.specs.Ranks.{rankSays, choiceSays}
+use Rattle.literals.specs.Ranks.{rankSays, choiceSays, Settles}
 use Rattle.literals.specs.Whole.{Whole, byteEnd, partEnd, Placed}
 use Rattle.literals.proofs.PartLaws.{Part, first-part}
 use Rattle.literals.proofs.PickLaws.{Stands}
@@ -82,7 +82,7 @@ module _ (run : List ℕ) (prior at to len : ℕ) (c : Choice) (top : Pick) (p :
       omega arith
 
   -- one slice is weighed, and what comes next is known
-  pub weighed : (now : Pick) (next : ℕ) (r : Rank) → next ≡ byteEnd (take (length run - to) (drop to run)) → rankSays r ≡ rank (words run at to)
+  pub weighed : (now : Pick) (next : ℕ) (r : Rank) → next ≡ byteEnd (take (length run - to) (drop to run)) → Settles top r (rank (words run at to))
       → Stands now top prior (to + next) (rankSays r) → (own : Tokens) (ps : List Tokens) → parts (tokensIn (drop at run)) ≡ own ∷ ps
       → best c (longer ps (words run prior at) own 0) ≡ best (choiceSays run now) (further (parts (tokensIn (drop to run))) (words run prior at) (words run at to) len)
   unfolding widened
@@ -96,7 +96,7 @@ module _ (run : List ℕ) (prior at to len : ℕ) (c : Choice) (top : Pick) (p :
       g .same own ps k
       ∙ turn (choiceSays run top) (choiceSays run now) (parts (tokensIn (drop to run))) (words run prior at) (words run at to) len
       (s run (slice (words run prior at) (words run at to) (nextLiteral (parts (tokensIn (drop to run))))) wide
-      ∙ ap (against (choiceSays run top) (slice (words run prior at) (words run at to) (nextLiteral (parts (tokensIn (drop to run)))))) f)
+      ∙ f run (slice (words run prior at) (words run at to) (nextLiteral (parts (tokensIn (drop to run))))))
 
   pub rest-there : 4 ≤ length run - to → 4 ≤ length (take (length run - to) (drop to run))
   rest-there h = let e = part-long to run in omega arith

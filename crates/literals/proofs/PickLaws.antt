@@ -3,9 +3,10 @@ use mathlib.Core.Path.{_≡_, refl, sym, ap, ap₂, _∙_, subst}
 use mathlib.Core.Bool.{Bool, true, false, cond}
 use mathlib.Core.List.{List}
 use Prim.Native.Nat.{ℕ, _-_, _≤_, _<_}
-use lib.Dec.{ltb}
+use native.Mathlib.Omega.{arith}
+use lib.Dec.{leb, ltb}
 use lib.ListN.{length, take, drop}
-use borrow.Author.Tests.{lt-ltb, le-ltb}
+use borrow.Author.Tests.{lt-ltb, le-ltb, leb-true}
 use Rattle.meaning.specs.Tokens.{Tokens}
 use Rattle.picking.specs.Runs.{Slice}
 use Rattle.picking.specs.Choice.{Ranked, ranked, skipped, excessive, Choice, unranked, chosen, tooMany, widened, against}
@@ -14,7 +15,7 @@ use Rattle.literals.specs.declared.Pick.{Pick}
 use Rattle.literals.specs.declared.Pick.the-variants.{Nothing, Taken, TooMany}
 use Rattle.literals.specs.declared.Rank.{Rank}
 use Rattle.literals.specs.declared.Rank.the-variants.{Of, Skipped, TooMany as Excess}
-use Rattle.literals.specs.Ranks.{rankSays, choiceSays}
+use Rattle.literals.specs.Ranks.{rankSays, choiceSays, Settles, Beaten}
 
 -- against which choices a pick stands
 abbrev pub Stands : Pick → Pick → ℕ → ℕ → Ranked → Type 0
@@ -54,3 +55,22 @@ excess-full TooMany from to run s w = refl
 
 pub by-rank : (r b : Pick) (from to : ℕ) (k j : Rank) → k ≡ j → Stands r b from to (rankSays j) → Stands r b from to (rankSays k)
 by-rank r b from to k j e h = subst (λ (x : Rank). Stands r b from to (rankSays x)) (sym e) h
+
+-- ---- an answer that is as good as the rank
+
+pub settled : (b : Pick) (r : Rank) (k : Ranked) → rankSays r ≡ k → Settles b r k
+settled b r k e run s = ap (against (choiceSays run b) s) e
+
+pub settled-on : (b : Pick) (r : Rank) (k j : Ranked) → Settles b r k → k ≡ j → Settles b r j
+settled-on b r k j h e run s = h run s ∙ ap (against (choiceSays run b) s) e
+
+pub taken-beats : (b : Pick) (f t m n : ℕ) → b ≡ Taken f t m → leb n m ≡ true → Beaten b n
+unfolding against
+taken-beats b f t m n e l k h run s =
+    let o : n ≤ m = leb-true n m l in
+    sym (ap (λ (x : Pick). against (choiceSays run x) s (ranked k)) e ∙ ap (λ (c : Bool). cond c (chosen k (widened s)) (chosen m (tokensIn (take (t - f) (drop f run))))) (le-ltb m k (omega arith))
+    ∙ sym (ap (λ (x : Pick). against (choiceSays run x) s skipped) e))
+
+pub full-beats : (b : Pick) (n : ℕ) → b ≡ TooMany → Beaten b n
+unfolding against
+full-beats b n e k h run s = ap (λ (x : Pick). against (choiceSays run x) s skipped) e ∙ sym (ap (λ (x : Pick). against (choiceSays run x) s (ranked k)) e)

@@ -35,6 +35,12 @@ literal-fits ws k h =
     let s = tokens-size ws in
     omega arith
 
+-- a least can only fall
+pub lowest-le : (of : List ℕ → ℕ) (ls : List (List ℕ)) (x : ℕ) → lowest of ls x ≤ x
+unfolding lowest
+lowest-le of [] x = omega arith
+lowest-le of (l ∷ ls) x = let h = lowest-le of ls (min x (of l)) in omega arith
+
 -- the least of a measure, literal by literal
 module _ (of : List ℕ → ℕ) (ts : Tokens) where
   pub lowest-end : (k n x : ℕ) → n ≡ count ts → n ≤ k → lowest of (drop k (literals ts)) x ≡ x

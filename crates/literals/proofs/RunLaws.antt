@@ -31,6 +31,11 @@ unfolding best
 best-append [] ys c = refl
 best-append (x ∷ xs) ys c = best-append xs ys (against c x (rankOf x))
 
+best-full : (ss : List Slice) → best tooMany ss ≡ tooMany
+unfolding best against
+best-full [] = refl
+best-full (s ∷ ss) = best-full ss
+
 no-tokens : (run : List ℕ) (a : ℕ) → words run a a ≡ nothing
 no-tokens run a = let e : a - a ≡ 0 = omega arith in ap (λ (x : ℕ). tokensIn (take x (drop a run))) e ∙ tokens-end (take 0 (drop a run)) (omega arith)
 
@@ -59,6 +64,9 @@ module _ (run : List ℕ) (few : length run ≤ 4096) where
     weighed-done h =
         let e = tokens-end (drop at run) (let d = length-drop at run in omega arith) in
         sym (g .same ∙ ap (λ (x : Tokens). best (choiceSays run top) (slices (parts x) (words run prior at))) e)
+
+    pub weighed-full : ((run : List ℕ) → choiceSays run top ≡ tooMany) → tooMany ≡ best unranked (slices (parts (tokensIn run)) nothing)
+    weighed-full e = sym (g .same ∙ ap (λ (c : Choice). best c (slices (parts (tokensIn (drop at run))) (words run prior at))) (e run) ∙ best-full (slices (parts (tokensIn (drop at run))) (words run prior at)))
 
     pub placed : 4 ≤ length run - at → Placed run prior at
     placed h = record { few = few; behind = g .behind; here = (omega arith); before-whole = g .before-whole; rest-whole = g .rest-whole }

@@ -1,7 +1,7 @@
 // Translated from boreal's boreal/src/matcher/literals.rs (MIT OR Apache-2.0), commit 7010b5e967; see NOTICE.
 // The choice of search literals, over token entries.
 ghost use mathlib.Core.Path.{_≡_};
-ghost use mathlib.Core.Bool.{cond};
+ghost use mathlib.Core.Bool.{cond, true};
 ghost use mathlib.Core.List.{List, _∷_};
 ghost use lib.Dec.{eqb};
 ghost use Prim.Native.Nat.{ℕ, _≤_, _<_, _-_, min};
@@ -11,9 +11,9 @@ ghost use Rattle.picking.specs.Literals.{literals};
 ghost use Rattle.picking.specs.Numbers.{count, literalAt};
 ghost use Rattle.meaning.specs.Tokens.{Tokens, nothing};
 ghost use Rattle.picking.specs.Runs.{Slice, parts, longer, slices, closes};
-ghost use Rattle.picking.specs.Choice.{least, penalty, rank, ranked, widened, against, best as bestOf, unranked, strong, aloneOr, inRun};
+ghost use Rattle.picking.specs.Choice.{least, penalty, rank, ranked, widened, against, best as bestOf, unranked, tooMany, strong, aloneOr, inRun};
 ghost use Rattle.spelling.specs.Words.{tokenIn, tokensIn};
-ghost use Rattle.literals.specs.Ranks.{rankSays, choiceSays};
+ghost use Rattle.literals.specs.Ranks.{rankSays, choiceSays, Settles, Beaten};
 ghost use Rattle.literals.specs.Whole.{byteEnd, partEnd, Placed, Whole, runEnd};
 
 // A slice's rank; or it has too many combinations; or too many literals.
@@ -39,23 +39,6 @@ fn smaller(a: u32, b: u32) -> u32
     if a < b { a } else { b }
 }
 
-fn least_score(ws: &[u32], n: usize) -> u32
-    requires { ⌜ (length (now ws) ≤ 4096) × (n ≡ count (tokensIn (now ws))) × (n ≤ 256) ⌝ }
-    ensures { λ r. ⌜ r ≡ least literalScore (literals (tokensIn (now (ws .entry)))) ⌝ }
-{
-    if n == 0 {
-        return 0;
-    }
-    let mut least = score_at(ws, 0);
-    let mut k = 1;
-    while k < n {
-        let s = score_at(ws, k);
-        least = smaller(least, s);
-        k += 1;
-    }
-    least
-}
-
 fn penalty_of(n: usize) -> u32
     ensures { λ r. ⌜ r ≡ penalty n ⌝ }
 {
@@ -74,9 +57,53 @@ fn less(a: u32, b: u32) -> u32
     if a < b { 0 } else { a - b }
 }
 
-pub fn rank_of(ws: &[u32]) -> Rank
+// What is chosen: nothing so far, the words of a slice with its rank, or too many literals somewhere.
+pub enum Pick {
+    Nothing,
+    Taken(usize, usize, u32),
+    TooMany,
+}
+
+// No rank up to this one changes what is chosen.
+fn beaten(best: Pick, rank: u32) -> bool
+    ensures { λ r. ⌜ (r ≡ true → Beaten best rank) ⌝ }
+{
+    match best {
+        Pick::Nothing => false,
+        Pick::Taken(_, _, highest) => rank <= highest,
+        Pick::TooMany => true,
+    }
+}
+
+// What the literals are worth to the best so far. Scoring more of them can only lower the rank, so it stops where that changes nothing.
+fn worth(ws: &[u32], n: usize, penalty: u32, best: Pick) -> Rank
+    requires { ⌜ (length (now ws) ≤ 4096) × (n ≡ count (tokensIn (now ws))) × (n ≤ 256) ⌝ }
+    ensures { λ r. ⌜ Settles best r (ranked (least literalScore (literals (tokensIn (now (ws .entry)))) - penalty)) ⌝ }
+{
+    if n == 0 {
+        return Rank::Of(0);
+    }
+    let mut least = score_at(ws, 0);
+    let mut k = 1;
+    while k < n {
+        let most = less(least, penalty);
+        if most == 0 {
+            return Rank::Of(0);
+        }
+        if beaten(best, most) {
+            return Rank::Skipped;
+        }
+        let s = score_at(ws, k);
+        least = smaller(least, s);
+        k += 1;
+    }
+    Rank::Of(less(least, penalty))
+}
+
+// A slice's rank, or one that changes the best so far as little.
+pub fn rank_of(ws: &[u32], best: Pick) -> Rank
     requires { ⌜ length (now ws) ≤ 4096 ⌝ }
-    ensures { λ r. ⌜ rankSays r ≡ rank (tokensIn (now (ws .entry))) ⌝ }
+    ensures { λ r. ⌜ Settles best r (rank (tokensIn (now (ws .entry)))) ⌝ }
 {
     let t = spelling::tally_tokens(ws);
     let n = t.literals;
@@ -87,8 +114,7 @@ pub fn rank_of(ws: &[u32]) -> Rank
     if 256 < n {
         return Rank::TooMany;
     }
-    let s = least_score(ws, n);
-    Rank::Of(less(s, penalty_of(c)))
+    worth(ws, n, penalty_of(c), best)
 }
 
 // The words of the bytes at the front.
@@ -117,13 +143,6 @@ fn part_words(ws: &[u32]) -> usize
     } else {
         spelling::width_of(ws)
     }
-}
-
-// What is chosen: nothing so far, the words of a slice with its rank, or too many literals somewhere.
-pub enum Pick {
-    Nothing,
-    Taken(usize, usize, u32),
-    TooMany,
 }
 
 fn challenge(best: Pick, from: usize, to: usize, rank: u32) -> Pick
@@ -162,7 +181,7 @@ fn longer_slices(run: &[u32], prior: usize, at: usize, best: Pick) -> Pick
     let mut len = 0;
     let mut top = best;
     loop {
-        let rank = rank_of(&run[at..to]);
+        let rank = rank_of(&run[at..to], top);
         let next = byte_words(&run[to..]);
         top = ranked_against(top, prior, to + next, rank);
         if 4 <= len {
@@ -185,6 +204,17 @@ fn literal_start(kind: u32, at: usize, e: usize) -> usize
     if kind == 0 { at } else { e }
 }
 
+// Too many literals somewhere, which no further slice changes.
+fn is_full(best: Pick) -> bool
+    ensures { λ r. ⌜ (r ≡ true → (run : List ℕ) → choiceSays run best ≡ tooMany) ⌝ }
+{
+    match best {
+        Pick::Nothing => false,
+        Pick::Taken(_, _, _) => false,
+        Pick::TooMany => true,
+    }
+}
+
 // The first highest slice of a run, with the literal parts on either side.
 fn best_slice(run: &[u32]) -> Pick
     requires { ⌜ (length (now run) ≤ 4096) × Whole (now run) ⌝ }
@@ -194,6 +224,9 @@ fn best_slice(run: &[u32]) -> Pick
     let mut at = 0;
     let mut top = Pick::Nothing;
     while 4 <= run.len() - at {
+        if is_full(top) {
+            return Pick::TooMany;
+        }
         top = longer_slices(run, prior, at, top);
         let n = part_words(&run[at..]);
         let e = at + n;
