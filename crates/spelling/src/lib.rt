@@ -11,7 +11,7 @@ ghost use Rattle.picking.specs.Runs.{plain};
 ghost use Rattle.picking.specs.Numbers.{countOf, count, countIn, prefixIn, prefixOf, prefixed, pieceOf, pieceIn, ending, literalAt};
 ghost use Rattle.spelling.specs.Words.{maskIn, entryToken, firstEntry, flatIn, ends, inside, listsIn, tokenIn, width, tokensIn};
 ghost use Rattle.spelling.specs.Classes.{passes};
-ghost use Rattle.spelling.specs.Tallies.{Tallied, Numerable, Written, Pieced};
+ghost use Rattle.spelling.specs.Tallies.{Tallied, Numerable, Past, Written, Pieced};
 use bitmap::Bitmap;
 use bitmap::Member;
 
@@ -328,19 +328,34 @@ fn prefix_of(ws: &[u32], p: usize, q: usize) -> usize
     q / n
 }
 
-// The same of all tokens: the last is asked first.
+// The words from the first token on that is no byte. A byte has one literal, so that no number changes at it.
+fn past_bytes(ws: &[u32]) -> &[u32]
+    ensures { λ r. ⌜ Past (now (ws .entry)) (now r) ⌝ }
+{
+    let mut rest = ws;
+    while 4 <= rest.len() {
+        if rest[0] != 0 {
+            return rest;
+        }
+        rest = &rest[4..];
+    }
+    rest
+}
+
+// The same of all tokens: the last is asked first. Bytes are passed over, or a long run of them would be walked, on the stack, for each class before it.
 fn prefixed_by(ws: &[u32], p: usize, k: usize) -> usize
     requires { ⌜ Numerable p (count (tokensIn (now ws))) ⌝ }
     ensures { λ r. ⌜ r ≡ prefixed (tokensIn (now (ws .entry))) p k ⌝ }
 {
-    if ws.len() < 4 {
+    let rest = past_bytes(ws);
+    if rest.len() < 4 {
         return k;
     }
-    let t = tally_token(ws);
-    let e = width_of(ws);
+    let t = tally_token(rest);
+    let e = width_of(rest);
     let after = p * t.literals;
-    let q = prefixed_by(&ws[e..], after, k);
-    prefix_of(ws, p, q)
+    let q = prefixed_by(&rest[e..], after, k);
+    prefix_of(rest, p, q)
 }
 
 // Writes literal number k of a list without alternatives.
