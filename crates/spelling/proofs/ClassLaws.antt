@@ -10,14 +10,16 @@ use lib.ListN.{length, getD}
 use borrow.Author.Tests.{ne-eqb}
 use Rattle.meaning.specs.Tokens.{left, right, all, Token, Byte, NotByte, MaskedByte, NotMaskedByte, Jump, Alternatives}
 use Rattle.bitmap.specs.declared.Bitmap.{Bitmap}
-use Rattle.bitmap.specs.declared.Member.{Member}
-use Rattle.bitmap.specs.declared.Member.the-variants.{At, Nothing}
-use Rattle.bitmap.specs.Bitmap.{has, Holds, size, IsNext, rising, membersFrom, members}
+use Rattle.bitmap.specs.Bitmap.{has, Holds, size, rising, membersFrom, members}
 use Rattle.bitmap.proofs.Tally.{tally-not}
-use Rattle.bitmap.proofs.Members.{members-size, next-at, next-nothing}
+use Rattle.bitmap.proofs.Members.{members-size}
 use Rattle.picking.specs.Literals.{kept, passing, bytesThat, taken}
 use Rattle.spelling.specs.Words.{maskIn, entryToken}
 use Rattle.spelling.specs.Classes.{passes}
+
+pub mask-all : (k : ℕ) → (k ≡ 0 → ⊥) → (k ≡ 1 → ⊥) → maskIn k ≡ all
+unfolding maskIn
+mask-all k f g = simp (ne-eqb k 0 f, ne-eqb k 1 g)
 
 module _ (m : Bitmap) (x k : ℕ) where
   pub low-held : k ≡ 0 → Holds m (λ b. eqb (b % 16) (x % 16)) → Holds m (passes (MaskedByte (x % 16) (maskIn k)))
@@ -36,17 +38,13 @@ module _ (m : Bitmap) (x k : ℕ) where
   unfolding passes maskIn
   high-others n e h g = rw e (λ b l. g b l ∙ ap not (h b l))
 
-  no-half : (k ≡ 0 → ⊥) → (k ≡ 1 → ⊥) → maskIn k ≡ all
-  unfolding maskIn
-  no-half f g = simp (ne-eqb k 0 f, ne-eqb k 1 g)
-
   pub none-held : (k ≡ 0 → ⊥) → (k ≡ 1 → ⊥) → Holds m (λ b. false) → Holds m (passes (MaskedByte (x % 16) (maskIn k)))
   unfolding passes
-  none-held f g h = rw (no-half f g) h
+  none-held f g h = rw (mask-all k f g) h
 
   pub none-others : (k ≡ 0 → ⊥) → (k ≡ 1 → ⊥) → Holds m (λ b. false) → Holds m (passes (NotMaskedByte (x % 16) (maskIn k)))
   unfolding passes
-  none-others f g h = rw (no-half f g) h
+  none-others f g h = rw (mask-all k f g) h
 
 module _ (m : Bitmap) (kind v mask x : ℕ) (e : x ≡ v % 256) where
   halves : x % 16 ≡ v % 16
@@ -105,7 +103,7 @@ class-taken (NotMaskedByte v all) h = passing-none 0 256
 class-taken (Jump from to) h = passing-none 0 256
 class-taken (Alternatives ls) h = passing-none 0 256
 
-pub held-members : (m : Bitmap) (t : Token) → ((v : ℕ) → t ≡ Byte v → ⊥) → Holds m (passes t) → membersFrom m 0 ≡ taken t
+held-members : (m : Bitmap) (t : Token) → ((v : ℕ) → t ≡ Byte v → ⊥) → Holds m (passes t) → membersFrom m 0 ≡ taken t
 unfolding membersFrom
 held-members m t n h = kept-same (has m) (passes t) 0 256 (omega arith) h ∙ class-taken t n
 
@@ -128,27 +126,6 @@ not-byte kind v mask h w = simp (ne-eqb kind 0 h) (go (eqb kind 1) (eqb kind 2) 
 pub byte-taken : (kind v mask : ℕ) → kind ≡ 0 → taken (entryToken kind v mask) ≡ v % 256 ∷ []
 unfolding entryToken taken
 byte-taken kind v mask e = rw e
-
--- ---- the members by their number
-
-past-end : (n : ℕ) → _≡_ {A = ℕ} (getD [] n 0) 0
-past-end zero = refl
-past-end (suc n) = refl
-
-module _ (m : Bitmap) (v left : ℕ) (r : Member) (next : IsNext m v r) where
-  pub member-none : r ≡ Nothing → getD (membersFrom m v) left 0 ≡ 0
-  member-none e = ap (λ (l : List ℕ). getD l left 0) (next-nothing m v (subst (IsNext m v) e next)) ∙ past-end left
-
-  pub member-here : (b : ℕ) → r ≡ At b → left ≡ 0 → getD (membersFrom m v) left 0 ≡ b
-  member-here b e z = ap₂ (λ (l : List ℕ) (n : ℕ). getD l n 0) (next-at m v b (subst (IsNext m v) e next)) z
-
-  pub member-more : (b : ℕ) → r ≡ At b → (left ≡ 0 → ⊥) → getD (membersFrom m v) left 0 ≡ getD (membersFrom m (b + 1)) (left - 1) 0
-  member-more b e f =
-      let k : left ≡ suc (left - 1) = omega arith in
-      ap₂ (λ (l : List ℕ) (n : ℕ). getD l n 0) (next-at m v b (subst (IsNext m v) e next)) k
-
-  pub member-byte : (b : ℕ) → r ≡ At b → b < 256
-  member-byte b e = (subst (IsNext m v) e next) .1
 
 pub byte-at : (kind v mask j : ℕ) → kind ≡ 0 → j < length (taken (entryToken kind v mask)) → v % 256 ≡ getD (taken (entryToken kind v mask)) j 0
 byte-at kind v mask zero e h = sym (ap (λ (l : List ℕ). getD l 0 0) (byte-taken kind v mask e))

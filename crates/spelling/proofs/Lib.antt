@@ -1,6 +1,7 @@
 -- The laws of entries, counts and writing.
 pub mod StepLaws
 pub mod ClassLaws
+pub mod MemberLaws
 pub mod PlainLaws
 pub mod PartLaws
 pub mod TallyLaws

@@ -5,9 +5,9 @@ use mathlib.Core.Option.{none}
 use mathlib.Core.List.{List, [], _∷_, _++_, append-nil, append-assoc}
 use Prim.Native.Nat.{ℕ, zero, suc, _+_, _-_, _*_, _/_, _%_, _≤_, _<_, min}
 use native.Mathlib.Omega.{arith}
-use native.Mathlib.Nat.{mul-zero, mul-one, one-mul, mul-comm, mul-assoc, le-mul-of-pos-right, mul-le-mul, zero-add, div-one, div-zero, div-div-eq-div-mul, mul-div-cancel-left, mod-lt, mod-one}
+use native.Mathlib.Nat.{mul-zero, mul-one, one-mul, mul-comm, mul-assoc, le-mul-of-pos-right, mul-le-mul, zero-add, div-one, div-zero, div-div-eq-div-mul, mul-div-cancel-left, mod-lt, mod-one, le-refl}
 use lib.Dec.{eqb, ltb}
-use lib.ListN.{length, getD, take, drop, length-append}
+use lib.ListN.{length, getD, take, drop, length-append, length-drop}
 use lib.Seq.{take-all, take-at, drop-at, drop-drop, take-suc, drop-cons}
 use borrow.Author.Tests.{lt-ltb, le-ltb}
 use Rattle.meaning.specs.Tokens.{Mask, Token, Tokens, Lists, Byte, NotByte, MaskedByte, NotMaskedByte, Jump, Alternatives, nothing, _then_, neither, _or_}
@@ -15,9 +15,9 @@ use Rattle.picking.specs.Literals.{taken}
 use Rattle.picking.specs.Numbers.{countOf, count, countIn, prefixIn, prefixOf, prefixed, pieceOf, ending, pieceIn, literalAt}
 use Rattle.picking.proofs.NumberLaws.{pos-right}
 use Rattle.spelling.specs.Words.{maskIn, entryToken, firstEntry, flatIn, ends, inside, listsIn, tokenIn, width, tokensIn}
-use Rattle.spelling.proofs.StepLaws.{flat-end, flat-step, lists-end, lists-step, tokens-end, tokens-step, by-entries}
+use Rattle.spelling.proofs.StepLaws.{flat-end, flat-step, lists-end, lists-step, tokens-end, tokens-step, width-entry, by-entries}
 use Rattle.spelling.proofs.PlainLaws.{token-alternatives, token-entry}
-use Rattle.spelling.specs.Tallies.{Numerable}
+use Rattle.spelling.specs.Tallies.{Numerable, Past}
 use Rattle.spelling.proofs.ClassLaws.{byte-taken}
 use Rattle.spelling.proofs.TallyLaws.{entry-cases, entry-count, flat-length, token-count-entry, token-count-inside}
 
@@ -311,3 +311,45 @@ number-fits ws q n e z = let l : q % n < n = mod-lt q z in omega arith
 
 pub piece-is-byte : (ws : List ℕ) → (getD ws 0 0 ≡ 5 → ⊥) → (p q n b : ℕ) → n ≡ length (taken (firstEntry ws)) → b ≡ getD (taken (firstEntry ws)) (q % n) 0 → pieceOf (tokenIn ws) p q ≡ b ∷ []
 piece-is-byte ws f p q n b e g = piece-entry ws f p q ∙ ap (λ (x : ℕ). getD (taken (firstEntry ws)) (q % x) 0 ∷ []) (sym e) ∙ ap (λ (x : ℕ). x ∷ []) (sym g)
+
+-- ---- bytes passed over
+
+-- a byte at the front: one literal, four words
+module _ (ws : List ℕ) (h : 4 ≤ length ws) (e : getD ws 0 0 ≡ 0) where
+  no-alternatives : getD ws 0 0 ≡ 5 → ⊥
+  no-alternatives g = omega arith
+
+  one-taken : length (taken (firstEntry ws)) ≡ 1
+  one-taken = ap length (byte-taken (getD ws 0 0) (getD ws 1 0) (getD ws 2 0) e)
+
+  one-literal : countOf (tokenIn ws) ≡ 1
+  one-literal = token-count-entry ws no-alternatives ∙ one-taken
+
+  four-words : drop (width ws) ws ≡ drop 4 ws
+  four-words = ap (λ (n : ℕ). drop n ws) (width-entry ws no-alternatives)
+
+  pub byte-counted : count (tokensIn ws) ≡ count (tokensIn (drop 4 ws))
+  byte-counted =
+      tokens-count ws h ∙ ap₂ (λ (x : ℕ) (l : List ℕ). x * count (tokensIn l)) one-literal four-words ∙ one-mul (count (tokensIn (drop 4 ws)))
+
+  pub byte-numbered : (p k : ℕ) → prefixed (tokensIn ws) p k ≡ prefixed (tokensIn (drop 4 ws)) p k
+  byte-numbered p k =
+      prefixed-step ws h p k ∙ prefix-entry ws no-alternatives p (prefixed (tokensIn (drop (width ws) ws)) (p * countOf (tokenIn ws)) k)
+      ∙ ap (λ (x : ℕ). prefixed (tokensIn (drop (width ws) ws)) (p * countOf (tokenIn ws)) k / x) one-taken
+      ∙ div-one (prefixed (tokensIn (drop (width ws) ws)) (p * countOf (tokenIn ws)) k)
+      ∙ ap₂ (λ (x : ℕ) (l : List ℕ). prefixed (tokensIn l) (p * x) k) one-literal four-words ∙ ap (λ (x : ℕ). prefixed (tokensIn (drop 4 ws)) x k) (mul-one p)
+
+pub past-none : (ws : List ℕ) → Past ws ws
+past-none ws = record { short = le-refl (length ws); counted = refl; numbered = λ p k. refl }
+
+pub past-more : (ws rest : List ℕ) → Past ws rest → 4 ≤ length rest → getD rest 0 0 ≡ 0 → Past ws (drop 4 rest)
+past-more ws rest g h e =
+    let l : length rest ≤ length ws = g .short in
+    record {
+      short = omega (arith, length-drop 4 rest);
+      counted = g .counted ∙ byte-counted rest h e;
+      numbered = λ p k. g .numbered p k ∙ byte-numbered rest h e p k;
+    }
+
+pub past-numerable : (ws rest : List ℕ) → Past ws rest → (p : ℕ) → Numerable p (count (tokensIn ws)) → Numerable p (count (tokensIn rest))
+past-numerable ws rest g p = subst (λ (n : ℕ). Numerable p n) (g .counted)

@@ -105,6 +105,11 @@ pub width-inside : (ws : List ℕ) → getD ws 0 0 ≡ 5 → width ws ≡ ends w
 unfolding width
 width-inside ws e = rw (borrow.Author.Tests.eq-eqb (getD ws 0 0) 5 e)
 
+-- any other token has the words of one entry
+pub width-entry : (ws : List ℕ) → (getD ws 0 0 ≡ 5 → ⊥) → width ws ≡ 4
+unfolding width
+width-entry ws f = rw (borrow.Author.Tests.ne-eqb (getD ws 0 0) 5 f)
+
 -- what holds of fewer than four words, and of four and more where it holds of what follows four, holds of all
 pub by-entries : (P : List ℕ → Type 0) → ((ws : List ℕ) → length ws < 4 → P ws) → ((ws : List ℕ) → 4 ≤ length ws → P (drop 4 ws) → P ws) → (ws : List ℕ) → P ws
 by-entries P stop more ws = go (length ws) ws (le-refl (length ws))

@@ -4,7 +4,8 @@ use mathlib.Core.List.{List, _++_}
 use Prim.Native.Nat.{ℕ, _*_, _≤_, _<_, min}
 use lib.ListN.{length, drop}
 use Rattle.meaning.specs.Tokens.{Token}
-use Rattle.picking.specs.Numbers.{countOf, pieceOf}
+use Rattle.picking.specs.Numbers.{countOf, count, prefixed, pieceOf}
+use Rattle.spelling.specs.Words.{tokensIn}
 use Rattle.spelling.specs.declared.Tally.{Tally}
 
 -- so many literals and combinations, or 257 where there are more
@@ -16,6 +17,12 @@ pub record Tallied (t : Tally) (literals combinations : ℕ) : Type 0 where
 pub record Numerable (p n : ℕ) : Type 0 where
   pub some : 0 < p * n
   pub few : p * n ≤ 256
+
+-- what is left of words after bytes at their front: as many literals, with the same numbers of prefixes
+pub record Past (words rest : List ℕ) : Type 0 where
+  pub short : length rest ≤ length words
+  pub counted : count (tokensIn words) ≡ count (tokensIn rest)
+  pub numbered : (p k : ℕ) → prefixed (tokensIn words) p k ≡ prefixed (tokensIn rest) p k
 
 -- so many bytes are written at the front, and they are the literal; the others stay
 pub record Written (r : ℕ) (literal was is : List ℕ) : Type 0 where

@@ -5,15 +5,14 @@ ghost use mathlib.Core.Bool.{Bool};
 ghost use Prim.Native.Nat.{_+_, _*_, _-_, _≤_, _<_, _%_, min};
 ghost use lib.ListN.{length, getD, take, drop};
 ghost use Rattle.meaning.specs.Tokens.{MaskedByte, NotMaskedByte};
-ghost use Rattle.bitmap.specs.Bitmap.{Holds, membersFrom};
+ghost use Rattle.bitmap.specs.Bitmap.{Holds};
 ghost use Rattle.picking.specs.Literals.{taken, isPlain, plainList, plainLists, combinationsOf, combinations, combinationsIn, lengthOf, lengthIn, shortest};
 ghost use Rattle.picking.specs.Runs.{plain};
 ghost use Rattle.picking.specs.Numbers.{countOf, count, countIn, prefixIn, prefixOf, prefixed, pieceOf, pieceIn, ending, literalAt};
 ghost use Rattle.spelling.specs.Words.{maskIn, entryToken, firstEntry, flatIn, ends, inside, listsIn, tokenIn, width, tokensIn};
-ghost use Rattle.spelling.specs.Classes.{passes};
-ghost use Rattle.spelling.specs.Tallies.{Tallied, Numerable, Written, Pieced};
+ghost use Rattle.spelling.specs.Classes.{passes, gapped};
+ghost use Rattle.spelling.specs.Tallies.{Tallied, Numerable, Past, Written, Pieced};
 use bitmap::Bitmap;
-use bitmap::Member;
 
 // The bytes with the half that a mask leaves to be compared.
 fn half_of(x: u8, mask: u32) -> Bitmap
@@ -67,24 +66,6 @@ pub fn width_of(ws: &[u32]) -> usize
     if ws[0] == 5 { end_of(ws) } else { 4 }
 }
 
-// Member number j of a set of bytes.
-pub fn member_at(set: Bitmap, j: usize) -> u8
-    ensures { λ r. ⌜ r ≡ getD (membersFrom set 0) j 0 ⌝ }
-{
-    let mut from: usize = 0;
-    let mut left = j;
-    loop {
-        let Member::At(b) = set.next(from) else {
-            return 0;
-        };
-        if left == 0 {
-            return b;
-        }
-        left -= 1;
-        from = b as usize + 1;
-    }
-}
-
 // How many bytes an entry takes.
 pub fn taken_count(kind: u32, value: u32, mask: u32) -> usize
     ensures { λ r. ⌜ (r ≡ length (taken (entryToken kind value mask))) × (r ≤ 256) ⌝ }
@@ -96,15 +77,62 @@ pub fn taken_count(kind: u32, value: u32, mask: u32) -> usize
     n as usize
 }
 
-// Byte number j of those that an entry takes.
+// Number j of the numbers from 0 on without `gap` of them, from `from` on.
+fn past_gap(j: usize, from: usize, gap: usize) -> usize
+    requires { ⌜ (j ≤ 256) × (gap ≤ 16) ⌝ }
+    ensures { λ r. ⌜ r ≡ gapped j from gap ⌝ }
+{
+    if j < from { j } else { j + gap }
+}
+
+// Byte number j of those with the half that a mask leaves to be compared.
+fn half_at(x: u8, mask: u32, j: usize) -> u8
+    requires { ⌜ j < length (taken (MaskedByte (x % 16) (maskIn mask))) ⌝ }
+    ensures { λ r. ⌜ r ≡ getD (taken (MaskedByte (x % 16) (maskIn mask))) j 0 ⌝ }
+{
+    let h = (x % 16) as usize;
+    match mask {
+        0 => (16 * j + h) as u8,
+        1 => (16 * h + j) as u8,
+        _ => 0,
+    }
+}
+
+// Byte number j of all others: 15 of each 16, or all but 16 in a row.
+fn other_half_at(x: u8, mask: u32, j: usize) -> u8
+    requires { ⌜ j < length (taken (NotMaskedByte (x % 16) (maskIn mask))) ⌝ }
+    ensures { λ r. ⌜ r ≡ getD (taken (NotMaskedByte (x % 16) (maskIn mask))) j 0 ⌝ }
+{
+    let h = (x % 16) as usize;
+    match mask {
+        0 => {
+            let low = past_gap(j % 15, h, 1);
+            (16 * (j / 15) + low) as u8
+        }
+        1 => {
+            let b = past_gap(j, 16 * h, 16);
+            b as u8
+        }
+        _ => 0,
+    }
+}
+
+// Byte number j of those that an entry takes, told without a walk through them: each literal asks it of each of its classes.
 pub fn taken_at(kind: u32, value: u32, mask: u32, j: usize) -> u8
     requires { ⌜ j < length (taken (entryToken kind value mask)) ⌝ }
     ensures { λ r. ⌜ r ≡ getD (taken (entryToken kind value mask)) j 0 ⌝ }
 {
-    if kind == 0 {
-        return (value % 256) as u8;
+    let x = (value % 256) as u8;
+    match kind {
+        0 => x,
+        1 => {
+            let b = past_gap(j, x as usize, 1);
+            b as u8
+        }
+        2 => half_at(x, mask, j),
+        3 => other_half_at(x, mask, j),
+        _ => 0,
     }
-    member_at(class_of(kind, value, mask), j)
 }
 
 pub fn plain_entry(kind: u32, mask: u32) -> bool
@@ -328,19 +356,34 @@ fn prefix_of(ws: &[u32], p: usize, q: usize) -> usize
     q / n
 }
 
-// The same of all tokens: the last is asked first.
+// The words from the first token on that is no byte. A byte has one literal, so that no number changes at it.
+fn past_bytes(ws: &[u32]) -> &[u32]
+    ensures { λ r. ⌜ Past (now (ws .entry)) (now r) ⌝ }
+{
+    let mut rest = ws;
+    while 4 <= rest.len() {
+        if rest[0] != 0 {
+            return rest;
+        }
+        rest = &rest[4..];
+    }
+    rest
+}
+
+// The same of all tokens: the last is asked first. Bytes are passed over, or a long run of them would be walked, on the stack, for each class before it.
 fn prefixed_by(ws: &[u32], p: usize, k: usize) -> usize
     requires { ⌜ Numerable p (count (tokensIn (now ws))) ⌝ }
     ensures { λ r. ⌜ r ≡ prefixed (tokensIn (now (ws .entry))) p k ⌝ }
 {
-    if ws.len() < 4 {
+    let rest = past_bytes(ws);
+    if rest.len() < 4 {
         return k;
     }
-    let t = tally_token(ws);
-    let e = width_of(ws);
+    let t = tally_token(rest);
+    let e = width_of(rest);
     let after = p * t.literals;
-    let q = prefixed_by(&ws[e..], after, k);
-    prefix_of(ws, p, q)
+    let q = prefixed_by(&rest[e..], after, k);
+    prefix_of(rest, p, q)
 }
 
 // Writes literal number k of a list without alternatives.

@@ -17,6 +17,7 @@ use borrow.Fn.PlainCycle.{Measures, is, falls, and}
 use Rattle.spelling.proofs.prefixed_by.Reads as prefixed-by
 use Rattle.spelling.proofs.prefixed_by.Kinds as prefixed-by-kinds
 use Rattle.spelling.proofs.+prefixed_by.Lts-prefixed_by as prefixed-by-lts
+use Rattle.spelling.proofs.past_bytes.Reads as past-bytes-reads
 use Rattle.spelling.proofs.prefix_of.Reads as prefix-of-reads
 use Rattle.spelling.proofs.tally_token.Reads as tally-token-reads
 use Rattle.spelling.proofs.width_of.Reads as width-of-reads
@@ -35,10 +36,20 @@ prefixed-by-below t =
     and 1 prefixed-by-kinds.ps (falls 1 prefixed-by-kinds.ps _<_ μ-prefixed-by t) prefixed-by.Pre
 
 abbrev prefixed-by-cl : ℕ → prefixed-by-lts.Claims
-prefixed-by-cl t = (tally-token-reads.Asked, tally-token-reads.Learnt, width-of-reads.Asked, width-of-reads.Learnt, prefixed-by-below t, prefixed-by.Post, prefix-of-reads.Asked, prefix-of-reads.Learnt)
+prefixed-by-cl t = (past-bytes-reads.Asked, past-bytes-reads.Learnt, tally-token-reads.Asked, tally-token-reads.Learnt, width-of-reads.Asked, width-of-reads.Learnt, prefixed-by-below t, prefixed-by.Post, prefix-of-reads.Asked, prefix-of-reads.Learnt)
+
+-- what is left after the bytes is as numerable as all
+numerable : (t : ℕ) (c : prefixed-by-lts.After-past-bytes (prefixed-by-cl t) (prefixed-by-at t) prefixed-by.Post)
+    → Numerable (c .before .before .args .p) (count (tokensIn (c .past-bytes .result .now)))
+numerable t c =
+    spell.past-numerable (c .before .before .args .ws .now) (c .past-bytes .result .now) (c .past-bytes .ensures) (c .before .before .args .p)
+    (c .before .before .pre .1)
+
+prefixed-by-past-bytes-requires : (t : ℕ) → prefixed-by-lts.Need-past-bytes-requires (prefixed-by-cl t) (prefixed-by-at t) prefixed-by.Post
+prefixed-by-past-bytes-requires t c κs = search needs
 
 prefixed-by-returns : (t : ℕ) → prefixed-by-lts.Need-returns (prefixed-by-cl t) (prefixed-by-at t) prefixed-by.Post
-prefixed-by-returns t c = sym (spell.prefixed-end (c .before .before .args .ws .now) (c .if1 .taken) (c .before .before .args .p) (c .before .before .args .k))
+prefixed-by-returns t c = sym (c .before .past-bytes .ensures .numbered (c .before .before .before .args .p) (c .before .before .before .args .k) ∙ spell.prefixed-end (c .before .past-bytes .result .now) (c .if1 .taken) (c .before .before .before .args .p) (c .before .before .before .args .k))
 
 prefixed-by-tally-token-requires : (t : ℕ) → prefixed-by-lts.Need-tally-token-requires (prefixed-by-cl t) (prefixed-by-at t) prefixed-by.Post
 prefixed-by-tally-token-requires t c κs = search needs
@@ -47,29 +58,30 @@ prefixed-by-width-of-requires : (t : ℕ) → prefixed-by-lts.Need-width-of-requ
 prefixed-by-width-of-requires t c κs = search needs
 
 prefixed-by-mul-after : (t : ℕ) → prefixed-by-lts.Need-mul-after (prefixed-by-cl t) (prefixed-by-at t) prefixed-by.Post
-prefixed-by-mul-after t c = omega (arith, mul-le-mul (spell.prefixes-few (c .before .before .before .before .before .args .ws .now) (c .before .before .before .if1 .left) (c .before .before .before .before .before .args .p) (c .before .before .before .before .before .pre .1) (c .before .before .tally-token .result .literals) (c .before .before .tally-token .ensures .literals-are)) (spell.c-le (c .before .before .before .before .before .args .ws .now) (c .before .before .before .if1 .left) (c .before .before .before .before .before .args .p) (c .before .before .before .before .before .pre .1) (c .before .before .tally-token .result .literals) (c .before .before .tally-token .ensures .literals-are)))
+prefixed-by-mul-after t c = omega (arith, mul-le-mul (spell.prefixes-few (c .before .before .before .before .past-bytes .result .now) (c .before .before .before .if1 .left) (c .before .before .before .before .before .before .args .p) (numerable t (c .before .before .before .before)) (c .before .before .tally-token .result .literals) (c .before .before .tally-token .ensures .literals-are)) (spell.c-le (c .before .before .before .before .past-bytes .result .now) (c .before .before .before .if1 .left) (c .before .before .before .before .before .before .args .p) (numerable t (c .before .before .before .before)) (c .before .before .tally-token .result .literals) (c .before .before .tally-token .ensures .literals-are)))
 
 prefixed-by-mul-prefixed-by : (t : ℕ) → prefixed-by-lts.Need-mul-prefixed-by (prefixed-by-cl t) (prefixed-by-at t) prefixed-by.Post
-prefixed-by-mul-prefixed-by t c = omega (arith, (c .before .width-of .ensures), (step.width-le (c .before .before .before .before .before .args .ws .now) (c .before .before .before .if1 .left)))
+prefixed-by-mul-prefixed-by t c = omega (arith, (c .before .width-of .ensures), (step.width-le (c .before .before .before .before .past-bytes .result .now) (c .before .before .before .if1 .left)))
 
 prefixed-by-sub-prefixed-by : (t : ℕ) → prefixed-by-lts.Need-sub-prefixed-by (prefixed-by-cl t) (prefixed-by-at t) prefixed-by.Post
-prefixed-by-sub-prefixed-by t c = omega (arith, (c .before .width-of .ensures), (step.width-le (c .before .before .before .before .before .args .ws .now) (c .before .before .before .if1 .left)))
+prefixed-by-sub-prefixed-by t c = omega (arith, (c .before .width-of .ensures), (step.width-le (c .before .before .before .before .past-bytes .result .now) (c .before .before .before .if1 .left)))
 
 prefixed-by-part-prefixed-by-start : (t : ℕ) → prefixed-by-lts.Need-part-prefixed-by-start (prefixed-by-cl t) (prefixed-by-at t) prefixed-by.Post
-prefixed-by-part-prefixed-by-start t c = omega (arith, (c .before .width-of .ensures), (step.width-le (c .before .before .before .before .before .args .ws .now) (c .before .before .before .if1 .left)))
+prefixed-by-part-prefixed-by-start t c = omega (arith, (c .before .width-of .ensures), (step.width-le (c .before .before .before .before .past-bytes .result .now) (c .before .before .before .if1 .left)))
 
 prefixed-by-part-prefixed-by-end : (t : ℕ) → prefixed-by-lts.Need-part-prefixed-by-end (prefixed-by-cl t) (prefixed-by-at t) prefixed-by.Post
 prefixed-by-part-prefixed-by-end t c = search needs
 
 prefixed-by-prefixed-by-requires : (t : ℕ) → prefixed-by-lts.Need-prefixed-by-requires (prefixed-by-cl t) (prefixed-by-at t) prefixed-by.Post
-prefixed-by-prefixed-by-requires t c κs = (omega (arith, (c .before .before .before .before .before .before .pre .0), part.part-less (c .before .before .width-of .result) (c .before .before .before .before .before .before .args .ws .now) (omega (arith, (c .before .before .width-of .ensures), (step.width-long (c .before .before .before .before .before .before .args .ws .now) (c .before .before .before .before .if1 .left)))) (c .before .before .before .before .if1 .left)), subst (λ (l : List ℕ). Numerable (c .before .before .before .before .before .before .args .p * c .before .before .before .tally-token .result .literals) (count (tokensIn l))) (ap (λ (x : ℕ). drop x (c .before .before .before .before .before .before .args .ws .now)) (sym (c .before .before .width-of .ensures)) ∙ sym (part.part-all (c .before .before .width-of .result) (c .before .before .before .before .before .before .args .ws .now))) (spell.after-numerable (c .before .before .before .before .before .before .args .ws .now) (c .before .before .before .before .if1 .left) (c .before .before .before .before .before .before .args .p) (c .before .before .before .before .before .before .pre .1) (c .before .before .before .tally-token .result .literals) (c .before .before .before .tally-token .ensures .literals-are)))
+prefixed-by-prefixed-by-requires t c κs = (omega (arith, (c .before .before .before .before .before .before .before .pre .0), (c .before .before .before .before .before .past-bytes .ensures .short), part.part-less (c .before .before .width-of .result) (c .before .before .before .before .before .past-bytes .result .now) (omega (arith, (c .before .before .width-of .ensures), (step.width-long (c .before .before .before .before .before .past-bytes .result .now) (c .before .before .before .before .if1 .left)))) (c .before .before .before .before .if1 .left)), subst (λ (l : List ℕ). Numerable (c .before .before .before .before .before .before .before .args .p * c .before .before .before .tally-token .result .literals) (count (tokensIn l))) (ap (λ (x : ℕ). drop x (c .before .before .before .before .before .past-bytes .result .now)) (sym (c .before .before .width-of .ensures)) ∙ sym (part.part-all (c .before .before .width-of .result) (c .before .before .before .before .before .past-bytes .result .now))) (spell.after-numerable (c .before .before .before .before .before .past-bytes .result .now) (c .before .before .before .before .if1 .left) (c .before .before .before .before .before .before .before .args .p) (numerable t (c .before .before .before .before .before)) (c .before .before .before .tally-token .result .literals) (c .before .before .before .tally-token .ensures .literals-are)))
 
 prefixed-by-prefix-of-requires : (t : ℕ) → prefixed-by-lts.Need-prefix-of-requires (prefixed-by-cl t) (prefixed-by-at t) prefixed-by.Post
-prefixed-by-prefix-of-requires t c κs = ((c .before .before .before .before .before .if1 .left), spell.prefixes-few (c .before .before .before .before .before .before .before .args .ws .now) (c .before .before .before .before .before .if1 .left) (c .before .before .before .before .before .before .before .args .p) (c .before .before .before .before .before .before .before .pre .1) (c .before .before .before .before .tally-token .result .literals) (c .before .before .before .before .tally-token .ensures .literals-are), spell.token-few (c .before .before .before .before .before .before .before .args .ws .now) (c .before .before .before .before .before .if1 .left) (c .before .before .before .before .before .before .before .args .p) (c .before .before .before .before .before .before .before .pre .1) (c .before .before .before .before .tally-token .result .literals) (c .before .before .before .before .tally-token .ensures .literals-are))
+prefixed-by-prefix-of-requires t c κs = ((c .before .before .before .before .before .if1 .left), spell.prefixes-few (c .before .before .before .before .before .before .past-bytes .result .now) (c .before .before .before .before .before .if1 .left) (c .before .before .before .before .before .before .before .before .args .p) (numerable t (c .before .before .before .before .before .before)) (c .before .before .before .before .tally-token .result .literals) (c .before .before .before .before .tally-token .ensures .literals-are), spell.token-few (c .before .before .before .before .before .before .past-bytes .result .now) (c .before .before .before .before .before .if1 .left) (c .before .before .before .before .before .before .before .before .args .p) (numerable t (c .before .before .before .before .before .before)) (c .before .before .before .before .tally-token .result .literals) (c .before .before .before .before .tally-token .ensures .literals-are))
 
 prefixed-by-returns-2 : (t : ℕ) → prefixed-by-lts.Need-returns-2 (prefixed-by-cl t) (prefixed-by-at t) prefixed-by.Post
-prefixed-by-returns-2 t c = c .prefix-of .ensures ∙ ap (prefixOf (tokenIn (c .before .before .before .before .before .before .before .before .args .ws .now)) (c .before .before .before .before .before .before .before .before .args .p)) (c .before .prefixed-by .ensures ∙ ap₂ (λ (x : ℕ) (l : List ℕ). prefixed (tokensIn l) (c .before .before .before .before .before .before .before .before .args .p * x) (c .before .before .before .before .before .before .before .before .args .k)) (spell.token-exact (c .before .before .before .before .before .before .before .before .args .ws .now) (c .before .before .before .before .before .before .if1 .left) (c .before .before .before .before .before .before .before .before .args .p) (c .before .before .before .before .before .before .before .before .pre .1) (c .before .before .before .before .before .tally-token .result .literals) (c .before .before .before .before .before .tally-token .ensures .literals-are)) (sym (ap (λ (x : ℕ). drop x (c .before .before .before .before .before .before .before .before .args .ws .now)) (sym (c .before .before .before .before .width-of .ensures)) ∙ sym (part.part-all (c .before .before .before .before .width-of .result) (c .before .before .before .before .before .before .before .before .args .ws .now))))) ∙ sym (spell.prefixed-step (c .before .before .before .before .before .before .before .before .args .ws .now) (c .before .before .before .before .before .before .if1 .left) (c .before .before .before .before .before .before .before .before .args .p) (c .before .before .before .before .before .before .before .before .args .k))
+prefixed-by-returns-2 t c = c .prefix-of .ensures ∙ ap (prefixOf (tokenIn (c .before .before .before .before .before .before .before .past-bytes .result .now)) (c .before .before .before .before .before .before .before .before .before .args .p)) (c .before .prefixed-by .ensures ∙ ap₂ (λ (x : ℕ) (l : List ℕ). prefixed (tokensIn l) (c .before .before .before .before .before .before .before .before .before .args .p * x) (c .before .before .before .before .before .before .before .before .before .args .k)) (spell.token-exact (c .before .before .before .before .before .before .before .past-bytes .result .now) (c .before .before .before .before .before .before .if1 .left) (c .before .before .before .before .before .before .before .before .before .args .p) (numerable t (c .before .before .before .before .before .before .before)) (c .before .before .before .before .before .tally-token .result .literals) (c .before .before .before .before .before .tally-token .ensures .literals-are)) (sym (ap (λ (x : ℕ). drop x (c .before .before .before .before .before .before .before .past-bytes .result .now)) (sym (c .before .before .before .before .width-of .ensures)) ∙ sym (part.part-all (c .before .before .before .before .width-of .result) (c .before .before .before .before .before .before .before .past-bytes .result .now))))) ∙ sym (spell.prefixed-step (c .before .before .before .before .before .before .before .past-bytes .result .now) (c .before .before .before .before .before .before .if1 .left) (c .before .before .before .before .before .before .before .before .before .args .p) (c .before .before .before .before .before .before .before .before .before .args .k)) ∙ sym (c .before .before .before .before .before .before .before .past-bytes .ensures .numbered (c .before .before .before .before .before .before .before .before .before .args .p) (c .before .before .before .before .before .before .before .before .before .args .k))
 
 pub +prefixed-by-spec : {M : Type 1} → statement M
 +prefixed-by-spec = close μ-prefixed-by λ t. prefixed-by-lts.spec (prefixed-by-cl t) (prefixed-by-at t)
-    prefixed-by.Post (prefixed-by-returns t) (prefixed-by-tally-token-requires t) (prefixed-by-width-of-requires t) (prefixed-by-mul-after t) (prefixed-by-mul-prefixed-by t) (prefixed-by-sub-prefixed-by t) (prefixed-by-part-prefixed-by-start t) (prefixed-by-part-prefixed-by-end t) (prefixed-by-prefixed-by-requires t) (prefixed-by-prefix-of-requires t) (prefixed-by-returns-2 t)
+    prefixed-by.Post (prefixed-by-past-bytes-requires t)
+    (prefixed-by-returns t) (prefixed-by-tally-token-requires t) (prefixed-by-width-of-requires t) (prefixed-by-mul-after t) (prefixed-by-mul-prefixed-by t) (prefixed-by-sub-prefixed-by t) (prefixed-by-part-prefixed-by-start t) (prefixed-by-part-prefixed-by-end t) (prefixed-by-prefixed-by-requires t) (prefixed-by-prefix-of-requires t) (prefixed-by-returns-2 t)

@@ -1,0 +1,23 @@
+use Rattle.spelling.proofs.MemberLaws as law
+use mathlib.Core.Path.{sym}
+use native.Mathlib.Omega.{arith}
+use borrow.Author.Needs.{needs}
+use Rattle.spelling.proofs.past_gap.Statement.{statement}
+use Rattle.spelling.proofs.past_gap.Tie as tie
+use Rattle.spelling.proofs.past_gap.Reads as reads
+use Rattle.spelling.proofs.past_gap.Lts as lts
+
+-- src/lib.rt:85:30
+add-result : tie.Need-add-result
+add-result c = search needs
+
+-- src/lib.rt:81:1
+returns : tie.Need-returns
+returns c = sym (law.gapped-below _ _ (c .before .args .gap) (c .if1 .taken))
+
+-- src/lib.rt:81:1
+returns-2 : tie.Need-returns-2
+returns-2 c = sym (law.gapped-above _ _ _ (omega (arith, c .if1 .left)))
+
+pub past-gap-spec : {M : Type 1} → statement M
+past-gap-spec = tie.close (tie.spec add-result returns returns-2)
