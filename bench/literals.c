@@ -82,6 +82,9 @@ static void families(void)
     family("00 F? all along", "", "00F?", 256, "");
     family("F? F? all along", "", "F?F?", 256, "");
     family("?F ?E 00 (41) 00 all along", "", "?F?E00(41)00", 85, "");
+    family("F? ?F 41 all along", "", "F??F41", 170, "");
+    family("F? F? 41 in runs", "", "F?F?41?" "?", 127, "41");
+    family("F? F? (41) 00 (41) in runs", "", "F?F?(41)00(41)?" "?", 63, "41");
     family("(41) all along", "", "(41)", 256, "");
     family("(41|42|43) all along", "", "(41|42|43)", 128, "");
     family("(41|42|43|44) all along", "", "(41|42|43|44)", 102, "");

@@ -15,7 +15,7 @@ pub enum Wrote {
 }
 
 // A literal has at most as many bytes as there are entries, of which a pool holds 1,024.
-pub fn length_at(ws: &[u32], k: usize) -> usize
+fn length_at(ws: &[u32], k: usize) -> usize
     requires { ⌜ (length (now ws) ≤ 4096) × (k < count (tokensIn (now ws))) × (count (tokensIn (now ws)) ≤ 256) ⌝ }
     ensures { λ r. ⌜ (r ≡ length (literalAt (tokensIn (now (ws .entry))) k)) × (r ≤ 1024) ⌝ }
 {
