@@ -338,6 +338,12 @@ single-any ws h p n k num e l o =
     let below : prefixed R (p * countOf (tokenIn ws)) k < p * countOf (tokenIn ws) = prefixed-below R (p * countOf (tokenIn ws)) k (omega arith) in
     single-piece (tokenIn ws) one p 0 (prefixed R (p * countOf (tokenIn ws)) k) (omega arith) (omega arith)
 
+pub byte-piece : (ws : List ℕ) → getD ws 0 0 ≡ 0 → (p q : ℕ) → pieceOf (tokenIn ws) p q ≡ getD ws 1 0 % 256 ∷ []
+byte-piece ws e p q =
+    let f : getD ws 0 0 ≡ 5 → ⊥ = λ g. omega arith in
+    piece-entry ws f p q ∙ ap (λ (l : List ℕ). getD l (q % length l) 0 ∷ []) (byte-taken (getD ws 0 0) (getD ws 1 0) (getD ws 2 0) e)
+    ∙ ap (λ (x : ℕ). getD (getD ws 1 0 % 256 ∷ []) x 0 ∷ []) (mod-one q)
+
 pub token-some : (ws : List ℕ) → 4 ≤ length ws → (p : ℕ) → Numerable p (count (tokensIn ws)) → 0 < countOf (tokenIn ws)
 token-some ws h p num =
     let R = count (tokensIn (drop (width ws) ws)) in

@@ -425,7 +425,7 @@ fn write_branch(ls: &[u32], p: usize, q: usize, dst: &mut [u8]) -> usize
     0
 }
 
-// The same of the token at the front.
+// The same of the token at the front. Most are bytes, which need no division.
 fn write_piece(ws: &[u32], p: usize, q: usize, dst: &mut [u8]) -> usize
     requires { ⌜ Pieced p (tokenIn (now ws)) q (length (now ws)) (length (now dst)) ⌝ }
     ensures { λ r. ⌜ Written r (pieceOf (tokenIn (now (ws .entry))) p q) (now (dst .entry)) (now (dst .exit)) ⌝ }
@@ -433,6 +433,10 @@ fn write_piece(ws: &[u32], p: usize, q: usize, dst: &mut [u8]) -> usize
     if ws[0] == 5 {
         let e = end_of(ws);
         return write_branch(&ws[4..e], p, q, dst);
+    }
+    if ws[0] == 0 {
+        dst[0] = (ws[1] % 256) as u8;
+        return 1;
     }
     let n = taken_count(ws[0], ws[1], ws[2]);
     let b = taken_at(ws[0], ws[1], ws[2], q % n);
