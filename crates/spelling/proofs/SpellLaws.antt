@@ -7,13 +7,13 @@ use Prim.Native.Nat.{ℕ, zero, suc, _+_, _-_, _*_, _/_, _%_, _≤_, _<_, min}
 use native.Mathlib.Omega.{arith}
 use native.Mathlib.Nat.{mul-zero, mul-one, one-mul, mul-comm, mul-assoc, le-mul-of-pos-right, mul-le-mul, zero-add, div-one, div-zero, div-div-eq-div-mul, mul-div-cancel-left, mod-lt, mod-one, le-refl}
 use lib.Dec.{eqb, ltb}
-use lib.ListN.{length, getD, take, drop, length-append, length-drop}
+use lib.ListN.{length, getD, take, drop, replicate, length-append, length-drop, length-replicate}
 use lib.Seq.{take-all, take-at, drop-at, drop-drop, take-suc, drop-cons}
 use borrow.Author.Tests.{lt-ltb, le-ltb}
 use Rattle.meaning.specs.Tokens.{Mask, Token, Tokens, Lists, Byte, NotByte, MaskedByte, NotMaskedByte, Jump, Alternatives, nothing, _then_, neither, _or_}
 use Rattle.picking.specs.Literals.{taken}
 use Rattle.picking.specs.Numbers.{countOf, count, countIn, prefixIn, prefixOf, prefixed, pieceOf, ending, pieceIn, literalAt}
-use Rattle.picking.proofs.NumberLaws.{pos-right}
+use Rattle.picking.proofs.NumberLaws.{pos-right, spelt-numbered}
 use Rattle.spelling.specs.Words.{maskIn, entryToken, firstEntry, flatIn, ends, inside, listsIn, tokenIn, width, tokensIn}
 use Rattle.spelling.proofs.StepLaws.{flat-end, flat-step, lists-end, lists-step, tokens-end, tokens-step, width-entry, by-entries}
 use Rattle.spelling.proofs.PlainLaws.{token-alternatives, token-entry}
@@ -278,16 +278,71 @@ module _ (ws : List ℕ) (h : 4 ≤ length ws) (p : ℕ) (num : Numerable p (cou
         few = subst (λ (x : ℕ). x ≤ 256) (sym after-product) (num .few);
       }
 
+  pub after-below : (k : ℕ) → k < p * count (tokensIn ws) → k < p * c * count (tokensIn (drop (width ws) ws))
+  after-below k = subst (λ (x : ℕ). k < x) (sym after-product)
+
   pub c-le : c ≤ 257
   c-le = omega arith
 
--- a byte is the same for every number
-pub byte-any : (ws : List ℕ) → getD ws 0 0 ≡ 0 → (p q r : ℕ) → pieceOf (tokenIn ws) p q ≡ pieceOf (tokenIn ws) p r
-byte-any ws e p q r =
+-- ---- a token with one literal has it at every number
+
+prefixed-below : (ts : Tokens) (p k : ℕ) → k < p * count ts → prefixed ts p k < p
+prefixed-below ts p k =
+    subst (λ (x : ℕ). k < x * count ts → prefixed ts x k < x) (length-replicate p []) (λ h. spelt-numbered ts (replicate p []) k h .within)
+
+module _ (ts : Tokens) (ls : Lists) (p : ℕ) where
+  only-here : count ts ≡ 1 → (q : ℕ) → q < p → pieceIn (ts or ls) p q ≡ ending ts 1 0
+  unfolding pieceIn
+  only-here e q l =
+      let z : p * count ts ≡ p = ap (λ (x : ℕ). p * x) e ∙ mul-one p in
+      rw (lt-ltb q (p * count ts) (omega arith)) (ap (ending ts 1) (ap (λ (x : ℕ). q % x) e ∙ mod-one q))
+
+  only-later : count ts ≡ 0 → (q : ℕ) → pieceIn (ts or ls) p q ≡ pieceIn ls p q
+  unfolding pieceIn
+  only-later e q =
+      let z : p * count ts ≡ 0 = ap (λ (x : ℕ). p * x) e ∙ mul-zero p in
+      let s : q - p * count ts ≡ q = omega arith in
+      rw (le-ltb q (p * count ts) (omega arith)) (ap (pieceIn ls p) s)
+
+single-in : (ls : Lists) → countIn ls ≡ 1 → (p q r : ℕ) → q < p → r < p → pieceIn ls p q ≡ pieceIn ls p r
+unfolding count
+single-in neither e p q r h g = absurd (omega arith)
+single-in (ts or ls) e p q r h g = go (count ts) refl (λ d. single-in ls d p q r h g)
+  where
+    go : (n : ℕ) → count ts ≡ n → (countIn ls ≡ 1 → pieceIn ls p q ≡ pieceIn ls p r) → pieceIn (ts or ls) p q ≡ pieceIn (ts or ls) p r
+    go zero d f = only-later ts ls p d q ∙ f (omega arith) ∙ sym (only-later ts ls p d r)
+    go (suc n) d f = let one : count ts ≡ 1 = omega arith in only-here ts ls p one q h ∙ sym (only-here ts ls p one r g)
+
+single-piece : (t : Token) → countOf t ≡ 1 → (p q r : ℕ) → q < p → r < p → pieceOf t p q ≡ pieceOf t p r
+unfolding pieceOf countOf
+single-piece t e p q r h g = go t e
+  where
+    same : (n : ℕ) → n ≡ 1 → (l : List ℕ) → getD l (q % n) 0 ∷ [] ≡ getD l (r % n) 0 ∷ []
+    same n d l = ap (λ (x : ℕ). getD l x 0 ∷ []) (ap (λ (x : ℕ). q % x) d ∙ mod-one q ∙ sym (ap (λ (x : ℕ). r % x) d ∙ mod-one r))
+
+    go : (s : Token) → countOf s ≡ 1 → pieceOf s p q ≡ pieceOf s p r
+    go (Byte v) d = same (countOf (Byte v)) d (taken (Byte v))
+    go (NotByte v) d = same (countOf (NotByte v)) d (taken (NotByte v))
+    go (MaskedByte v m) d = same (countOf (MaskedByte v m)) d (taken (MaskedByte v m))
+    go (NotMaskedByte v m) d = same (countOf (NotMaskedByte v m)) d (taken (NotMaskedByte v m))
+    go (Jump a b) d = same (countOf (Jump a b)) d (taken (Jump a b))
+    go (Alternatives ls) d = single-in ls d p q r h g
+
+pub single-any : (ws : List ℕ) → 4 ≤ length ws → (p n k : ℕ) → Numerable p (count (tokensIn ws)) → n ≡ min 257 (countOf (tokenIn ws)) → k < p * count (tokensIn ws) → n ≡ 1
+    → pieceOf (tokenIn ws) p 0 ≡ pieceOf (tokenIn ws) p (prefixed (tokensIn (drop (width ws) ws)) (p * countOf (tokenIn ws)) k)
+single-any ws h p n k num e l o =
+    let R = tokensIn (drop (width ws) ws) in
+    let one : countOf (tokenIn ws) ≡ 1 = omega arith in
+    let same : p * countOf (tokenIn ws) ≡ p = ap (λ (x : ℕ). p * x) one ∙ mul-one p in
+    let product : p * countOf (tokenIn ws) * count R ≡ p * count (tokensIn ws) = mul-assoc p (countOf (tokenIn ws)) (count R) ∙ ap (λ (x : ℕ). p * x) (sym (tokens-count ws h)) in
+    let below : prefixed R (p * countOf (tokenIn ws)) k < p * countOf (tokenIn ws) = prefixed-below R (p * countOf (tokenIn ws)) k (omega arith) in
+    single-piece (tokenIn ws) one p 0 (prefixed R (p * countOf (tokenIn ws)) k) (omega arith) (omega arith)
+
+pub byte-piece : (ws : List ℕ) → getD ws 0 0 ≡ 0 → (p q : ℕ) → pieceOf (tokenIn ws) p q ≡ getD ws 1 0 % 256 ∷ []
+byte-piece ws e p q =
     let f : getD ws 0 0 ≡ 5 → ⊥ = λ g. omega arith in
-    let one : length (taken (firstEntry ws)) ≡ 1 = ap length (byte-taken (getD ws 0 0) (getD ws 1 0) (getD ws 2 0) e) in
-    let a : (x : ℕ) → x % length (taken (firstEntry ws)) ≡ 0 = λ x. ap (λ (n : ℕ). x % n) one ∙ mod-one x in
-    piece-entry ws f p q ∙ ap (λ (x : ℕ). getD (taken (firstEntry ws)) x 0 ∷ []) (a q ∙ sym (a r)) ∙ sym (piece-entry ws f p r)
+    piece-entry ws f p q ∙ ap (λ (l : List ℕ). getD l (q % length l) 0 ∷ []) (byte-taken (getD ws 0 0) (getD ws 1 0) (getD ws 2 0) e)
+    ∙ ap (λ (x : ℕ). getD (getD ws 1 0 % 256 ∷ []) x 0 ∷ []) (mod-one q)
 
 pub token-some : (ws : List ℕ) → 4 ≤ length ws → (p : ℕ) → Numerable p (count (tokensIn ws)) → 0 < countOf (tokenIn ws)
 token-some ws h p num =
@@ -298,6 +353,9 @@ token-some ws h p num =
 
 pub entry-some : (ws : List ℕ) → (getD ws 0 0 ≡ 5 → ⊥) → (n : ℕ) → n ≡ length (taken (firstEntry ws)) → 0 < countOf (tokenIn ws) → 0 < n
 entry-some ws f n e h = let a = token-count-entry ws f in omega arith
+
+pub one-below : (n k : ℕ) → k < n → k < 1 * n
+one-below n k h = let e : 1 * n ≡ n = one-mul n in omega arith
 
 pub one-numerable : (n k : ℕ) → k < n → n ≤ 256 → Numerable 1 n
 one-numerable n k h l = let e : 1 * n ≡ n = one-mul n in record { some = (omega arith); few = (omega arith) }

@@ -425,7 +425,7 @@ fn write_branch(ls: &[u32], p: usize, q: usize, dst: &mut [u8]) -> usize
     0
 }
 
-// The same of the token at the front.
+// The same of the token at the front. Most are bytes, which need no division.
 fn write_piece(ws: &[u32], p: usize, q: usize, dst: &mut [u8]) -> usize
     requires { ⌜ Pieced p (tokenIn (now ws)) q (length (now ws)) (length (now dst)) ⌝ }
     ensures { λ r. ⌜ Written r (pieceOf (tokenIn (now (ws .entry))) p q) (now (dst .entry)) (now (dst .exit)) ⌝ }
@@ -434,23 +434,27 @@ fn write_piece(ws: &[u32], p: usize, q: usize, dst: &mut [u8]) -> usize
         let e = end_of(ws);
         return write_branch(&ws[4..e], p, q, dst);
     }
+    if ws[0] == 0 {
+        dst[0] = (ws[1] % 256) as u8;
+        return 1;
+    }
     let n = taken_count(ws[0], ws[1], ws[2]);
     let b = taken_at(ws[0], ws[1], ws[2], q % n);
     dst[0] = b;
     1
 }
 
-// The number of the prefix, token at the front and all, with which literal number k begins. A byte is the same for every number.
-fn number_of(ws: &[u32], p: usize, k: usize) -> usize
-    requires { ⌜ (4 ≤ length (now ws)) × Numerable p (count (tokensIn (now ws))) ⌝ }
+// The number of the prefix, token at the front and all, with which literal number k begins. A token with one literal has it at every number; among
+// 256 literals eight tokens at most have more, so that few walk through all tokens after them.
+fn number_of(ws: &[u32], p: usize, n: usize, k: usize) -> usize
+    requires { ⌜ (4 ≤ length (now ws)) × Numerable p (count (tokensIn (now ws))) × (n ≡ min 257 (countOf (tokenIn (now ws)))) × (k < p * count (tokensIn (now ws))) ⌝ }
     ensures { λ r. ⌜ pieceOf (tokenIn (now (ws .entry))) p r ≡ pieceOf (tokenIn (now (ws .entry))) p (prefixed (tokensIn (drop (width (now (ws .entry))) (now (ws .entry)))) (p * countOf (tokenIn (now (ws .entry)))) k) ⌝ }
 {
-    if ws[0] == 0 {
+    if n == 1 {
         return 0;
     }
-    let t = tally_token(ws);
     let e = width_of(ws);
-    prefixed_by(&ws[e..], p * t.literals, k)
+    prefixed_by(&ws[e..], p * n, k)
 }
 
 // Writes literal number k of tokens.
@@ -463,7 +467,7 @@ pub fn write_literal(ws: &[u32], k: usize, dst: &mut [u8]) -> usize
     let mut i = 0;
     while 4 <= rest.len() {
         let t = tally_token(rest);
-        let q = number_of(rest, p, k);
+        let q = number_of(rest, p, t.literals, k);
         let n = write_piece(rest, p, q, &mut dst[i..]);
         i += n;
         p = p * t.literals;

@@ -26,14 +26,14 @@ use Rattle.spelling.proofs.width_of.Reads as width-of-reads
 use Rattle.spelling.proofs.write_piece.Reads as write-piece-reads
 
 abbrev Inv-loop : tie.InvT-loop
-Inv-loop ws k dst₀ rest₀ p₀ i₀ dst rest p i = (length rest ≤ length ws) × Numerable p (count (tokensIn rest)) × Halfway (literalAt (tokensIn ws) k) (ending (tokensIn rest) p k) i dst₀ dst
+Inv-loop ws k dst₀ rest₀ p₀ i₀ dst rest p i = (length rest ≤ length ws) × Numerable p (count (tokensIn rest)) × Halfway (literalAt (tokensIn ws) k) (ending (tokensIn rest) p k) i dst₀ dst × (k < p * count (tokensIn rest))
 
 abbrev μ-loop : tie.MeasureT-loop
 μ-loop ws k dst₀ rest₀ p₀ i₀ dst rest p i = length rest
 
 -- src/lib.rt:420:5
 loop-holds : tie.Need-loop-holds Inv-loop μ-loop
-loop-holds c = (omega arith, spell.one-numerable _ (c .before .before .args .k) ((c .before .before .pre) .0) ((c .before .before .pre) .1), write.nothing-written _ _)
+loop-holds c = (omega arith, spell.one-numerable _ (c .before .before .args .k) ((c .before .before .pre) .0) ((c .before .before .pre) .1), write.nothing-written _ _, spell.one-below _ (c .before .before .args .k) ((c .before .before .pre) .0))
 
 -- src/lib.rt:421:13
 tally-token-requires : tie.Need-tally-token-requires Inv-loop μ-loop
@@ -41,7 +41,7 @@ tally-token-requires c κs = search needs
 
 -- src/lib.rt:422:13
 number-of-requires : tie.Need-number-of-requires Inv-loop μ-loop
-number-of-requires c κs = ((c .before .loop-test .taken), c .before .before .loop .inv .1)
+number-of-requires c κs = ((c .before .loop-test .taken), c .before .before .loop .inv .1, c .tally-token .ensures .literals-are, c .before .before .loop .inv .3)
 
 -- src/lib.rt:423:41
 sub-write-piece : tie.Need-sub-write-piece Inv-loop μ-loop
@@ -93,7 +93,7 @@ loop-less c = part.part-less _ (c .before .before .before .before .before .befor
 
 -- src/lib.rt:420:5
 loop-again : tie.Need-loop-again Inv-loop μ-loop
-loop-again c = (omega (arith, part.part-le (c .before .width-of .result) (c .before .before .before .before .before .before .before .before .before .before .loop .rest .now)), subst (λ (l : List ℕ). Numerable (c .before .before .before .before .before .before .before .before .before .before .loop .p * c .before .before .before .before .before .before .before .before .tally-token .result .literals) (count (tokensIn l))) (ap (λ (x : ℕ). drop x (c .before .before .before .before .before .before .before .before .before .before .loop .rest .now)) (sym (c .before .width-of .ensures)) ∙ sym (part.part-all (c .before .width-of .result) (c .before .before .before .before .before .before .before .before .before .before .loop .rest .now))) (spell.after-numerable (c .before .before .before .before .before .before .before .before .before .before .loop .rest .now) (c .before .before .before .before .before .before .before .before .before .loop-test .taken) (c .before .before .before .before .before .before .before .before .before .before .loop .p) (c .before .before .before .before .before .before .before .before .before .before .loop .inv .1) (c .before .before .before .before .before .before .before .before .tally-token .result .literals) (c .before .before .before .before .before .before .before .before .tally-token .ensures .literals-are)), subst₂ (λ (l : List ℕ) (x : ℕ). Halfway (literalAt (tokensIn (c .before .before .before .before .before .before .before .before .before .before .before .before .before .args .ws .now)) (c .before .before .before .before .before .before .before .before .before .before .before .before .before .args .k)) (ending (tokensIn l) (c .before .before .before .before .before .before .before .before .before .before .loop .p * x) (c .before .before .before .before .before .before .before .before .before .before .before .before .before .args .k)) (c .before .before .before .before .before .before .before .before .before .before .loop .i + c .before .before .before .before .before .write-piece .result) (c .before .before .before .before .before .before .before .before .before .before .before .before .before .args .dst .now) (putMid (c .before .before .before .before .before .before .before .before .before .before .loop .i) (length (c .before .before .before .before .before .before .before .before .before .before .loop .dst) - c .before .before .before .before .before .before .before .before .before .before .loop .i) (c .before .before .before .before .before .before .before .before .before .before .loop .dst) (c .before .before .before .before .before .write-piece .last .1 .1 .1 .0))) (ap (λ (x : ℕ). drop x (c .before .before .before .before .before .before .before .before .before .before .loop .rest .now)) (sym (c .before .width-of .ensures)) ∙ sym (part.part-all (c .before .width-of .result) (c .before .before .before .before .before .before .before .before .before .before .loop .rest .now))) (sym (spell.token-exact (c .before .before .before .before .before .before .before .before .before .before .loop .rest .now) (c .before .before .before .before .before .before .before .before .before .loop-test .taken) (c .before .before .before .before .before .before .before .before .before .before .loop .p) (c .before .before .before .before .before .before .before .before .before .before .loop .inv .1) (c .before .before .before .before .before .before .before .before .tally-token .result .literals) (c .before .before .before .before .before .before .before .before .tally-token .ensures .literals-are))) (write.piece-more (literalAt (tokensIn (c .before .before .before .before .before .before .before .before .before .before .before .before .before .args .ws .now)) (c .before .before .before .before .before .before .before .before .before .before .before .before .before .args .k)) (pieceOf (tokenIn (c .before .before .before .before .before .before .before .before .before .before .loop .rest .now)) (c .before .before .before .before .before .before .before .before .before .before .loop .p) (c .before .before .before .before .before .before .before .number-of .result)) (ending (tokensIn (drop (width (c .before .before .before .before .before .before .before .before .before .before .loop .rest .now)) (c .before .before .before .before .before .before .before .before .before .before .loop .rest .now))) (c .before .before .before .before .before .before .before .before .before .before .loop .p * countOf (tokenIn (c .before .before .before .before .before .before .before .before .before .before .loop .rest .now))) (c .before .before .before .before .before .before .before .before .before .before .before .before .before .args .k)) (c .before .before .before .before .before .write-piece .result) (c .before .before .before .before .before .before .before .before .before .before .loop .i) (c .before .before .before .before .before .before .before .before .before .before .before .before .before .args .dst .now) (c .before .before .before .before .before .before .before .before .before .before .loop .dst) (c .before .before .before .before .before .write-piece .last .1 .1 .1 .0) (subst (λ (l : List ℕ). Halfway (literalAt (tokensIn (c .before .before .before .before .before .before .before .before .before .before .before .before .before .args .ws .now)) (c .before .before .before .before .before .before .before .before .before .before .before .before .before .args .k)) l (c .before .before .before .before .before .before .before .before .before .before .loop .i) (c .before .before .before .before .before .before .before .before .before .before .before .before .before .args .dst .now) (c .before .before .before .before .before .before .before .before .before .before .loop .dst)) (spell.ending-step (c .before .before .before .before .before .before .before .before .before .before .loop .rest .now) (c .before .before .before .before .before .before .before .before .before .loop-test .taken) (c .before .before .before .before .before .before .before .before .before .before .loop .p) (c .before .before .before .before .before .before .before .before .before .before .before .before .before .args .k) ∙ ap (λ (l : List ℕ). l ++ (ending (tokensIn (drop (width (c .before .before .before .before .before .before .before .before .before .before .loop .rest .now)) (c .before .before .before .before .before .before .before .before .before .before .loop .rest .now))) (c .before .before .before .before .before .before .before .before .before .before .loop .p * countOf (tokenIn (c .before .before .before .before .before .before .before .before .before .before .loop .rest .now))) (c .before .before .before .before .before .before .before .before .before .before .before .before .before .args .k))) (sym (c .before .before .before .before .before .before .before .number-of .ensures))) (c .before .before .before .before .before .before .before .before .before .before .loop .inv .2)) (c .before .before .before .before .before .write-piece .ensures)))
+loop-again c = (omega (arith, part.part-le (c .before .width-of .result) (c .before .before .before .before .before .before .before .before .before .before .loop .rest .now)), subst (λ (l : List ℕ). Numerable (c .before .before .before .before .before .before .before .before .before .before .loop .p * c .before .before .before .before .before .before .before .before .tally-token .result .literals) (count (tokensIn l))) (ap (λ (x : ℕ). drop x (c .before .before .before .before .before .before .before .before .before .before .loop .rest .now)) (sym (c .before .width-of .ensures)) ∙ sym (part.part-all (c .before .width-of .result) (c .before .before .before .before .before .before .before .before .before .before .loop .rest .now))) (spell.after-numerable (c .before .before .before .before .before .before .before .before .before .before .loop .rest .now) (c .before .before .before .before .before .before .before .before .before .loop-test .taken) (c .before .before .before .before .before .before .before .before .before .before .loop .p) (c .before .before .before .before .before .before .before .before .before .before .loop .inv .1) (c .before .before .before .before .before .before .before .before .tally-token .result .literals) (c .before .before .before .before .before .before .before .before .tally-token .ensures .literals-are)), subst₂ (λ (l : List ℕ) (x : ℕ). Halfway (literalAt (tokensIn (c .before .before .before .before .before .before .before .before .before .before .before .before .before .args .ws .now)) (c .before .before .before .before .before .before .before .before .before .before .before .before .before .args .k)) (ending (tokensIn l) (c .before .before .before .before .before .before .before .before .before .before .loop .p * x) (c .before .before .before .before .before .before .before .before .before .before .before .before .before .args .k)) (c .before .before .before .before .before .before .before .before .before .before .loop .i + c .before .before .before .before .before .write-piece .result) (c .before .before .before .before .before .before .before .before .before .before .before .before .before .args .dst .now) (putMid (c .before .before .before .before .before .before .before .before .before .before .loop .i) (length (c .before .before .before .before .before .before .before .before .before .before .loop .dst) - c .before .before .before .before .before .before .before .before .before .before .loop .i) (c .before .before .before .before .before .before .before .before .before .before .loop .dst) (c .before .before .before .before .before .write-piece .last .1 .1 .1 .0))) (ap (λ (x : ℕ). drop x (c .before .before .before .before .before .before .before .before .before .before .loop .rest .now)) (sym (c .before .width-of .ensures)) ∙ sym (part.part-all (c .before .width-of .result) (c .before .before .before .before .before .before .before .before .before .before .loop .rest .now))) (sym (spell.token-exact (c .before .before .before .before .before .before .before .before .before .before .loop .rest .now) (c .before .before .before .before .before .before .before .before .before .loop-test .taken) (c .before .before .before .before .before .before .before .before .before .before .loop .p) (c .before .before .before .before .before .before .before .before .before .before .loop .inv .1) (c .before .before .before .before .before .before .before .before .tally-token .result .literals) (c .before .before .before .before .before .before .before .before .tally-token .ensures .literals-are))) (write.piece-more (literalAt (tokensIn (c .before .before .before .before .before .before .before .before .before .before .before .before .before .args .ws .now)) (c .before .before .before .before .before .before .before .before .before .before .before .before .before .args .k)) (pieceOf (tokenIn (c .before .before .before .before .before .before .before .before .before .before .loop .rest .now)) (c .before .before .before .before .before .before .before .before .before .before .loop .p) (c .before .before .before .before .before .before .before .number-of .result)) (ending (tokensIn (drop (width (c .before .before .before .before .before .before .before .before .before .before .loop .rest .now)) (c .before .before .before .before .before .before .before .before .before .before .loop .rest .now))) (c .before .before .before .before .before .before .before .before .before .before .loop .p * countOf (tokenIn (c .before .before .before .before .before .before .before .before .before .before .loop .rest .now))) (c .before .before .before .before .before .before .before .before .before .before .before .before .before .args .k)) (c .before .before .before .before .before .write-piece .result) (c .before .before .before .before .before .before .before .before .before .before .loop .i) (c .before .before .before .before .before .before .before .before .before .before .before .before .before .args .dst .now) (c .before .before .before .before .before .before .before .before .before .before .loop .dst) (c .before .before .before .before .before .write-piece .last .1 .1 .1 .0) (subst (λ (l : List ℕ). Halfway (literalAt (tokensIn (c .before .before .before .before .before .before .before .before .before .before .before .before .before .args .ws .now)) (c .before .before .before .before .before .before .before .before .before .before .before .before .before .args .k)) l (c .before .before .before .before .before .before .before .before .before .before .loop .i) (c .before .before .before .before .before .before .before .before .before .before .before .before .before .args .dst .now) (c .before .before .before .before .before .before .before .before .before .before .loop .dst)) (spell.ending-step (c .before .before .before .before .before .before .before .before .before .before .loop .rest .now) (c .before .before .before .before .before .before .before .before .before .loop-test .taken) (c .before .before .before .before .before .before .before .before .before .before .loop .p) (c .before .before .before .before .before .before .before .before .before .before .before .before .before .args .k) ∙ ap (λ (l : List ℕ). l ++ (ending (tokensIn (drop (width (c .before .before .before .before .before .before .before .before .before .before .loop .rest .now)) (c .before .before .before .before .before .before .before .before .before .before .loop .rest .now))) (c .before .before .before .before .before .before .before .before .before .before .loop .p * countOf (tokenIn (c .before .before .before .before .before .before .before .before .before .before .loop .rest .now))) (c .before .before .before .before .before .before .before .before .before .before .before .before .before .args .k))) (sym (c .before .before .before .before .before .before .before .number-of .ensures))) (c .before .before .before .before .before .before .before .before .before .before .loop .inv .2)) (c .before .before .before .before .before .write-piece .ensures)), subst (λ (l : List ℕ). c .before .before .before .before .before .before .before .before .before .before .before .before .before .args .k < c .before .before .before .before .before .before .before .before .before .before .loop .p * c .before .before .before .before .before .before .before .before .tally-token .result .literals * count (tokensIn l)) (ap (λ (x : ℕ). drop x (c .before .before .before .before .before .before .before .before .before .before .loop .rest .now)) (sym (c .before .width-of .ensures)) ∙ sym (part.part-all (c .before .width-of .result) (c .before .before .before .before .before .before .before .before .before .before .loop .rest .now))) (spell.after-below (c .before .before .before .before .before .before .before .before .before .before .loop .rest .now) (c .before .before .before .before .before .before .before .before .before .loop-test .taken) (c .before .before .before .before .before .before .before .before .before .before .loop .p) (c .before .before .before .before .before .before .before .before .before .before .loop .inv .1) (c .before .before .before .before .before .before .before .before .tally-token .result .literals) (c .before .before .before .before .before .before .before .before .tally-token .ensures .literals-are) (c .before .before .before .before .before .before .before .before .before .before .before .before .before .args .k) (c .before .before .before .before .before .before .before .before .before .before .loop .inv .3)))
 
 -- src/lib.rt:413:1
 same-length : tie.Need-same-length Inv-loop μ-loop
