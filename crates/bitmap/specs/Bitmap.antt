@@ -6,8 +6,6 @@ use Prim.Native.Nat.{ℕ, zero, suc, _+_, _-_, _/_, _%_, _^_, _≤_, _<_}
 use lib.Dec.{eqb}
 use lib.ListN.{getD}
 use Rattle.bitmap.specs.declared.Bitmap.{Bitmap}
-use Rattle.bitmap.specs.declared.Member.{Member}
-use Rattle.bitmap.specs.declared.Member.the-variants.{At, Nothing}
 
 -- bit j of a number is one
 unfoldable pub bit : ℕ → ℕ → Bool
@@ -29,11 +27,6 @@ tally p (suc n) = tally p n + cond (p n) 1 0
 -- how many of the 256 bytes are members
 unfoldable pub size : Bitmap → ℕ
 size m = tally (has m) 256
-
--- the answer is the smallest member at or above v, or that there is none
-abbrev pub IsNext : Bitmap → ℕ → Member → Type 0
-IsNext m v (At b) = (v ≤ b) × (b < 256) × (has m b ≡ true) × ((u : ℕ) → v ≤ u → u < b → has m u ≡ false)
-IsNext m v Nothing = (u : ℕ) → v ≤ u → u < 256 → has m u ≡ false
 
 -- those of the n numbers from v on that pass the test, rising
 unfoldable pub rising : (ℕ → Bool) → ℕ → ℕ → List ℕ

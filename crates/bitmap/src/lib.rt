@@ -3,17 +3,11 @@ ghost use mathlib.Core.Path.{_≡_};
 ghost use mathlib.Core.Bool.{false, not, _||_};
 ghost use Prim.Native.Nat.{_/_, _%_, _≤_};
 ghost use lib.Dec.{eqb};
-ghost use Rattle.bitmap.specs.Bitmap.{bit, tally, has, Holds, size, IsNext};
+ghost use Rattle.bitmap.specs.Bitmap.{bit, tally, has, Holds, size};
 
 // A set of bytes, one bit each.
 pub struct Bitmap {
     pub words: [u64; Bitmap::WORDS],
-}
-
-// What a search among the members finds.
-pub enum Member {
-    At(u8),
-    Nothing,
 }
 
 impl Bitmap {
@@ -102,21 +96,6 @@ impl Bitmap {
         ensures { λ r. ⌜ Holds r (λ v. not (eqb v b)) ⌝ }
     {
         Bitmap::new().with(b).invert()
-    }
-
-    // The smallest member at or above `from`.
-    pub fn next(self, from: usize) -> Member
-        ensures { λ r. ⌜ IsNext self from r ⌝ }
-    {
-        let mut b = from;
-        while b < 256 {
-            let v = b as u8;
-            if self.get(v) {
-                return Member::At(v);
-            }
-            b += 1;
-        }
-        Member::Nothing
     }
 }
 
