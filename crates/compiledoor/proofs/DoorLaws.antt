@@ -18,38 +18,17 @@ use Rattle.meaning.specs.Entries.{entries}
 use Rattle.reading.specs.Lists.{Outcome, accepted, rejected, reading}
 use Rattle.reading.proofs.PieceLaws.{never}
 use Rattle.reading.proofs.TextLaws.{accepted-words}
-use Rattle.reading.proofs.Kept.{Keeps, accepted-keeps}
+use Rattle.reading.proofs.SpelledValues.{accepted-spelled}
 use Rattle.readdoor.specs.declared.ReadAnswer.{ReadAnswer}
 use Rattle.readdoor.specs.declared.ReadAnswer.the-variants as reads
 use Rattle.readdoor.specs.Door as read
 use Rattle.readdoor.proofs.Got as into
 use Rattle.compiling.specs.Compile.{Compiled, compiled, refused, compile}
-use Rattle.compiling.proofs.TokenSpans.{any-spelled}
 use Rattle.compiler.specs.declared.Made.{Made}
 use Rattle.compiler.specs.declared.Made.the-variants as made
 use Rattle.compiler.specs.Made.{Makes}
 use Rattle.compiler.specs.Walks.{Entered}
 use Rattle.compiledoor.specs.Door.{Said, gives, refuses, said, madeSays, compiledSays, outcomeSays, compiledForward, compiledReverse, outcomeForward, outcomeReverse, room, compileSays, forwardLeaves, reverseLeaves, TextMakes}
-
--- what a text spells
-spelled-keeps : Keeps SpelledOne Spelled SpelledFirst
-unfolding Spelled
-spelled-keeps = record {
-  byte = λ v h. h;
-  not-byte = λ v h. h;
-  masked-byte = λ v m h. h;
-  not-masked = λ v m h. h;
-  open-jump = λ from. tt;
-  jump = λ from to h. h;
-  alternatives = λ ls h. h;
-  empty = tt;
-  next = λ tok ts a b. (a, b);
-  last-list = λ ts a. (a, tt);
-  next-list = λ ts ls a b. (a, any-spelled ls b);
-}
-
-pub accepted-spelled : (t : List ℕ) (e : ℕ) (ts : Tokens) → reading t ≡ accepted e ts → Spelled ts
-accepted-spelled t e ts h = accepted-keeps SpelledOne Spelled SpelledFirst spelled-keeps t e ts h
 
 -- what was read stands in the pool
 pub record Got (t q : List ℕ) (e u : ℕ) : Type 0 where

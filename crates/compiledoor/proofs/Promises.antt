@@ -17,7 +17,7 @@ use Rattle.compiling.proofs.CompileLaws as law
 use Rattle.compiledoor.specs.declared.CompileAnswer.{CompileAnswer}
 use Rattle.compiledoor.specs.declared.CompileAnswer.the-variants.{Compiled, Refused}
 use Rattle.compiledoor.specs.Door.{said, compileSays, forwardLeaves, reverseLeaves}
-use Rattle.compiledoor.proofs.DoorLaws.{accepted-spelled}
+use Rattle.reading.proofs.SpelledValues.{accepted-spelled}
 
 -- of a text that is read as the tokens ts and compiled to the words f and r
 module _ (t : List ℕ) (e : ℕ) (ts : Tokens) (f r : List ℕ) (read : reading t ≡ accepted e ts) (done : compile ts ≡ compiled f r) where

@@ -10,6 +10,7 @@ use lib.Dec.{ltb}
 use lib.ListN.{length}
 use borrow.Author.Tests.{ltb-false}
 use Rattle.meaning.specs.Tokens.{left, right, all, Token, Tokens, Lists, Byte, NotByte, MaskedByte, NotMaskedByte, Jump, Alternatives, nothing, _then_, neither, _or_, Agrees, One, Within, Matches, Spans, MatchesOne}
+use Rattle.meaning.proofs.ValueLaws.{any-spelled}
 use Rattle.meaning.specs.Values.{Bytes, SpelledOne, Spelled, SpelledFirst, SpelledMore}
 use Rattle.meaning.specs.Programs.{Test, byte, mask, negatedMask, pass, Prog, one, end, SpanOf, Span, SpanIn}
 use Rattle.compiling.specs.Compiling.{itemOf, added, branchesFor, add, forwardProgram}
@@ -70,11 +71,6 @@ jump-item from to s l = go (ltb from to) refl
     go : (t : Bool) → ltb from to ≡ t → SpanOf (itemOf (Jump from (some to))) s ↔ Within from (some to) (length s)
     go true e = rw e (λ h. h, λ h. h)
     go false e = let g : to ≤ from = ltb-false from to e in rw e (λ h. omega arith, λ h. omega arith)
-
-pub any-spelled : (ls : Lists) → SpelledFirst ls → SpelledMore ls
-unfolding SpelledOne
-any-spelled neither h = absurd h
-any-spelled (ts or ls) h = h
 
 -- nothing stood before
 from-end : (P : List ℕ → Type 0) (s : List ℕ) → (a : List ℕ) × (b : List ℕ) × (s ≡ a ++ b) × Span end a × P b → P s

@@ -18,7 +18,7 @@ use Rattle.meaning.proofs.SoundLaws.{and-left, and-right, false-true}
 use Rattle.compiling.specs.ProgramWords.{nodes}
 use Rattle.compiling.specs.Compiling.{jumpLimit, itemOf, added, branchesFor, backwards}
 use Rattle.compiling.specs.Compile.{plainToken, plainTokens, plainLists, simpleToken}
-use Rattle.compiling.proofs.TokenSpans.{any-spelled}
+use Rattle.meaning.proofs.ValueLaws.{any-spelled}
 use Rattle.compiling.proofs.CountLaws.{backwards-long-of, backwards-long}
 use Rattle.emit.specs.Items.{maskItem, notMaskItem, jumpItem, entryItem, placeOf}
 use Rattle.emit.specs.Lists.{addedTo, entryAt, listItem, listProgram, branchesAt, altAt, tokenAt, tokenItem, tokensProgram, sizeAt, Stands, offsets, Outlined}

@@ -4,11 +4,10 @@ use mathlib.Core.Bool.{true}
 use mathlib.Core.List.{List, [], _∷_}
 use Prim.Native.Nat.{ℕ, _≤_}
 use lib.ListN.{length}
-use Rattle.meaning.specs.Tokens.{Tokens, Lists, neither, _or_}
-use Rattle.meaning.specs.Values.{SpelledOne, Spelled, SpelledFirst, SpelledMore}
+use Rattle.meaning.specs.Tokens.{Tokens}
 use Rattle.meaning.specs.Entries.{entries}
 use Rattle.reading.specs.Lists.{accepted, reading}
-use Rattle.reading.proofs.Kept.{Keeps, accepted-keeps}
+use Rattle.reading.proofs.SpelledValues.{accepted-spelled}
 use Rattle.picking.specs.Runs.{plain, segments}
 use Rattle.picking.proofs.KeepLaws.{Every}
 use Rattle.picking.proofs.ShortestLaws.{segments-told}
@@ -19,29 +18,6 @@ use Rattle.literals.proofs.ReadLaws.{accepted-ranged}
 use Rattle.chooser.specs.Kept.{Told, AllTold}
 use Rattle.literaldoor.proofs.DoorLaws.{entries-whole}
 
--- what a text spells
-any-spelled : (ls : Lists) → SpelledFirst ls → SpelledMore ls
-unfolding Spelled
-any-spelled neither h = absurd h
-any-spelled (ts or ls) h = h
-
-spelled-keeps : Keeps SpelledOne Spelled SpelledFirst
-unfolding Spelled
-spelled-keeps =
-    record {
-      byte = λ v h. h;
-      not-byte = λ v h. h;
-      masked-byte = λ v m h. h;
-      not-masked = λ v m h. h;
-      open-jump = λ from. tt;
-      jump = λ from to h. h;
-      alternatives = λ ls h. h;
-      empty = tt;
-      next = λ tok ts a b. (a, b);
-      last-list = λ ts a. (a, tt);
-      next-list = λ ts ls a b. (a, any-spelled ls b);
-    }
-
 every-told : (ss : List Tokens) → Every Told ss → AllTold ss
 unfolding Every
 every-told [] h = tt
@@ -51,7 +27,7 @@ module _ (t : List ℕ) (e : ℕ) (ts : Tokens) (r : reading t ≡ accepted e ts
   plain-told : plain ts ≡ true → AllTold (segments (tokensIn ws))
   plain-told p =
       subst AllTold (sym (ap (λ (x : List ℕ). segments (tokensIn x)) w ∙ segments-entries ts p (accepted-ranged t e ts r)))
-      (every-told (segments ts) (segments-told ts p (accepted-keeps SpelledOne Spelled SpelledFirst spelled-keeps t e ts r)))
+      (every-told (segments ts) (segments-told ts p (accepted-spelled t e ts r)))
 
   pub entries-asked : length (entries ts) ≤ 4092 → (length ws ≤ 4096) × Whole ws × (plain (tokensIn ws) ≡ true → AllTold (segments (tokensIn ws)))
   entries-asked h =

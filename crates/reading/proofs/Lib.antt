@@ -11,3 +11,4 @@ pub mod InToken
 pub mod GivenLaws
 pub mod Places
 pub mod Samples
+pub mod SpelledValues
