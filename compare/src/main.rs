@@ -25,6 +25,9 @@ mod sides;
 #[cfg(original)]
 mod tally;
 
+#[cfg(original)]
+use std::sync::atomic::{AtomicUsize, Ordering};
+
 #[cfg(not(original))]
 fn main() {
     println!("comparison: not run");
@@ -73,23 +76,38 @@ fn compared(judge: &runs::Judge, args: &[String]) -> Option<bool> {
     })
 }
 
-/// Every comparison, exhaustive ones of more than a million inputs and random ones of so many each.
+/// Every comparison, exhaustive ones of more than a million inputs and random ones of so many each,
+/// on as many threads as there are processors. What takes longest is begun first.
 #[cfg(original)]
 fn all(judge: &runs::Judge, seed: u64, count: usize) -> bool {
-    let all: [(&str, &dyn Fn() -> bool); 11] = [
+    let all: [(&str, &(dyn Fn() -> bool + Sync)); 11] = [
         ("samples", &samples::samples),
         ("rooms", &ours::rooms),
-        ("texts", &|| judge.texts(6)),
-        ("pieces", &|| judge.pieces(5)),
-        ("good", &|| judge.good(seed, count)),
-        ("limits", &|| judge.limits(seed, count)),
-        ("damaged", &|| judge.damaged(seed, count)),
         ("literals", &|| judge.random_literals(seed, count)),
-        ("spans", &|| judge.spans(seed, count)),
-        ("programs", &|| judge.programs(5)),
+        ("pieces", &|| judge.pieces(5)),
+        ("limits", &|| judge.limits(seed, count)),
+        ("good", &|| judge.good(seed, count)),
+        ("damaged", &|| judge.damaged(seed, count)),
+        ("texts", &|| judge.texts(6)),
         ("checks", &|| judge.random_checks(seed, count)),
+        ("programs", &|| judge.programs(5)),
+        ("spans", &|| judge.spans(seed, count)),
     ];
-    let bad: Vec<_> = all.iter().filter(|(_, run)| !run()).map(|(name, _)| *name).collect();
+    let next = AtomicUsize::new(0);
+    let worker = || {
+        let mut bad = Vec::new();
+        while let Some((name, run)) = all.get(next.fetch_add(1, Ordering::Relaxed)) {
+            if !run() {
+                bad.push(*name);
+            }
+        }
+        bad
+    };
+    let threads = std::thread::available_parallelism().map_or(1, usize::from);
+    let bad: Vec<&str> = std::thread::scope(|scope| {
+        let workers: Vec<_> = (0..threads).map(|_| scope.spawn(&worker)).collect();
+        workers.into_iter().flat_map(|w| w.join().expect("a worker ends")).collect()
+    });
     match bad.is_empty() {
         true => println!("all: nothing differs but what docs/DIFFERENCES.md names"),
         false => println!("all: DIFFERS in {}", bad.join(", ")),

@@ -42,6 +42,9 @@ mod doors {
 
     const FILL: u32 = 0xA5A5_A5A5;
     const MARGIN: usize = 3;
+    /// The most that literals can need: 256 of 512 bytes.
+    const BYTES: usize = 256 * 512;
+    static UNWRITTEN: [u8; BYTES] = [0xA5; BYTES];
 
     fn pool(words: usize) -> Vec<u32> {
         vec![FILL; words + MARGIN]
@@ -161,12 +164,11 @@ mod doors {
 
     #[cfg(tm_literals)]
     pub fn literals(text: &[u8]) -> Option<Answer<Picked>> {
-        const BYTES: usize = 256 * 512;
-        let (mut b, mut l) = (vec![0xA5u8; BYTES], vec![0xA5A5u16; 256 + MARGIN]);
+        let (mut b, mut l) = (UNWRITTEN.to_vec(), vec![0xA5A5u16; 256 + MARGIN]);
         let (number, place, count, rank) = call_literals(text, &mut b, &mut l);
         let lengths = &l[..if number == 0 { count } else { 0 }];
         let total: usize = lengths.iter().map(|n| usize::from(*n)).sum();
-        assert!(b[total..].iter().all(|x| *x == 0xA5), "bytes that are not written must stay");
+        assert!(b[total..] == UNWRITTEN[total..], "bytes that are not written must stay");
         assert!(l[lengths.len()..].iter().all(|x| *x == 0xA5A5), "other lengths must stay");
         let mut at = 0;
         let cut = lengths.iter().map(|n| {

@@ -89,22 +89,19 @@ impl Tally {
         }
     }
 
-    /// Prints the counts; answers whether nothing differed but what is written down.
+    /// Prints the counts, at once; answers whether nothing differed but what is written down.
     pub fn report(&self, title: &str) -> bool {
-        println!("{title}: {} inputs", self.inputs);
         let outcomes: Vec<_> = self.outcomes.iter().map(|(k, n)| format!("{k}: {n}")).collect();
-        println!("  {}", outcomes.join(", "));
-        let mut good = true;
+        let mut lines =
+            vec![format!("{title}: {} inputs", self.inputs), format!("  {}", outcomes.join(", "))];
         for (name, pair) in &self.pairs {
-            println!("  {name}: {} equal, {} differ", pair.equal, pair.differ);
-            for (label, (n, example)) in &pair.known {
-                println!("    known, {label}: {n}, e.g. {}", shortened(example, 60));
-            }
-            for example in &pair.examples {
-                println!("    DIFFERS {example}");
-            }
-            good &= pair.differ == 0;
+            lines.push(format!("  {name}: {} equal, {} differ", pair.equal, pair.differ));
+            lines.extend(pair.known.iter().map(|(label, (n, example))| {
+                format!("    known, {label}: {n}, e.g. {}", shortened(example, 60))
+            }));
+            lines.extend(pair.examples.iter().map(|example| format!("    DIFFERS {example}")));
         }
-        good
+        println!("{}", lines.join("\n"));
+        self.pairs.values().all(|pair| pair.differ == 0)
     }
 }
