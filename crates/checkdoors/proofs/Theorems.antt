@@ -7,7 +7,7 @@ use mathlib.Core.List.{List, [], _∷_, _++_, reverse, reverse-reverse}
 use Prim.Native.Nat.{ℕ, zero, suc, _+_, _-_, _≤_, _<_}
 use native.Mathlib.Omega.{arith}
 use borrow.Author.Tests.{le-leb}
-use lib.ListN.{length, take, drop, getD, length-take, length-drop, length-reverse}
+use lib.ListN.{length, take, drop, getD, length-append, length-take, length-drop, length-reverse}
 use lib.Seq.{ext-getD, getD-take, getD-drop, drop-drop}
 use Rattle.base.proofs.RefusalLaws.{number-one}
 use Rattle.meaning.specs.Programs.{Span}
@@ -196,10 +196,14 @@ module _ (ws vs hay : List ℕ) (s e : ℕ) (h : sound ws ≡ true) (g : sound v
   both-ok : none ≡ refusal (ws ++ vs) (length hay) s e
   both-ok = ok (ws ++ vs) hay s e (join-sound ws vs h g room) d l
 
-  pub joined-finds : (n : ℕ) → forwardSays (ws ++ vs) hay s e ≡ found n → (a : List ℕ) × (b : List ℕ) × (v : List ℕ) × (window hay s e ≡ a ++ (b ++ v)) × Span (prog ws) a × Span (prog vs) b
+  pub joined-finds : (n : ℕ) → forwardSays (ws ++ vs) hay s e ≡ found n → (a : List ℕ) × (b : List ℕ) × (v : List ℕ) × (window hay s e ≡ a ++ (b ++ v)) × Span (prog ws) a × Span (prog vs) b × (n ≡ s + length (a ++ b))
   joined-finds n f =
       let q = end-some e n (forward (prog (ws ++ vs)) (window hay s e)) (forward-checked (ws ++ vs) hay s e both-ok ∙ f) in
-      join-found ws vs h g room (window hay s e) (q .0, q .1)
+      let r = join-found ws vs h g room (window hay s e) (q .0) (q .1) in
+      let w = sym (window-length (ws ++ vs) hay s e (fine (ws ++ vs) (length hay) s e both-ok)) ∙ ap length (r .2) ∙ length-append (r .0) (r .1 ++ q .0) in
+      let l = length-append (r .0) (r .1) in
+      let k = length-append (r .1) (q .0) in
+      (r .0, r .1, q .0, r .2, r .3, r .4, omega (arith, q .2, w, l, k))
 
   pub finds-joined : (a b v : List ℕ) → window hay s e ≡ a ++ (b ++ v) → Span (prog ws) a → Span (prog vs) b → (n : ℕ) × (forwardSays (ws ++ vs) hay s e ≡ found n)
   finds-joined a b v c p q =

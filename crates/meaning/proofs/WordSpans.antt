@@ -45,11 +45,11 @@ module _ (ws vs : List ℕ) (h : sound ws ≡ true) (g : sound vs ≡ true) (roo
   join-sound = words-sound (ws ++ vs) (omega (arith, length-append ws vs)) (sound-append ws vs (sound-words ws h) (sound-words vs g))
 
   -- and their forward check finds an end exactly where a span of the one is followed by a span of the other
-  pub join-found : (w : List ℕ) → Finds (forward (prog (ws ++ vs)) w) → (a : List ℕ) × (b : List ℕ) × (v : List ℕ) × (w ≡ a ++ (b ++ v)) × Span (prog ws) a × Span (prog vs) b
-  join-found w (v, e) =
+  pub join-found : (w v : List ℕ) → forward (prog (ws ++ vs)) w ≡ some v → (a : List ℕ) × (b : List ℕ) × (w ≡ a ++ (b ++ v)) × Span (prog ws) a × Span (prog vs) b
+  join-found w v e =
       let q = run-span short (prog (ws ++ vs)) w v e in
       let r = span-append ws vs (sound-words ws h) (q .0) (q .2) in
-      (r .0, r .1, v, q .1 ∙ ap (λ (l : List ℕ). l ++ v) (r .2) ∙ append-assoc (r .0) (r .1) v, r .3, r .4)
+      (r .0, r .1, q .1 ∙ ap (λ (l : List ℕ). l ++ v) (r .2) ∙ append-assoc (r .0) (r .1) v, r .3, r .4)
 
   pub found-join : (w a b v : List ℕ) → w ≡ a ++ (b ++ v) → Span (prog ws) a → Span (prog vs) b → Finds (forward (prog (ws ++ vs)) w)
   found-join w a b v e p q =
