@@ -67,11 +67,11 @@ window-length ws hay s e f = length-take-le (e - s) (drop s hay) (omega (arith, 
 
 module _ (ws hay : List ℕ) (s e : ℕ) where
   -- refused
-  pub forward-refused : (k : ℕ) → some k ≡ refusal ws (length hay) s e → refused k ≡ forwardSays ws hay s e
+  pub forward-refused : (k : ℕ) → some k ≡ refusal ws (length hay) s e → refused k 0 ≡ forwardSays ws hay s e
   unfolding forwardSays
   forward-refused k h = rw (sym h)
 
-  pub reverse-refused : (k : ℕ) → some k ≡ refusal ws (length hay) s e → refused k ≡ reverseSays ws hay s e
+  pub reverse-refused : (k : ℕ) → some k ≡ refusal ws (length hay) s e → refused k 0 ≡ reverseSays ws hay s e
   unfolding reverseSays
   reverse-refused k h = rw (sym h)
 

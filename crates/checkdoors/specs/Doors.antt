@@ -13,17 +13,17 @@ use Rattle.checkdoors.specs.declared.Answer.the-variants.{At, NoMatch, R
 use Rattle.checkdoors.specs.declared.Admitted.{Admitted}
 use Rattle.checkdoors.specs.declared.Admitted.the-variants.{Yes, No}
 
--- 01's answers of a check: found at an offset, no match, refused under a number
+-- 01's answers of a check: found at an offset, no match, refused under a number at a place (which is 0)
 pub data Outcome : Type 0 where
   found : ℕ → Outcome
   noMatch : Outcome
-  refused : ℕ → Outcome
+  refused : ℕ → ℕ → Outcome
 
 -- what each of the code's answers says
 abbrev pub said : Answer → Outcome
 said (At n) = found n
 said NoMatch = noMatch
-said (Refused r) = refused (numberOf r)
+said (Refused r) = refused (numberOf r) 0
 
 -- the part of the haystack inside the window
 abbrev pub window : List ℕ → ℕ → ℕ → List ℕ
@@ -40,7 +40,7 @@ whyNot (No r) = some (numberOf r)
 -- refused, or the outcome of the check
 abbrev pub unless : Option ℕ → Outcome → Outcome
 unless none o = o
-unless (some k) o = refused k
+unless (some k) o = refused k 0
 
 -- the offset of the end, where the match leaves the last bytes of a window that ends at e
 abbrev pub endAt : ℕ → Option (List ℕ) → Outcome

@@ -52,7 +52,7 @@ wordsOf (rejected r q) = []
 unfoldable pub foundAt : doors.Outcome → ℕ → Bool
 foundAt (doors.found m) n = eqb m n
 foundAt doors.noMatch n = false
-foundAt (doors.refused k) n = false
+foundAt (doors.refused k p) n = false
 
 unfoldable pub right : Sample → Bool
 right (refuses t n p) = refusedAt (reading t) n p

@@ -23,32 +23,32 @@ use Rattle.promise.specs.Pattern.{SpanAt, FirstEnd, FirstStart, AnswersF
 use Rattle.promise.proofs.NodeWords.{sound-listed, program-listed}
 use Rattle.promise.proofs.Cuts.{part-length, part-bytes, parts, cut}
 
-end-fine : (e k : ℕ) (x : Option (List ℕ)) → endAt e x ≡ refused k → ⊥
-end-fine e k none h = let z : _≡_ {A = ℕ} 0 1 = cc in omega arith
-end-fine e k (some v) h = let z : _≡_ {A = ℕ} 0 1 = cc in omega arith
+end-fine : (e k p : ℕ) (x : Option (List ℕ)) → endAt e x ≡ refused k p → ⊥
+end-fine e k p none h = let z : _≡_ {A = ℕ} 0 1 = cc in omega arith
+end-fine e k p (some v) h = let z : _≡_ {A = ℕ} 0 1 = cc in omega arith
 
-start-fine : (s k : ℕ) (x : Option (List ℕ)) → startAt s x ≡ refused k → ⊥
-start-fine s k none h = let z : _≡_ {A = ℕ} 0 1 = cc in omega arith
-start-fine s k (some v) h = let z : _≡_ {A = ℕ} 0 1 = cc in omega arith
+start-fine : (s k p : ℕ) (x : Option (List ℕ)) → startAt s x ≡ refused k p → ⊥
+start-fine s k p none h = let z : _≡_ {A = ℕ} 0 1 = cc in omega arith
+start-fine s k p (some v) h = let z : _≡_ {A = ℕ} 0 1 = cc in omega arith
 
 -- an answer that is no refusal is found wherever it is not missed
-found-or : (P : Type 0) (x : Outcome) → ((k : ℕ) → x ≡ refused k → ⊥) → (x ≡ noMatch → P → ⊥) → P → (n : ℕ) × (x ≡ found n)
+found-or : (P : Type 0) (x : Outcome) → ((k p : ℕ) → x ≡ refused k p → ⊥) → (x ≡ noMatch → P → ⊥) → P → (n : ℕ) × (x ≡ found n)
 found-or P (found n) a b p = (n, refl)
 found-or P noMatch a b p = absurd (b refl p)
-found-or P (refused k) a b p = absurd (a k refl)
+found-or P (refused k q) a b p = absurd (a k q refl)
 
-missed-or : (x : Outcome) → ((k : ℕ) → x ≡ refused k → ⊥) → ((n : ℕ) → x ≡ found n → ⊥) → x ≡ noMatch
+missed-or : (x : Outcome) → ((k p : ℕ) → x ≡ refused k p → ⊥) → ((n : ℕ) → x ≡ found n → ⊥) → x ≡ noMatch
 missed-or (found n) a b = absurd (b n refl)
 missed-or noMatch a b = refl
-missed-or (refused k) a b = absurd (a k refl)
+missed-or (refused k q) a b = absurd (a k q refl)
 
 -- sound words and a window: what is found is the first choice, and there is no refusal
 module _ (ws hay : List ℕ) (s e : ℕ) (h : sound ws ≡ true) (d : s ≤ e) (l : e ≤ length hay) where
   ok : none ≡ refusal ws (length hay) s e
   ok = passed ws (length hay) s e d l (sound-length ws h) (sym h)
 
-  pub fine : (k : ℕ) → forwardSays ws hay s e ≡ refused k → ⊥
-  fine k g = end-fine e k (forward (prog ws) (window hay s e)) (forward-checked ws hay s e ok ∙ g)
+  pub fine : (k p : ℕ) → forwardSays ws hay s e ≡ refused k p → ⊥
+  fine k p g = end-fine e k p (forward (prog ws) (window hay s e)) (forward-checked ws hay s e ok ∙ g)
 
   pub to-first : (n : ℕ) → forwardSays ws hay s e ≡ found n → FirstEnd (prog ws) hay s e n
   to-first n g =
@@ -63,8 +63,8 @@ module _ (ws hay : List ℕ) (s e : ℕ) (h : sound ws ≡ true) (d : s ≤ e) (
       let m : e - length (window hay n e) ≡ n = omega (arith, k) in
       finds-forward ws hay s e h d l (window hay n e) f ∙ ap found m
 
-  pub back-fine : (k : ℕ) → reverseSays ws hay s e ≡ refused k → ⊥
-  back-fine k g = start-fine s k (backward (prog ws) (window hay s e)) (reverse-checked ws hay s e ok ∙ g)
+  pub back-fine : (k p : ℕ) → reverseSays ws hay s e ≡ refused k p → ⊥
+  back-fine k p g = start-fine s k p (backward (prog ws) (window hay s e)) (reverse-checked ws hay s e ok ∙ g)
 
   -- what the first choice takes, read forward again, is behind what it leaves
   turned : (u x : List ℕ) → reverse (window hay s e) ≡ x ++ reverse u → window hay s e ≡ u ++ reverse x

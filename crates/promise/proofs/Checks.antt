@@ -85,7 +85,7 @@ module _ (ws hay : List ℕ) (s e : ℕ) where
       answer : Asked ws hay s e → (o : doors.Outcome) → forwardSays ws hay s e ≡ o → Forward ws hay s e o
       answer a (doors.found n) g = said.Forward.found (a .inside) (sound-length ws (a .tested)) (sound-says ws (a .tested)) (to-first ws hay s e (a .tested) (a .ordered) (a .inside) n g)
       answer a doors.noMatch g = said.Forward.missed (a .ordered) (a .inside) (sound-length ws (a .tested)) (sound-says ws (a .tested)) (forward-misses ws hay s e (a .tested) (a .ordered) (a .inside) .0 g)
-      answer a (doors.refused k) g = absurd (fine ws hay s e (a .tested) (a .ordered) (a .inside) k g)
+      answer a (doors.refused k p) g = absurd (fine ws hay s e (a .tested) (a .ordered) (a .inside) k p g)
 
       go : Asked ws hay s e ⊎ Why ws hay s e → Forward ws hay s e (forwardSays ws hay s e)
       go (inl a) = answer a (forwardSays ws hay s e) refl
@@ -108,7 +108,7 @@ module _ (ws hay : List ℕ) (s e : ℕ) where
       answer : Asked ws hay s e → (o : doors.Outcome) → reverseSays ws hay s e ≡ o → Reverse ws hay s e o
       answer a (doors.found n) g = said.Reverse.found (a .inside) (sound-length ws (a .tested)) (sound-says ws (a .tested)) (to-start ws hay s e (a .tested) (a .ordered) (a .inside) n g)
       answer a doors.noMatch g = said.Reverse.missed (a .ordered) (a .inside) (sound-length ws (a .tested)) (sound-says ws (a .tested)) (reverse-misses ws hay s e (a .tested) (a .ordered) (a .inside) .0 g)
-      answer a (doors.refused k) g = absurd (back-fine ws hay s e (a .tested) (a .ordered) (a .inside) k g)
+      answer a (doors.refused k p) g = absurd (back-fine ws hay s e (a .tested) (a .ordered) (a .inside) k p g)
 
       go : Asked ws hay s e ⊎ Why ws hay s e → Reverse ws hay s e (reverseSays ws hay s e)
       go (inl a) = answer a (reverseSays ws hay s e) refl
@@ -125,7 +125,7 @@ module _ (ws hay : List ℕ) (s e : ℕ) where
       sym (reverse-misses ws hay s e h d l .1 (subst (λ (x : Prog). Nowhere x (reverse (window hay s e))) (sym (program-listed g)) f))
 
   -- what is left
-  not-found : (k n : ℕ) (o : doors.Outcome) → doors.refused k ≡ o → doors.found n ≡ o → ⊥
+  not-found : (k n : ℕ) (o : doors.Outcome) → doors.refused k 0 ≡ o → doors.found n ≡ o → ⊥
   not-found k n o h g = let z : _≡_ {A = ℕ} 0 1 = cc in omega arith
 
   no-found : (n : ℕ) (o : doors.Outcome) → o ≡ doors.noMatch → doors.found n ≡ o → ⊥
@@ -137,7 +137,7 @@ module _ (ws hay : List ℕ) (s e : ℕ) where
       answer : Asked ws hay s e → (o : doors.Outcome) → forwardSays ws hay s e ≡ o → Left ws hay s e (leftSays ws hay s e)
       answer a (doors.found n) g = subst (Left ws hay s e) (sym (left-tail ws hay s e (a .tested) (a .ordered) (a .inside) n g)) (said.tail (subst (Forward ws hay s e) g forwards))
       answer a doors.noMatch g = subst (Left ws hay s e) (sym (left-nothing ws hay s e (a .tested) (a .ordered) (a .inside) g)) (said.nothing (λ n f. no-found n (forwardSays ws hay s e) g (forwards-one f)))
-      answer a (doors.refused k) g = absurd (fine ws hay s e (a .tested) (a .ordered) (a .inside) k g)
+      answer a (doors.refused k p) g = absurd (fine ws hay s e (a .tested) (a .ordered) (a .inside) k p g)
 
       go : Asked ws hay s e ⊎ Why ws hay s e → Left ws hay s e (leftSays ws hay s e)
       go (inl a) = answer a (forwardSays ws hay s e) refl
@@ -154,7 +154,7 @@ module _ (ws hay : List ℕ) (s e : ℕ) where
       answer : Asked ws hay s e → (o : doors.Outcome) → forwardSays ws hay s e ≡ o → [] ≡ leftSays ws hay s e
       answer a (doors.found n) g = absurd (c n (subst (Forward ws hay s e) g forwards))
       answer a doors.noMatch g = sym (left-nothing ws hay s e (a .tested) (a .ordered) (a .inside) g)
-      answer a (doors.refused k) g = absurd (fine ws hay s e (a .tested) (a .ordered) (a .inside) k g)
+      answer a (doors.refused k p) g = absurd (fine ws hay s e (a .tested) (a .ordered) (a .inside) k p g)
 
       go : Asked ws hay s e ⊎ Why ws hay s e → [] ≡ leftSays ws hay s e
       go (inl a) = answer a (forwardSays ws hay s e) refl

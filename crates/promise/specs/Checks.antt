@@ -17,7 +17,7 @@ pub data Refuses (ws hay : List ℕ) (s e : ℕ) : ℕ → Type 0 where
 
 -- the forward check: where the first choice of the program ends
 pub data Forward (ws hay : List ℕ) (s e : ℕ) : doors.Outcome → Type 0 where
-  refused : {k : ℕ} → Refuses ws hay s e k → Forward ws hay s e (doors.refused k)
+  refused : {k : ℕ} → Refuses ws hay s e k → Forward ws hay s e (doors.refused k 0)
   found : {p : Prog} {n : ℕ} → e ≤ length hay → length ws ≤ 512 → Nodes ws p → FirstEnd p hay s e n → Forward ws hay s e (doors.found n)
   missed : {p : Prog} → s ≤ e → e ≤ length hay → length ws ≤ 512 → Nodes ws p → Nowhere p (window hay s e) → Forward ws hay s e doors.noMatch
 
@@ -28,6 +28,6 @@ pub data Left (ws hay : List ℕ) (s e : ℕ) : List ℕ → Type 0 where
 
 -- the reverse check: where the first choice starts, read from the window's end
 pub data Reverse (ws hay : List ℕ) (s e : ℕ) : doors.Outcome → Type 0 where
-  refused : {k : ℕ} → Refuses ws hay s e k → Reverse ws hay s e (doors.refused k)
+  refused : {k : ℕ} → Refuses ws hay s e k → Reverse ws hay s e (doors.refused k 0)
   found : {p : Prog} {n : ℕ} → e ≤ length hay → length ws ≤ 512 → Nodes ws p → FirstStart p hay s e n → Reverse ws hay s e (doors.found n)
   missed : {p : Prog} → s ≤ e → e ≤ length hay → length ws ≤ 512 → Nodes ws p → Nowhere p (reverse (window hay s e)) → Reverse ws hay s e doors.noMatch

@@ -38,7 +38,7 @@ pub record AnswersForward (ts : Tokens) (ws hay : List ℕ) (s e : ℕ) : Type 0
   pub finds-first : (n : ℕ) → (forwardSays ws hay s e ≡ found n) ↔ FirstEnd (words-sound .program) hay s e n
   -- it says no match exactly if no span of the pattern starts at s and ends in the window
   pub misses : (forwardSays ws hay s e ≡ noMatch) ↔ ((b : ℕ) → b ≤ e → SpanAt ts hay s b → ⊥)
-  pub never-refuses : (k : ℕ) → forwardSays ws hay s e ≡ refused k → ⊥
+  pub never-refuses : (k p : ℕ) → forwardSays ws hay s e ≡ refused k p → ⊥
 
 -- the reverse door likewise: the spans that end at e, and their starts
 pub record AnswersReverse (ts : Tokens) (ws hay : List ℕ) (s e : ℕ) : Type 0 where
@@ -47,4 +47,4 @@ pub record AnswersReverse (ts : Tokens) (ws hay : List ℕ) (s e : ℕ) : Type 0
   pub finds-span : (n : ℕ) → reverseSays ws hay s e ≡ found n → (s ≤ n) × SpanAt ts hay n e
   pub finds-first : (n : ℕ) → (reverseSays ws hay s e ≡ found n) ↔ FirstStart (words-sound .program) hay s e n
   pub misses : (reverseSays ws hay s e ≡ noMatch) ↔ ((a : ℕ) → s ≤ a → SpanAt ts hay a e → ⊥)
-  pub never-refuses : (k : ℕ) → reverseSays ws hay s e ≡ refused k → ⊥
+  pub never-refuses : (k p : ℕ) → reverseSays ws hay s e ≡ refused k p → ⊥

@@ -23,10 +23,10 @@ unfolding forwardSays
 forward-within ws hay s e n h = found-within (refusal ws (length hay) s e) e n (forward (prog ws) (window hay s e)) h
 
 -- a check that may run is not refused
-not-refused : (x : Option ℕ) (e n : ℕ) (y : Option (List ℕ)) → none ≡ x → unless x (endAt e y) ≡ refused n → ⊥
-not-refused none e n none g h = let z : _≡_ {A = ℕ} 0 1 = cc in omega arith
-not-refused none e n (some v) g h = let z : _≡_ {A = ℕ} 0 1 = cc in omega arith
-not-refused (some k) e n y g h = let z : _≡_ {A = ℕ} 0 1 = cc in omega arith
+not-refused : (x : Option ℕ) (e n p : ℕ) (y : Option (List ℕ)) → none ≡ x → unless x (endAt e y) ≡ refused n p → ⊥
+not-refused none e n p none g h = let z : _≡_ {A = ℕ} 0 1 = cc in omega arith
+not-refused none e n p (some v) g h = let z : _≡_ {A = ℕ} 0 1 = cc in omega arith
+not-refused (some k) e n p y g h = let z : _≡_ {A = ℕ} 0 1 = cc in omega arith
 
 module _ (ws hay : List ℕ) (s e : ℕ) where
   abbrev Left : Outcome → Type 0
@@ -36,7 +36,7 @@ module _ (ws hay : List ℕ) (s e : ℕ) where
   unfolding forwardSays
   answered h (found n) g = let f = fine ws (length hay) s e h in sym (left-tail ws hay s e (f .tested) (f .ordered) (f .inside) n g)
   answered h noMatch g = let f = fine ws (length hay) s e h in sym (left-nothing ws hay s e (f .tested) (f .ordered) (f .inside) g)
-  answered h (refused n) g = absurd (not-refused (refusal ws (length hay) s e) e n (forward (prog ws) (window hay s e)) h g)
+  answered h (refused n p) g = absurd (not-refused (refusal ws (length hay) s e) e n p (forward (prog ws) (window hay s e)) h g)
 
   either : (x : Option ℕ) → x ≡ refusal ws (length hay) s e → Left (forwardSays ws hay s e)
   either none h = answered h (forwardSays ws hay s e) refl

@@ -35,13 +35,13 @@ mirrorTold (refused n place) = record { refusal = n; words = 0 }
 abbrev pub checkTold : doors.Outcome → CheckResult
 checkTold (doors.found n) = record { refusal = 0; found = 1; offset = n }
 checkTold doors.noMatch = record { refusal = 0; found = 0; offset = 0 }
-checkTold (doors.refused n) = record { refusal = n; found = 0; offset = 0 }
+checkTold (doors.refused n place) = record { refusal = n; found = 0; offset = 0 }
 
 -- the part of the haystack from the end that was found to the window's end; else the empty part at 0
 abbrev pub tailTold : ℕ → doors.Outcome → TailResult
 tailTold e (doors.found n) = record { offset = n; length = e - n }
 tailTold e doors.noMatch = record { offset = 0; length = 0 }
-tailTold e (doors.refused n) = record { offset = 0; length = 0 }
+tailTold e (doors.refused n place) = record { offset = 0; length = 0 }
 
 -- the bytes of such a part
 abbrev pub bytesOf : TailResult → List ℕ → List ℕ

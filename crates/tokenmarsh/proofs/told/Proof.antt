@@ -28,7 +28,7 @@ returns-2 : tie.Need-returns-2
 returns-2 c = ap (λ (a : Answer). checkTold (said a)) (sym (c .enum-told .given .1))
 
 returns-3 : tie.Need-returns-3
-returns-3 c = ap (λ (n : ℕ). checkTold (refused n)) (c .number .ensures) ∙ ap (λ (a : Answer). checkTold (said a)) (sym (c .before .before .r2 .given .1))
+returns-3 c = ap (λ (n : ℕ). checkTold (refused n 0)) (c .number .ensures) ∙ ap (λ (a : Answer). checkTold (said a)) (sym (c .before .before .r2 .given .1))
 
 pub told-spec : {M : Type 1} → statement M
 told-spec =
