@@ -1,5 +1,5 @@
 -- The search as a function. A row asks one test of each byte of a span; a program has a row for each choice, in choice order,
--- and the search takes the first row that fits. Nothing here has to be believed: proofs/ChoiceLaws.antt joins it to Choices.antt.
+-- and the search takes the first row that fits. Nothing here has to be believed: proofs/FirstLaws.antt joins it to Choices.antt.
 -- Assumes nothing: these are definitions.
 use mathlib.Core.Bool.{Bool, true, false}
 use mathlib.Core.Option.{Option, none, some}
@@ -87,7 +87,7 @@ forward p w = run short p w
 abbrev pub backward : Prog → List ℕ → Option (List ℕ)
 backward p w = run long p (reverse w)
 
--- every choice of a program, in choice order, and the row of each: proofs/ChoiceLaws.antt says that these are all, in that order
+-- every choice of a program, in choice order, and the row of each: proofs/ChoiceOrder.antt says that these are all, in that order
 
 -- a pick before each choice of a list
 unfoldable pub picked : Pick → List Choice → List Choice
