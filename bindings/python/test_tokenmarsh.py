@@ -3,7 +3,7 @@ import doctest
 import unittest
 
 import tokenmarsh
-from tokenmarsh import Alternatives, Byte, Jump, Mask, MaskedByte, NotMaskedByte, Program, Refusal, Refused
+from tokenmarsh import Alternatives, Byte, Jump, Mask, MaskedByte, NotByte, NotMaskedByte, Program, Refusal, Refused
 
 
 class Doors(unittest.TestCase):
@@ -25,6 +25,11 @@ class Doors(unittest.TestCase):
         self.assertEqual(r.reached, 35)
         self.assertEqual(r.tokens, (Byte(0xAB), NotMaskedByte(0xC, Mask.LEFT), Jump(4, None),
                                     Alternatives(((Byte(1),), (MaskedByte(2, Mask.RIGHT), MaskedByte(0, Mask.ALL)))), Byte(3)))
+
+    def test_a_token_is_not_its_negation(self):
+        self.assertNotEqual(tokenmarsh.read(b"{ AB }").tokens, tokenmarsh.read(b"{ ~AB }").tokens)
+        self.assertNotEqual(tokenmarsh.read(b"{ 2? }").tokens, tokenmarsh.read(b"{ ~2? }").tokens)
+        self.assertEqual(tokenmarsh.read(b"{ ~AB }").tokens, (NotByte(0xAB),))
 
     def test_programs(self):
         self.assertEqual(tokenmarsh.compile(b"{ A? }").forward.words, (0x00F0A001,))

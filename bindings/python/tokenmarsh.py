@@ -14,10 +14,11 @@ The work is done by libtokenmarsh.so, from the file that TOKENMARSH_SO names, or
 import ctypes
 import enum
 import os
+from dataclasses import dataclass
 from typing import NamedTuple, Optional, Tuple, Union
 
-__all__ = ["Refusal", "Refused", "Mask", "Byte", "NotByte", "MaskedByte", "NotMaskedByte", "Jump", "Alternatives", "Read", "Program", "Pattern", "Literals",
-           "read", "compile", "literals", "forward", "reverse", "mirror", "sound"]
+__all__ = ["Refusal", "Refused", "Mask", "Byte", "NotByte", "MaskedByte", "NotMaskedByte", "Jump", "Alternatives", "Token", "Read", "Program", "Pattern",
+           "Literals", "read", "compile", "literals", "forward", "reverse", "mirror", "sound"]
 
 TOKEN_POOL = 4096
 NODE_POOL = 512
@@ -67,42 +68,65 @@ class Mask(enum.IntEnum):
     ALL = 2
 
 
-class Byte(NamedTuple):
+# No tuples: a byte and its negation hold the same value, and are not equal.
+@dataclass(frozen=True)
+class Byte:
+    """`AB`"""
+
     value: int
 
 
-class NotByte(NamedTuple):
+@dataclass(frozen=True)
+class NotByte:
+    """`~AB`"""
+
     value: int
 
 
-class MaskedByte(NamedTuple):
+@dataclass(frozen=True)
+class MaskedByte:
+    """`?X`, `X?`, `??`: the digit as typed, 0 for `??`"""
+
     value: int
     mask: Mask
 
 
-class NotMaskedByte(NamedTuple):
+@dataclass(frozen=True)
+class NotMaskedByte:
+    """`~?X`, `~X?`"""
+
     value: int
     mask: Mask
 
 
-class Jump(NamedTuple):
+@dataclass(frozen=True)
+class Jump:
+    """`[start-to]`; `to` is None for `[start-]`"""
+
     start: int
     to: Optional[int]
 
 
-class Alternatives(NamedTuple):
-    lists: tuple
+@dataclass(frozen=True)
+class Alternatives:
+    """`( .. | .. )`: the tokens of each list"""
+
+    lists: Tuple[Tuple["Token", ...], ...]
 
 
 Token = Union[Byte, NotByte, MaskedByte, NotMaskedByte, Jump, Alternatives]
 
 
 class Read(NamedTuple):
+    """A text as it was read: the tokens of the outer list, and the offset after the closing brace and its blanks; what follows is ignored."""
+
     tokens: Tuple[Token, ...]
     reached: int
 
 
 class Literals(NamedTuple):
+    """The literals picked from a pattern, in their order (repeats stay), and how good they are for a search: 0 to 80."""
+
     literals: Tuple[bytes, ...]
     rank: int
 
