@@ -28,36 +28,45 @@ LITERAL_COUNT = 256
 
 
 class Refusal(enum.IntEnum):
-    """Why a call gives no answer, by its number."""
+    """Why a call gives no answer: a number, and its `meaning`."""
 
-    TEXT_TOO_LONG = 1
-    UNEXPECTED = 2
-    NUMBER_TOO_BIG = 3
-    JUMP_EMPTY = 4
-    JUMP_RANGE_INVALID = 5
-    JUMP_AT_BOUND = 6
-    JUMP_UNBOUNDED_IN_ALTERNATION = 7
-    JUMP_TOO_BIG_IN_ALTERNATION = 8
-    CANNOT_NEGATE_MASK_ALL = 9
-    HEX_STRING_TOO_DEEP = 10
-    TOO_MANY_TOKENS = 11
-    NOT_SIMPLE = 12
-    TOO_MANY_NODES = 13
-    BRANCH_TOO_LONG = 14
-    UNSOUND = 15
-    BAD_WINDOW = 16
-    TOO_MANY_LITERALS = 17
-    NO_ROOM = 18
-    NOT_PLAIN = 19
+    def __new__(cls, number, meaning):
+        one = int.__new__(cls, number)
+        one._value_, one.meaning = number, meaning
+        return one
+
+    TEXT_TOO_LONG = 1, "text above 4,096 bytes"
+    UNEXPECTED = 2, "something needed isn't there"
+    NUMBER_TOO_BIG = 3, "number above 4,294,967,295"
+    JUMP_EMPTY = 4, "empty jump"
+    JUMP_RANGE_INVALID = 5, "jump whose from is above its to"
+    JUMP_AT_BOUND = 6, "jump at the bound of a list"
+    JUMP_UNBOUNDED_IN_ALTERNATION = 7, "unbounded jump in alternatives"
+    JUMP_TOO_BIG_IN_ALTERNATION = 8, "jump above 200 in alternatives"
+    CANNOT_NEGATE_MASK_ALL = 9, "?? cannot be negated"
+    HEX_STRING_TOO_DEEP = 10, "alternatives nested too deep"
+    TOO_MANY_TOKENS = 11, "more than 512 tokens"
+    NOT_SIMPLE = 12, "a jump unbounded or above 255; in a branch, a range or nested alternatives"
+    TOO_MANY_NODES = 13, "more than 512 nodes"
+    BRANCH_TOO_LONG = 14, "branch above 255 nodes"
+    UNSOUND = 15, "unsound program"
+    BAD_WINDOW = 16, "window outside its haystack"
+    TOO_MANY_LITERALS = 17, "candidate with more than 256 literals"
+    NO_ROOM = 18, "lent buffer too short"
+    NOT_PLAIN = 19, "alternatives hold more than bytes and classes, so no literals are picked"
 
 
 class Refused(ValueError):
     """A refusal, and the offset in the text that it is given at (0 where none is meant)."""
 
     def __init__(self, number: int, place: int = 0):
+        # What an exception is made anew from, when it is copied or sent to another process.
+        super().__init__(int(number), place)
         self.refusal = Refusal(number)
         self.place = place
-        super().__init__(f"refused {number} at {place}: {self.refusal.name.lower().replace('_', ' ')}")
+
+    def __str__(self):
+        return f"refused {self.refusal.value} at {self.place}: {self.refusal.meaning}"
 
 
 class Mask(enum.IntEnum):
