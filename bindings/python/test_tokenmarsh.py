@@ -1,4 +1,5 @@
 """The doors from Python: `python3 -m unittest` in this folder."""
+import array
 import copy
 import doctest
 import pickle
@@ -46,13 +47,61 @@ class Doors(unittest.TestCase):
         self.refused(lambda: Program([7]), Refusal.UNSOUND)
         self.refused(lambda: Program([0] * 513), Refusal.TOO_MANY_NODES)
 
+    def test_words_have_32_bits(self):
+        for words in ([1 << 32], (-1,), [0, 1 << 64]):
+            for door in (Program, tokenmarsh.sound, tokenmarsh.mirror, lambda w: tokenmarsh.forward(w, b"", 0, 0)):
+                with self.assertRaises(ValueError) as caught:
+                    door(words)
+                self.assertNotIsInstance(caught.exception, Refused)
+        self.assertFalse(tokenmarsh.sound([(1 << 32) - 1]))
+        self.assertRaises(TypeError, Program, [0.0])
+        self.assertRaises(TypeError, Program, ["0"])
+
     def test_first_choice(self):
         self.assertEqual(tokenmarsh.compile(b"{ (61|61 62) 63 }").forward.end(b"abc"), 3)
         friend = tokenmarsh.compile(b"{ (61|62 61) }")
         self.assertEqual(friend.reverse.start(b"ba"), 1)
         self.assertEqual(friend.forward.mirror().start(b"ba"), 1)
         self.assertEqual(bytes(tokenmarsh.compile(b"{ 61 }").forward.tail(b"abc")), b"bc")
-        self.refused(lambda: tokenmarsh.forward([], b"abc", 2, 1), Refusal.BAD_WINDOW)
+
+    def test_windows(self):
+        for check in (tokenmarsh.forward, tokenmarsh.reverse):
+            self.assertEqual(check([], b"abc", 3, 3), 3)
+            # the last two are 0 and 3 in 64 bits
+            for start, end in ((2, 1), (0, 4), (-1, 3), (0, -1), ((1 << 64) - 1, (1 << 64) - 1), (1 << 64, 3), (-(1 << 64), 3), (0, (1 << 64) + 3)):
+                self.refused(lambda: check([], b"abc", start, end), Refusal.BAD_WINDOW)
+            # 16 comes before 13, and that before 15
+            self.refused(lambda: check([7] * 513, b"abc", 2, 1), Refusal.BAD_WINDOW)
+            self.refused(lambda: check([7] * 513, b"abc", 0, 3), Refusal.TOO_MANY_NODES)
+            self.refused(lambda: check([7], b"abc", 0, 3), Refusal.UNSOUND)
+            self.assertRaises(TypeError, check, [], b"abc", 0.0, 3)
+            self.assertRaises(TypeError, check, [], b"abc", None, 3)
+
+    def test_whatever_holds_bytes(self):
+        program = tokenmarsh.compile(bytearray(b"{ 61 }")).forward
+        self.assertEqual(program, tokenmarsh.compile(memoryview(b"x{ 61 }")[1:]).forward)
+        for window in (b"abc", bytearray(b"abc"), memoryview(b"xabc")[1:], memoryview(b"a_b_c")[::2], array.array("B", b"abc")):
+            self.assertEqual(program.end(window), 1)
+            self.assertEqual(bytes(program.tail(window)), b"bc")
+        window = bytearray(b"abc")
+        program.tail(window)[0] = 0x7A
+        self.assertEqual(window, b"azc")
+
+    def test_what_holds_no_bytes(self):
+        program, back = tokenmarsh.compile(b"{ 61 }")
+        # a number is no count of zeros, and four bytes are no item
+        for thing in (3, "abc", [0x61], None, array.array("I", [0x61]), memoryview(b"abcd").cast("B", (2, 2))):
+            for door in (tokenmarsh.read, tokenmarsh.compile, tokenmarsh.literals, program.end, program.tail, back.start,
+                         lambda w: tokenmarsh.forward([], w, 0, 0), lambda w: tokenmarsh.reverse([], w, 0, 0)):
+                self.assertRaises(TypeError, door, thing)
+
+    def test_any_bytes_are_a_text(self):
+        for text in (b"\xff\xfe", b"{ \x80 }", b"{ 41\x00 }", b"\x00" * 4096):
+            for door in (tokenmarsh.read, tokenmarsh.compile, tokenmarsh.literals):
+                with self.assertRaises(Refused) as caught:
+                    door(text)
+                self.assertEqual(caught.exception.refusal, Refusal.UNEXPECTED)
+        self.assertEqual(tokenmarsh.read(b"{ 41 }\xff").reached, 6)
 
     def test_literals(self):
         r = tokenmarsh.literals(b"{ 01 02 ?3 04 }")

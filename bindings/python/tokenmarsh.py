@@ -9,10 +9,17 @@
     >>> tokenmarsh.literals(b"{ 61 [0-2] 63 }")
     Literals(literals=(b'c',), rank=20)
 
+A pattern, a window and a haystack are `bytes` or anything whose items are bytes: a bytearray, a memoryview, an mmap. What is not `bytes` itself is copied by
+each call, so a long haystack that is searched at many places should be `bytes`, and the places the numbers that `forward` and `reverse` take.
+
+A call that has no answer raises `Refused`, which has the refusal's number and its place in the text. What is no bytes at all is a TypeError, and a word
+that has more than 32 bits a ValueError.
+
 The work is done by libtokenmarsh.so, from the file that TOKENMARSH_SO names, or from the repository's own build, or from where the system finds it.
 """
 import ctypes
 import enum
+import operator
 import os
 from dataclasses import dataclass
 from typing import NamedTuple, Optional, Tuple, Union
@@ -181,17 +188,27 @@ def _load():
 _lib = _load()
 
 
-def _text(text: bytes) -> bytes:
-    if not isinstance(text, (bytes, bytearray, memoryview)):
-        raise TypeError("a pattern is bytes")
-    return bytes(text)
+def _bytes(lent) -> bytes:
+    """The bytes of a buffer; of `bytes` these themselves. Not of a number, which `bytes` would take for a count of zeros, nor of wider items."""
+    view = memoryview(lent)
+    if view.ndim != 1 or view.itemsize != 1:
+        raise TypeError("the items of a buffer are bytes")
+    return lent if type(lent) is bytes else bytes(view)
 
 
 def _words(words):
-    words = tuple(words)
+    words = tuple(map(operator.index, words))
     if any(not 0 <= w < 1 << 32 for w in words):
         raise ValueError("a word has 32 bits")
     return (_u32 * len(words))(*words), len(words)
+
+
+def _offset(number) -> int:
+    """A window's bound. ctypes would cut a number that is no size_t down to one, and no haystack has an offset that is none."""
+    number = operator.index(number)
+    if not 0 <= number <= _size(-1).value:
+        raise Refused(Refusal.BAD_WINDOW)
+    return number
 
 
 def _answered(result):
@@ -220,7 +237,7 @@ def _list(entries):
 
 def read(text: bytes) -> Read:
     """The tokens of a hexadecimal string, and the offset reached. Refusals 1 to 11."""
-    text = _text(text)
+    text = _bytes(text)
     pool = (_u32 * TOKEN_POOL)()
     r = _answered(_lib.tm_read(text, len(text), pool, TOKEN_POOL))
     return Read(_list([tuple(pool[i:i + 4]) for i in range(0, r.words, 4)]), r.reached)
@@ -258,7 +275,7 @@ class Program:
     def tail(self, window: bytes) -> memoryview:
         """What `end` leaves of the window, empty if nothing fits."""
         words, n = _words(self.words)
-        r = _lib.tm_tail(words, n, bytes(window), len(window), 0, len(window))
+        r = _lib.tm_tail(words, n, _bytes(window), len(window), 0, len(window))
         return memoryview(window)[r.offset:r.offset + r.length]
 
     def mirror(self) -> "Program":
@@ -272,7 +289,7 @@ class Pattern(NamedTuple):
 
 def compile(text: bytes) -> Pattern:
     """The two programs of a hexadecimal string. Refusals 1 to 11, then 12, 14, 13."""
-    text = _text(text)
+    text = _bytes(text)
     ahead, back = (_u32 * NODE_POOL)(), (_u32 * NODE_POOL)()
     r = _answered(_lib.tm_compile(text, len(text), ahead, NODE_POOL, back, NODE_POOL))
     return Pattern(Program(ahead[:r.forward]), Program(back[:r.reverse]))
@@ -280,7 +297,7 @@ def compile(text: bytes) -> Pattern:
 
 def literals(text: bytes) -> Literals:
     """The literals to search for (if there are any, every match holds one of them), and their rank. Refusals 1 to 11, then 19, 17."""
-    text = _text(text)
+    text = _bytes(text)
     data, lengths = (_u8 * LITERAL_BYTES)(), (_u16 * LITERAL_COUNT)()
     r = _answered(_lib.tm_literals(text, len(text), data, LITERAL_BYTES, lengths, LITERAL_COUNT))
     out, at = [], 0
@@ -292,8 +309,8 @@ def literals(text: bytes) -> Literals:
 
 def _check(function, words, haystack, start, end):
     words, n = _words(words)
-    haystack = bytes(haystack)
-    r = _answered(function(words, n, haystack, len(haystack), start, end))
+    haystack = _bytes(haystack)
+    r = _answered(function(words, n, haystack, len(haystack), _offset(start), _offset(end)))
     return r.offset if r.found else None
 
 
