@@ -6,7 +6,7 @@ import pickle
 import unittest
 
 import tokenmarsh
-from tokenmarsh import Alternatives, Byte, Jump, Mask, MaskedByte, NotByte, NotMaskedByte, Program, Refusal, Refused
+from tokenmarsh import Alternatives, Byte, Forward, Jump, Mask, MaskedByte, NotByte, NotMaskedByte, Refusal, Refused, Reverse
 
 
 class Doors(unittest.TestCase):
@@ -44,18 +44,29 @@ class Doors(unittest.TestCase):
     def test_programs(self):
         self.assertEqual(tokenmarsh.compile(b"{ A? }").forward.words, (0x00F0A001,))
         self.refused(lambda: tokenmarsh.compile(b"{ AB [256] CD }"), Refusal.NOT_SIMPLE)
-        self.refused(lambda: Program([7]), Refusal.UNSOUND)
-        self.refused(lambda: Program([0] * 513), Refusal.TOO_MANY_NODES)
+        for kind in (Forward, Reverse):
+            self.refused(lambda: kind([7]), Refusal.UNSOUND)
+            self.refused(lambda: kind([7] * 513), Refusal.TOO_MANY_NODES)
+            self.assertEqual(kind([]).mirror().mirror(), kind([]))
+            with self.assertRaises(AttributeError):
+                kind([]).words = (7,)
+        self.assertEqual((Forward([]).end(b""), Reverse([]).start(b"ab")), (0, 2))
+
+    def test_a_program_has_one_direction(self):
+        pattern = tokenmarsh.compile(b"{ 61 }")
+        self.assertEqual(pattern.forward.words, pattern.reverse.words)
+        self.assertNotEqual(pattern.forward, pattern.reverse)
+        self.assertFalse(hasattr(pattern.forward, "start") or hasattr(pattern.reverse, "end"))
 
     def test_words_have_32_bits(self):
         for words in ([1 << 32], (-1,), [0, 1 << 64]):
-            for door in (Program, tokenmarsh.sound, tokenmarsh.mirror, lambda w: tokenmarsh.forward(w, b"", 0, 0)):
+            for door in (Forward, Reverse, tokenmarsh.sound, tokenmarsh.mirror, lambda w: tokenmarsh.forward(w, b"", 0, 0)):
                 with self.assertRaises(ValueError) as caught:
                     door(words)
                 self.assertNotIsInstance(caught.exception, Refused)
         self.assertFalse(tokenmarsh.sound([(1 << 32) - 1]))
-        self.assertRaises(TypeError, Program, [0.0])
-        self.assertRaises(TypeError, Program, ["0"])
+        self.assertRaises(TypeError, Forward, [0.0])
+        self.assertRaises(TypeError, Forward, ["0"])
 
     def test_first_choice(self):
         self.assertEqual(tokenmarsh.compile(b"{ (61|61 62) 63 }").forward.end(b"abc"), 3)

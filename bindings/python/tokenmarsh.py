@@ -24,8 +24,8 @@ import os
 from dataclasses import dataclass
 from typing import NamedTuple, Optional, Tuple, Union
 
-__all__ = ["Refusal", "Refused", "Mask", "Byte", "NotByte", "MaskedByte", "NotMaskedByte", "Jump", "Alternatives", "Token", "Read", "Program", "Pattern",
-           "Literals", "read", "compile", "literals", "forward", "reverse", "mirror", "sound"]
+__all__ = ["Refusal", "Refused", "Mask", "Byte", "NotByte", "MaskedByte", "NotMaskedByte", "Jump", "Alternatives", "Token", "Read", "Forward", "Reverse",
+           "Pattern", "Literals", "read", "compile", "literals", "forward", "reverse", "mirror", "sound"]
 
 TOKEN_POOL = 4096
 NODE_POOL = 512
@@ -243,48 +243,68 @@ def read(text: bytes) -> Read:
     return Read(_list([tuple(pool[i:i + 4]) for i in range(0, r.words, 4)]), r.reached)
 
 
-class Program:
-    """A sound program. Its checks take a window as bytes and cannot be refused."""
+class _Program:
+    """Words that are sound, tested once. Its two kinds mean different things by the same words, and so can do different things."""
 
     def __init__(self, words):
-        """Refused: 13, 15."""
-        words = tuple(words)
+        """Refusals 13, 15."""
+        words = tuple(map(operator.index, words))
         if len(words) > NODE_POOL:
             raise Refused(Refusal.TOO_MANY_NODES)
         if not sound(words):
             raise Refused(Refusal.UNSOUND)
-        self.words = words
+        self._words = words
+
+    @property
+    def words(self) -> Tuple[int, ...]:
+        """Its node words."""
+        return self._words
 
     def __eq__(self, other):
-        return isinstance(other, Program) and self.words == other.words
+        return type(self) is type(other) and self.words == other.words
 
     def __hash__(self):
-        return hash(self.words)
+        return hash((type(self), self.words))
 
     def __repr__(self):
-        return "Program([%s])" % ", ".join(f"0x{w:08X}" for w in self.words)
+        return "%s([%s])" % (type(self).__name__, ", ".join(f"0x{w:08X}" for w in self.words))
+
+
+class Forward(_Program):
+    """A sound program that is searched forward. Its checks take a window as bytes and cannot be refused."""
 
     def end(self, window: bytes) -> Optional[int]:
-        """Where the first choice ends that fits the window from its start."""
+        """Where the first choice ends that fits the window from its start, or None."""
         return forward(self.words, window, 0, len(window))
 
-    def start(self, window: bytes) -> Optional[int]:
-        """Of a reverse program: where the first choice starts that fits the window up to its end."""
-        return reverse(self.words, window, 0, len(window))
-
     def tail(self, window: bytes) -> memoryview:
-        """What `end` leaves of the window, empty if nothing fits."""
+        """What `end` leaves of the window, as a part of it; empty if nothing fits."""
         words, n = _words(self.words)
         r = _lib.tm_tail(words, n, _bytes(window), len(window), 0, len(window))
         return memoryview(window)[r.offset:r.offset + r.length]
 
-    def mirror(self) -> "Program":
-        return Program(mirror(self.words))
+    def mirror(self) -> "Reverse":
+        """The mirror: what it fits is what this program fits, read from its other side."""
+        return Reverse(mirror(self.words))
+
+
+class Reverse(_Program):
+    """A sound program that is searched in reverse: its first node is the last of what it fits. Its checks take a window as bytes and cannot be refused."""
+
+    def start(self, window: bytes) -> Optional[int]:
+        """Where the first choice starts that fits the window up to its end, or None."""
+        return reverse(self.words, window, 0, len(window))
+
+    def mirror(self) -> Forward:
+        """The mirror: what it fits is what this program fits, read from its other side."""
+        return Forward(mirror(self.words))
 
 
 class Pattern(NamedTuple):
-    forward: Program
-    reverse: Program
+    """A compiled pattern: `forward.end` and `reverse.start` fit exactly what it matches."""
+
+    forward: Forward
+    reverse: Reverse
 
 
 def compile(text: bytes) -> Pattern:
@@ -292,7 +312,7 @@ def compile(text: bytes) -> Pattern:
     text = _bytes(text)
     ahead, back = (_u32 * NODE_POOL)(), (_u32 * NODE_POOL)()
     r = _answered(_lib.tm_compile(text, len(text), ahead, NODE_POOL, back, NODE_POOL))
-    return Pattern(Program(ahead[:r.forward]), Program(back[:r.reverse]))
+    return Pattern(Forward(ahead[:r.forward]), Reverse(back[:r.reverse]))
 
 
 def literals(text: bytes) -> Literals:
