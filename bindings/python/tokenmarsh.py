@@ -166,7 +166,10 @@ def _load():
     here = os.path.dirname(os.path.abspath(__file__))
     built = os.path.join(here, "..", "..", "target", "staticlib", "libtokenmarsh.so")
     named = os.environ.get("TOKENMARSH_SO")
-    lib = ctypes.CDLL(named if named else built if os.path.exists(built) else "libtokenmarsh.so")
+    try:
+        lib = ctypes.CDLL(named if named else built if os.path.exists(built) else "libtokenmarsh.so.0")
+    except OSError as error:
+        raise ImportError(f"no libtokenmarsh.so: run make, or name it by TOKENMARSH_SO ({error})") from error
     text = [ctypes.c_char_p, _size]
     words = [ctypes.POINTER(_u32), _size]
     window = words + [ctypes.c_char_p, _size, _size, _size]
