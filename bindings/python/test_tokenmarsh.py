@@ -3,10 +3,27 @@ import array
 import copy
 import doctest
 import pickle
+import random
 import unittest
 
 import tokenmarsh
 from tokenmarsh import Alternatives, Byte, Forward, Jump, Mask, MaskedByte, NotByte, NotMaskedByte, Refusal, Refused, Reverse
+
+
+def some_tokens(dice, most, nested=False):
+    """One to so many tokens of bytes that `some_bytes` has, as a text."""
+    def one():
+        kind = dice.randrange(12)
+        if kind < 2 and not nested:
+            return "(" + "|".join(some_tokens(dice, 3, True) for _ in range(dice.randint(1, 3))) + ")"
+        if kind < 4 and not nested:
+            return dice.choice(("[2]", "[0-2]", "[1-3]"))
+        return dice.choice(("41", "42", "43", "00", "20", "?1", "4?", "~41", "~?2", "??"))
+    return " ".join(one() for _ in range(dice.randint(1, most)))
+
+
+def some_bytes(dice, most):
+    return bytes(dice.choice(b"ABC\0 ") for _ in range(dice.randint(0, most)))
 
 
 class Doors(unittest.TestCase):
@@ -122,6 +139,22 @@ class Doors(unittest.TestCase):
         self.assertEqual(tokenmarsh.literals(b"{ ?? }"), ((), 0))
         self.refused(lambda: tokenmarsh.literals(b"{ (41|??) }"), Refusal.NOT_PLAIN)
         self.refused(lambda: tokenmarsh.literals(b"{ (" + b"41|" * 256 + b"41) }"), Refusal.TOO_MANY_LITERALS)
+
+    def test_every_match_holds_a_literal(self):
+        dice, matches = random.Random(1), 0
+        for _ in range(4000):
+            text = f"{{ 41 {some_tokens(dice, 5)} {dice.choice(('41', '42', '?3'))} }}".encode()
+            try:
+                pattern, picked = tokenmarsh.compile(text), tokenmarsh.literals(text)
+            except Refused:
+                continue
+            for _ in range(8):
+                window = b"A" + some_bytes(dice, 10)
+                end = pattern.forward.end(window)
+                if end is not None and picked.literals:
+                    matches += 1
+                    self.assertTrue(any(one in window[:end] for one in picked.literals), (text, window[:end]))
+        self.assertGreater(matches, 1000)
 
     def test_examples(self):
         self.assertEqual(doctest.testmod(tokenmarsh, verbose=False).failed, 0)
