@@ -1,21 +1,37 @@
-/* Tokenmarsh: byte patterns, read, compiled, searched and picked from by proved code.
+/* Tokenmarsh: byte patterns, which are YARA's hexadecimal strings such as { 61 [0-2] 63 }, read, compiled, searched and picked from by proved
+ * code.
  *
- * Every function takes any bytes, words and numbers at all and ends with an answer or with a refusal. A buffer is a pointer and
- * a count of its elements; a pointer may be null only where the count is 0. Buffers lent to one call must not overlap. Nothing is
- * kept after a call, nothing is allocated, and calls from several threads do not disturb each other.
+ * Every function takes any bytes, words and numbers at all and ends with an answer or with a refusal. A text ends by its length and not by a
+ * zero. A buffer is a pointer and a count of its elements: the pointer is good for as many and aligned as its type asks, and may be null only
+ * where the count is 0. A buffer that is written must not overlap another one that is lent to the same call; buffers that are only read
+ * may. Nothing is kept after a call, nothing is allocated, and calls from several threads do not disturb each other, as long as none writes what
+ * another uses. A call was seen to take up to 86,120 bytes of stack. A check tries the lengths of a range one after another, so that ranges
+ * multiply its time: four of [0-255] may take it many seconds. The other functions take microseconds, tm_literals up to some milliseconds.
  *
- * refusal is 0 if there is none, else:
- *    1  text above 4,096 bytes                      11  a 513th token
- *    2  something needed isn't there                12  not simple: a jump unbounded or above 255; in a branch, a range
- *    3  number above 4,294,967,295                      or nested alternatives
- *    4  an empty jump: [0], [0-0], [-0]             13  more than 512 nodes
- *    5  a jump whose from is above its to           14  a branch above 255 nodes
- *    6  a jump at a list's bound                    15  unsound program
- *    7  unbounded jump in alternatives              16  window start above its end, or end above the haystack's length
- *    8  jump above 200 in alternatives              17  a candidate with more than 256 literals
- *    9  ~??                                         18  a lent buffer is too short
- *   10  a ninth list level                          19  alternatives not plain (literals only)
- * place is the offset in the text that 1 to 11 are given at, and 0 for the others.
+ * refusal is 0 if there is none, else one of the numbers below. place is then the offset in the text that is given beside it, and 0 for 12 to
+ * 19 and where there is no refusal. Every other field of a refusal is 0.
+ *
+ *    1  text above 4,096 bytes                                           0
+ *    2  something needed isn't there                                     what stands instead, or the text's length; of an
+ *                                                                        empty list after a | that |
+ *    3  number above 4,294,967,295                                       its first digit
+ *    4  an empty jump: [0], [0-0], [-0]                                  the [
+ *    5  a jump whose from is above its to                                the [
+ *    6  a list begins with a jump, or has two or more tokens and ends
+ *       with one ([1] and [1-1] are ?? and no jumps)                     the list's first byte
+ *    7  unbounded jump in alternatives                                   the [
+ *    8  jump above 200 in alternatives                                   the [
+ *    9  ~??                                                              the ~
+ *   10  a ninth list level; the outer list is the first                  where the list would begin
+ *   11  a 513th token                                                    its first byte
+ *   12  not simple: a jump unbounded or above 255; in a branch, a range or nested alternatives
+ *   13  more than 512 nodes
+ *   14  a branch above 255 nodes
+ *   15  unsound program
+ *   16  window start above its end, or end above the haystack's length
+ *   17  a candidate with more than 256 literals
+ *   18  a lent buffer is too short
+ *   19  alternatives not plain: one of their lists holds more than AB, ?X, X? and their negations (tm_literals only)
  */
 #ifndef TOKENMARSH_H
 #define TOKENMARSH_H
@@ -43,7 +59,14 @@ typedef struct {
     uint64_t words;   /* how many words of the pool are used */
 } tm_read_result;
 
-/* Reads a hexadecimal string into token entries of four words.
+/* Reads a hexadecimal string into token entries of four words: a kind and three values, of which those not named are 0.
+ *    0  AB            its value                       3  ~?X, ~X?       as 2
+ *    1  ~AB           its value                       4  [from-to]      from, to or 0, 1 if there is a to
+ *    2  ?X, X?, ??    the digit X, or 0 for ??;       5  (..|..)        its lists, the entries within it
+ *                     0 for ?X, 1 for X?, 2 for ??    6  list mark      the list's direct tokens, the entries within it
+ * [n] is [n-n], and a missing from is 0; [1] and [1-1] are entered as ??. A list mark begins each list within alternatives, and is no token; the
+ * outer list has none.
+ * Anything after the closing brace and its blanks is ignored.
  * Refused: 18 if pool_len is below 4,096, and then nothing changes; else 1 to 11, and then the first 4,096 words are 0.
  * Success: the used words, 0 in the rest of the first 4,096. Words beyond those stay. */
 tm_read_result tm_read(const uint8_t *text, size_t text_len, uint32_t *pool, size_t pool_len);
@@ -55,7 +78,13 @@ typedef struct {
     uint64_t reverse;
 } tm_compile_result;
 
-/* Compiles a hexadecimal string into its forward and its reverse program.
+/* Compiles a hexadecimal string into its forward and its reverse program: the one for tm_forward and tm_tail, the other for tm_reverse.
+ * A program is at most 512 node words. A word is kind + 256 * first + 65536 * second, where first and second are 0 if not named:
+ *    0  byte           first: its value              4  range          first: the fewest, second: the most of any bytes
+ *    1  mask           first: value, second: mask    5  dot            any byte but 0A
+ *    2  not a mask     first: value, second: mask    6  alternation    first + 256 * second: so many words follow, which are branches
+ *    3  jump           first: so many of any bytes   7  branch         first: so many words follow that are in it
+ * A mask fits the bytes whose bits under the mask equal the value, its negation all others.
  * Refused: 18 if either pool is below 512 words, and then nothing changes; else 1 to 11, 12, 14, 13, and then the first 512 words of
  * both pools are 0. Success: the used words, 0 in the rest of the first 512. Words beyond those stay. */
 tm_compile_result tm_compile(const uint8_t *text, size_t text_len, uint32_t *forward, size_t forward_len, uint32_t *reverse, size_t reverse_len);
@@ -75,15 +104,17 @@ tm_literals_result tm_literals(const uint8_t *text, size_t text_len, uint8_t *by
 
 typedef struct {
     uint32_t refusal;
-    uint32_t found;  /* 1 if there is a match */
-    uint64_t offset; /* where it ends (tm_forward) or starts (tm_reverse); 0 if there is none */
+    uint32_t found;  /* 1 if there is a match, else 0 */
+    uint64_t offset; /* where it ends (tm_forward) or starts (tm_reverse), counted from the haystack's first byte; 0 if there is none */
 } tm_check_result;
 
-/* Whether a program fits the window of the haystack from `start` on: the end of the first choice that does.
- * Refused: 16, 13, 15. Bytes outside the window are not looked at. */
+/* Whether a program fits the window of the haystack, the bytes from `start` to before `end`, from its first byte on: the end of the first
+ * choice that does, branches being tried from first to last and short ranges before long ones.
+ * Refused: 16, then 13, 15. Bytes outside the window are not looked at. */
 tm_check_result tm_forward(const uint32_t *program, size_t program_len, const uint8_t *haystack, size_t haystack_len, size_t start, size_t end);
 
-/* Whether a reverse program fits the window's tail, up to `end`: the start of the first choice that does. Refused: 16, 13, 15. */
+/* Whether a reverse program fits the window's tail, up to `end`: the start of the first choice that does, branches being tried from first to
+ * last and long ranges before short ones. Refused: 16, then 13, 15. Bytes outside the window are not looked at. */
 tm_check_result tm_reverse(const uint32_t *program, size_t program_len, const uint8_t *haystack, size_t haystack_len, size_t start, size_t end);
 
 typedef struct {
@@ -91,7 +122,8 @@ typedef struct {
     uint64_t length;
 } tm_tail_result;
 
-/* What tm_forward leaves of the window, as a part of the haystack; empty after no match and after a refusal, which tm_forward tells apart. */
+/* What tm_forward leaves of the window, as a part of the haystack; offset and length are 0 after no match and after a refusal, which tm_forward
+ * tells apart. */
 tm_tail_result tm_tail(const uint32_t *program, size_t program_len, const uint8_t *haystack, size_t haystack_len, size_t start, size_t end);
 
 typedef struct {
@@ -99,12 +131,14 @@ typedef struct {
     uint64_t words; /* how many words the mirror has */
 } tm_mirror_result;
 
-/* The mirror of a program: its items and each branch's contents reversed.
+/* The mirror of a program: its items and each branch's contents reversed, the branches of an alternation in their order.
  * Refused: 18 if pool_len is below 512, and then nothing changes; else 13, 15, and then the first 512 words are 0.
  * Success: the used words, 0 in the rest of the first 512. Words beyond those stay. */
 tm_mirror_result tm_mirror(const uint32_t *program, size_t program_len, uint32_t *pool, size_t pool_len);
 
-/* 1 if the words are a sound program, else 0. */
+/* 1 if the words are a sound program, else 0. Sound are at most 512 words of the kinds that tm_compile names, each below 2^24 and with 0 where
+ * nothing is named; a range has its fewest at most its most; an alternation is filled exactly by one or more branches, which stand nowhere
+ * else; a branch holds only kinds 0, 1, 2, 3 and 5, or nothing. */
 uint32_t tm_sound(const uint32_t *program, size_t program_len);
 
 #ifdef __cplusplus

@@ -3,14 +3,34 @@
  *     cc example.c $(pkg-config --cflags --libs tokenmarsh) -o example && ./example '{ 61 [0-2] 63 }' < FILE
  */
 #include <stdio.h>
+#include <stdlib.h>
 #include <string.h>
 
 #include "tokenmarsh.h"
 
+/* All of standard input, or NULL: a scanner that stops short of a file's end misses what stands there. */
+static uint8_t *whole(size_t *n)
+{
+    uint8_t *bytes = NULL;
+    size_t room = 0;
+
+    for (*n = 0; !feof(stdin);) {
+        if (*n == room) {
+            uint8_t *more = realloc(bytes, room = 2 * room + 65536);
+            if (more == NULL)
+                return free(bytes), NULL;
+            bytes = more;
+        }
+        *n += fread(bytes + *n, 1, room - *n, stdin);
+        if (ferror(stdin))
+            return free(bytes), NULL;
+    }
+    return bytes;
+}
+
 int main(int argc, char **argv)
 {
     static uint32_t forward[TM_NODE_POOL], reverse[TM_NODE_POOL];
-    static uint8_t bytes[65536];
 
     if (argc != 2) {
         fprintf(stderr, "usage: example PATTERN < FILE\n");
@@ -18,14 +38,20 @@ int main(int argc, char **argv)
     }
     tm_compile_result c = tm_compile((const uint8_t *)argv[1], strlen(argv[1]), forward, TM_NODE_POOL, reverse, TM_NODE_POOL);
     if (c.refusal != 0) {
-        printf("refused %u at %llu\n", c.refusal, (unsigned long long)c.place);
+        fprintf(stderr, "refused %u at %llu\n", c.refusal, (unsigned long long)c.place);
         return 1;
     }
-    size_t n = fread(bytes, 1, sizeof bytes, stdin);
+    size_t n;
+    uint8_t *bytes = whole(&n);
+    if (bytes == NULL) {
+        fprintf(stderr, "standard input cannot be read\n");
+        return 1;
+    }
     for (size_t start = 0; start < n; start++) {
         tm_check_result r = tm_forward(forward, c.forward, bytes, n, start, n);
         if (r.found)
             printf("%zu %llu\n", start, (unsigned long long)r.offset);
     }
+    free(bytes);
     return 0;
 }

@@ -155,9 +155,11 @@ static void reading(const uint8_t *t, size_t n, size_t lent)
         same(pool, 4 * TM_TOKEN_POOL, "tm_read: words beyond changed");
         if (r.refusal == 0 && (r.words > 4092 || r.reached > n))
             fault("tm_read: bounds");
-        if (r.refusal != 0 && (r.words != 0 || r.place > n))
-            fault("tm_read: place");
     }
+    if (r.refusal == 0 || r.refusal == 18 ? r.place != 0 : r.place > n)
+        fault("tm_read: place");
+    if (r.refusal != 0 && (r.words != 0 || r.reached != 0))
+        fault("tm_read: a refusal has no words");
     back(pool, "tm_read: guard");
 }
 
@@ -183,6 +185,10 @@ static void compiling(const uint8_t *t, size_t n, size_t forward, size_t reverse
             *words = r.forward;
         }
     }
+    if (r.refusal == 0 || r.refusal > 11 ? r.place != 0 : r.place > n)
+        fault("tm_compile: place");
+    if (r.refusal != 0 && (r.forward != 0 || r.reverse != 0))
+        fault("tm_compile: a refusal has no words");
     back(f, "tm_compile: guard");
     back(b, "tm_compile: guard");
 }
@@ -202,7 +208,9 @@ static uint32_t picking(const uint8_t *t, size_t n, size_t room, size_t count, s
     same(lengths, r.refusal == 0 ? 2 * r.count : 0, "tm_literals: lengths changed");
     if (r.refusal == 0 && (r.rank > 80 || r.count > TM_LITERALS || total > room))
         fault("tm_literals: bounds");
-    if (r.refusal != 0 && (r.rank != 0 || r.count != 0 || r.place > n || (r.refusal > 11 && r.place != 0)))
+    if (r.refusal == 0 || r.refusal > 11 ? r.place != 0 : r.place > n)
+        fault("tm_literals: place");
+    if (r.refusal != 0 && (r.rank != 0 || r.count != 0))
         fault("tm_literals: a refusal has no count");
     back(bytes, "tm_literals: guard");
     back(lengths, "tm_literals: guard");
@@ -242,7 +250,9 @@ static void checking(const uint32_t *program, size_t words, size_t bytes, size_t
         fault("checks: 16");
     if ((f.found && (f.offset < start || f.offset > end)) || (b.found && (b.offset < start || b.offset > end)))
         fault("checks: outside the window");
-    if (f.found ? tail.offset != f.offset || tail.length != end - f.offset : tail.length != 0)
+    if (f.found > 1 || b.found > 1 || (!f.found && f.offset != 0) || (!b.found && b.offset != 0) || (f.refusal != 0 && f.found) || (b.refusal != 0 && b.found))
+        fault("checks: no match has no offset");
+    if (f.found ? tail.offset != f.offset || tail.length != end - f.offset : tail.offset != 0 || tail.length != 0)
         fault("tm_tail");
     back(hay, "checks: guard");
 }
@@ -269,6 +279,8 @@ static void mirroring(const uint32_t *program, size_t words, size_t lent)
         if (r.refusal == 0 && (r.words != words || !tm_sound((uint32_t *)pool.lent, r.words)))
             fault("tm_mirror: not a mirror");
     }
+    if (r.refusal != 0 && r.words != 0)
+        fault("tm_mirror: a refusal has no words");
     back(pool, "tm_mirror: guard");
 }
 
@@ -309,6 +321,26 @@ static void every_length(void)
                 checking(program, words, bytes, start, end);
 }
 
+/* A null pointer where nothing is lent. */
+static void nulls(void)
+{
+    static uint32_t pool[TM_TOKEN_POOL], other[TM_NODE_POOL];
+    static const uint8_t any[] = {'{', '?', '?', '}'};
+    tm_check_result f = tm_forward(NULL, 0, NULL, 0, 0, 0), b = tm_reverse(NULL, 0, NULL, 0, 0, 0);
+    tm_tail_result tail = tm_tail(NULL, 0, NULL, 0, 0, 0);
+
+    if (tm_read(NULL, 0, NULL, 0).refusal != 18 || tm_read(NULL, 0, pool, TM_TOKEN_POOL).refusal != 2)
+        fault("tm_read: null");
+    if (tm_compile(NULL, 0, NULL, 0, NULL, 0).refusal != 18 || tm_compile(NULL, 0, pool, TM_NODE_POOL, other, TM_NODE_POOL).refusal != 2)
+        fault("tm_compile: null");
+    if (tm_literals(NULL, 0, NULL, 0, NULL, 0).refusal != 2 || tm_literals(any, sizeof any, NULL, 0, NULL, 0).refusal != 0)
+        fault("tm_literals: null");
+    if (f.refusal != 0 || f.found != 1 || f.offset != 0 || b.refusal != 0 || b.found != 1 || b.offset != 0 || tail.offset != 0 || tail.length != 0)
+        fault("checks: null");
+    if (tm_mirror(NULL, 0, NULL, 0).refusal != 18 || tm_mirror(NULL, 0, pool, TM_NODE_POOL).refusal != 0 || tm_sound(NULL, 0) != 1)
+        fault("tm_mirror, tm_sound: null");
+}
+
 int main(int argc, char **argv)
 {
     static uint8_t t[8192];
@@ -317,6 +349,7 @@ int main(int argc, char **argv)
     unsigned long rounds = argc > 2 ? strtoul(argv[2], NULL, 10) : 10000;
 
     state = argc > 1 ? strtoull(argv[1], NULL, 10) * 2 + 1 : 1;
+    nulls();
     every_length();
     for (unsigned long i = 0; i < rounds; i++) {
         size_t n = text(t);

@@ -1,9 +1,29 @@
 """The doors from Python: `python3 -m unittest` in this folder."""
+import array
+import copy
 import doctest
+import pickle
+import random
 import unittest
 
 import tokenmarsh
-from tokenmarsh import Alternatives, Byte, Jump, Mask, MaskedByte, NotMaskedByte, Program, Refusal, Refused
+from tokenmarsh import Alternatives, Byte, Forward, Jump, Mask, MaskedByte, NotByte, NotMaskedByte, Refusal, Refused, Reverse
+
+
+def some_tokens(dice, most, nested=False):
+    """One to so many tokens of bytes that `some_bytes` has, as a text."""
+    def one():
+        kind = dice.randrange(12)
+        if kind < 2 and not nested:
+            return "(" + "|".join(some_tokens(dice, 3, True) for _ in range(dice.randint(1, 3))) + ")"
+        if kind < 4 and not nested:
+            return dice.choice(("[2]", "[0-2]", "[1-3]"))
+        return dice.choice(("41", "42", "43", "00", "20", "?1", "4?", "~41", "~?2", "??"))
+    return " ".join(one() for _ in range(dice.randint(1, most)))
+
+
+def some_bytes(dice, most):
+    return bytes(dice.choice(b"ABC\0 ") for _ in range(dice.randint(0, most)))
 
 
 class Doors(unittest.TestCase):
@@ -20,17 +40,50 @@ class Doors(unittest.TestCase):
             for door in (tokenmarsh.read, tokenmarsh.compile, tokenmarsh.literals):
                 self.refused(lambda: door(text), number, place)
 
+    def test_a_refusal_says_why_and_travels(self):
+        with self.assertRaises(Refused) as caught:
+            tokenmarsh.read(b"{ AB [0] CD }")
+        for one in (caught.exception, copy.copy(caught.exception), pickle.loads(pickle.dumps(caught.exception))):
+            self.assertEqual((one.refusal, one.place, str(one)), (Refusal.JUMP_EMPTY, 5, "refused 4 at 5: empty jump"))
+        self.assertEqual([r.value for r in Refusal], list(range(1, 20)))
+
     def test_tokens_are_nested(self):
         r = tokenmarsh.read(b"{ AB ~?c [4-] ( 01 | 2? [1] ) 03 } zz")
         self.assertEqual(r.reached, 35)
         self.assertEqual(r.tokens, (Byte(0xAB), NotMaskedByte(0xC, Mask.LEFT), Jump(4, None),
                                     Alternatives(((Byte(1),), (MaskedByte(2, Mask.RIGHT), MaskedByte(0, Mask.ALL)))), Byte(3)))
 
+    def test_a_token_is_not_its_negation(self):
+        self.assertNotEqual(tokenmarsh.read(b"{ AB }").tokens, tokenmarsh.read(b"{ ~AB }").tokens)
+        self.assertNotEqual(tokenmarsh.read(b"{ 2? }").tokens, tokenmarsh.read(b"{ ~2? }").tokens)
+        self.assertEqual(tokenmarsh.read(b"{ ~AB }").tokens, (NotByte(0xAB),))
+
     def test_programs(self):
         self.assertEqual(tokenmarsh.compile(b"{ A? }").forward.words, (0x00F0A001,))
         self.refused(lambda: tokenmarsh.compile(b"{ AB [256] CD }"), Refusal.NOT_SIMPLE)
-        self.refused(lambda: Program([7]), Refusal.UNSOUND)
-        self.refused(lambda: Program([0] * 513), Refusal.TOO_MANY_NODES)
+        for kind in (Forward, Reverse):
+            self.refused(lambda: kind([7]), Refusal.UNSOUND)
+            self.refused(lambda: kind([7] * 513), Refusal.TOO_MANY_NODES)
+            self.assertEqual(kind([]).mirror().mirror(), kind([]))
+            with self.assertRaises(AttributeError):
+                kind([]).words = (7,)
+        self.assertEqual((Forward([]).end(b""), Reverse([]).start(b"ab")), (0, 2))
+
+    def test_a_program_has_one_direction(self):
+        pattern = tokenmarsh.compile(b"{ 61 }")
+        self.assertEqual(pattern.forward.words, pattern.reverse.words)
+        self.assertNotEqual(pattern.forward, pattern.reverse)
+        self.assertFalse(hasattr(pattern.forward, "start") or hasattr(pattern.reverse, "end"))
+
+    def test_words_have_32_bits(self):
+        for words in ([1 << 32], (-1,), [0, 1 << 64]):
+            for door in (Forward, Reverse, tokenmarsh.sound, tokenmarsh.mirror, lambda w: tokenmarsh.forward(w, b"", 0, 0)):
+                with self.assertRaises(ValueError) as caught:
+                    door(words)
+                self.assertNotIsInstance(caught.exception, Refused)
+        self.assertFalse(tokenmarsh.sound([(1 << 32) - 1]))
+        self.assertRaises(TypeError, Forward, [0.0])
+        self.assertRaises(TypeError, Forward, ["0"])
 
     def test_first_choice(self):
         self.assertEqual(tokenmarsh.compile(b"{ (61|61 62) 63 }").forward.end(b"abc"), 3)
@@ -38,7 +91,45 @@ class Doors(unittest.TestCase):
         self.assertEqual(friend.reverse.start(b"ba"), 1)
         self.assertEqual(friend.forward.mirror().start(b"ba"), 1)
         self.assertEqual(bytes(tokenmarsh.compile(b"{ 61 }").forward.tail(b"abc")), b"bc")
-        self.refused(lambda: tokenmarsh.forward([], b"abc", 2, 1), Refusal.BAD_WINDOW)
+
+    def test_windows(self):
+        for check in (tokenmarsh.forward, tokenmarsh.reverse):
+            self.assertEqual(check([], b"abc", 3, 3), 3)
+            # the last two are 0 and 3 in 64 bits
+            for start, end in ((2, 1), (0, 4), (-1, 3), (0, -1), ((1 << 64) - 1, (1 << 64) - 1), (1 << 64, 3), (-(1 << 64), 3), (0, (1 << 64) + 3)):
+                self.refused(lambda: check([], b"abc", start, end), Refusal.BAD_WINDOW)
+            # 16 comes before 13, and that before 15
+            self.refused(lambda: check([7] * 513, b"abc", 2, 1), Refusal.BAD_WINDOW)
+            self.refused(lambda: check([7] * 513, b"abc", 0, 3), Refusal.TOO_MANY_NODES)
+            self.refused(lambda: check([7], b"abc", 0, 3), Refusal.UNSOUND)
+            self.assertRaises(TypeError, check, [], b"abc", 0.0, 3)
+            self.assertRaises(TypeError, check, [], b"abc", None, 3)
+
+    def test_whatever_holds_bytes(self):
+        program = tokenmarsh.compile(bytearray(b"{ 61 }")).forward
+        self.assertEqual(program, tokenmarsh.compile(memoryview(b"x{ 61 }")[1:]).forward)
+        for window in (b"abc", bytearray(b"abc"), memoryview(b"xabc")[1:], memoryview(b"a_b_c")[::2], array.array("B", b"abc")):
+            self.assertEqual(program.end(window), 1)
+            self.assertEqual(bytes(program.tail(window)), b"bc")
+        window = bytearray(b"abc")
+        program.tail(window)[0] = 0x7A
+        self.assertEqual(window, b"azc")
+
+    def test_what_holds_no_bytes(self):
+        program, back = tokenmarsh.compile(b"{ 61 }")
+        # a number is no count of zeros, and four bytes are no item
+        for thing in (3, "abc", [0x61], None, array.array("I", [0x61]), memoryview(b"abcd").cast("B", (2, 2))):
+            for door in (tokenmarsh.read, tokenmarsh.compile, tokenmarsh.literals, program.end, program.tail, back.start,
+                         lambda w: tokenmarsh.forward([], w, 0, 0), lambda w: tokenmarsh.reverse([], w, 0, 0)):
+                self.assertRaises(TypeError, door, thing)
+
+    def test_any_bytes_are_a_text(self):
+        for text in (b"\xff\xfe", b"{ \x80 }", b"{ 41\x00 }", b"\x00" * 4096):
+            for door in (tokenmarsh.read, tokenmarsh.compile, tokenmarsh.literals):
+                with self.assertRaises(Refused) as caught:
+                    door(text)
+                self.assertEqual(caught.exception.refusal, Refusal.UNEXPECTED)
+        self.assertEqual(tokenmarsh.read(b"{ 41 }\xff").reached, 6)
 
     def test_literals(self):
         r = tokenmarsh.literals(b"{ 01 02 ?3 04 }")
@@ -48,6 +139,22 @@ class Doors(unittest.TestCase):
         self.assertEqual(tokenmarsh.literals(b"{ ?? }"), ((), 0))
         self.refused(lambda: tokenmarsh.literals(b"{ (41|??) }"), Refusal.NOT_PLAIN)
         self.refused(lambda: tokenmarsh.literals(b"{ (" + b"41|" * 256 + b"41) }"), Refusal.TOO_MANY_LITERALS)
+
+    def test_every_match_holds_a_literal(self):
+        dice, matches = random.Random(1), 0
+        for _ in range(4000):
+            text = f"{{ 41 {some_tokens(dice, 5)} {dice.choice(('41', '42', '?3'))} }}".encode()
+            try:
+                pattern, picked = tokenmarsh.compile(text), tokenmarsh.literals(text)
+            except Refused:
+                continue
+            for _ in range(8):
+                window = b"A" + some_bytes(dice, 10)
+                end = pattern.forward.end(window)
+                if end is not None and picked.literals:
+                    matches += 1
+                    self.assertTrue(any(one in window[:end] for one in picked.literals), (text, window[:end]))
+        self.assertGreater(matches, 1000)
 
     def test_examples(self):
         self.assertEqual(doctest.testmod(tokenmarsh, verbose=False).failed, 0)

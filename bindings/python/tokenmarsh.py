@@ -9,15 +9,23 @@
     >>> tokenmarsh.literals(b"{ 61 [0-2] 63 }")
     Literals(literals=(b'c',), rank=20)
 
+A pattern, a window and a haystack are `bytes` or anything whose items are bytes: a bytearray, a memoryview, an mmap. What is not `bytes` itself is copied by
+each call, so a long haystack that is searched at many places should be `bytes`, and the places the numbers that `forward` and `reverse` take.
+
+A call that has no answer raises `Refused`, which has the refusal's number and its place in the text. What is no bytes at all is a TypeError, and a word
+that has more than 32 bits a ValueError.
+
 The work is done by libtokenmarsh.so, from the file that TOKENMARSH_SO names, or from the repository's own build, or from where the system finds it.
 """
 import ctypes
 import enum
+import operator
 import os
+from dataclasses import dataclass
 from typing import NamedTuple, Optional, Tuple, Union
 
-__all__ = ["Refusal", "Refused", "Mask", "Byte", "NotByte", "MaskedByte", "NotMaskedByte", "Jump", "Alternatives", "Read", "Program", "Pattern", "Literals",
-           "read", "compile", "literals", "forward", "reverse", "mirror", "sound"]
+__all__ = ["Refusal", "Refused", "Mask", "Byte", "NotByte", "MaskedByte", "NotMaskedByte", "Jump", "Alternatives", "Token", "Read", "Forward", "Reverse",
+           "Pattern", "Literals", "read", "compile", "literals", "forward", "reverse", "mirror", "sound"]
 
 TOKEN_POOL = 4096
 NODE_POOL = 512
@@ -27,36 +35,45 @@ LITERAL_COUNT = 256
 
 
 class Refusal(enum.IntEnum):
-    """Why a call gives no answer, by its number."""
+    """Why a call gives no answer: a number, and its `meaning`."""
 
-    TEXT_TOO_LONG = 1
-    UNEXPECTED = 2
-    NUMBER_TOO_BIG = 3
-    JUMP_EMPTY = 4
-    JUMP_RANGE_INVALID = 5
-    JUMP_AT_BOUND = 6
-    JUMP_UNBOUNDED_IN_ALTERNATION = 7
-    JUMP_TOO_BIG_IN_ALTERNATION = 8
-    CANNOT_NEGATE_MASK_ALL = 9
-    HEX_STRING_TOO_DEEP = 10
-    TOO_MANY_TOKENS = 11
-    NOT_SIMPLE = 12
-    TOO_MANY_NODES = 13
-    BRANCH_TOO_LONG = 14
-    UNSOUND = 15
-    BAD_WINDOW = 16
-    TOO_MANY_LITERALS = 17
-    NO_ROOM = 18
-    NOT_PLAIN = 19
+    def __new__(cls, number, meaning):
+        one = int.__new__(cls, number)
+        one._value_, one.meaning = number, meaning
+        return one
+
+    TEXT_TOO_LONG = 1, "text above 4,096 bytes"
+    UNEXPECTED = 2, "something needed isn't there"
+    NUMBER_TOO_BIG = 3, "number above 4,294,967,295"
+    JUMP_EMPTY = 4, "empty jump"
+    JUMP_RANGE_INVALID = 5, "jump whose from is above its to"
+    JUMP_AT_BOUND = 6, "jump at the bound of a list"
+    JUMP_UNBOUNDED_IN_ALTERNATION = 7, "unbounded jump in alternatives"
+    JUMP_TOO_BIG_IN_ALTERNATION = 8, "jump above 200 in alternatives"
+    CANNOT_NEGATE_MASK_ALL = 9, "?? cannot be negated"
+    HEX_STRING_TOO_DEEP = 10, "alternatives nested too deep"
+    TOO_MANY_TOKENS = 11, "more than 512 tokens"
+    NOT_SIMPLE = 12, "a jump unbounded or above 255; in a branch, a range or nested alternatives"
+    TOO_MANY_NODES = 13, "more than 512 nodes"
+    BRANCH_TOO_LONG = 14, "branch above 255 nodes"
+    UNSOUND = 15, "unsound program"
+    BAD_WINDOW = 16, "window outside its haystack"
+    TOO_MANY_LITERALS = 17, "candidate with more than 256 literals"
+    NO_ROOM = 18, "lent buffer too short"
+    NOT_PLAIN = 19, "alternatives hold more than bytes and classes, so no literals are picked"
 
 
 class Refused(ValueError):
     """A refusal, and the offset in the text that it is given at (0 where none is meant)."""
 
     def __init__(self, number: int, place: int = 0):
+        # What an exception is made anew from, when it is copied or sent to another process.
+        super().__init__(int(number), place)
         self.refusal = Refusal(number)
         self.place = place
-        super().__init__(f"refused {number} at {place}: {self.refusal.name.lower().replace('_', ' ')}")
+
+    def __str__(self):
+        return f"refused {self.refusal.value} at {self.place}: {self.refusal.meaning}"
 
 
 class Mask(enum.IntEnum):
@@ -67,42 +84,65 @@ class Mask(enum.IntEnum):
     ALL = 2
 
 
-class Byte(NamedTuple):
+# No tuples: a byte and its negation hold the same value, and are not equal.
+@dataclass(frozen=True)
+class Byte:
+    """`AB`"""
+
     value: int
 
 
-class NotByte(NamedTuple):
+@dataclass(frozen=True)
+class NotByte:
+    """`~AB`"""
+
     value: int
 
 
-class MaskedByte(NamedTuple):
+@dataclass(frozen=True)
+class MaskedByte:
+    """`?X`, `X?`, `??`: the digit as typed, 0 for `??`"""
+
     value: int
     mask: Mask
 
 
-class NotMaskedByte(NamedTuple):
+@dataclass(frozen=True)
+class NotMaskedByte:
+    """`~?X`, `~X?`"""
+
     value: int
     mask: Mask
 
 
-class Jump(NamedTuple):
+@dataclass(frozen=True)
+class Jump:
+    """`[start-to]`; `to` is None for `[start-]`"""
+
     start: int
     to: Optional[int]
 
 
-class Alternatives(NamedTuple):
-    lists: tuple
+@dataclass(frozen=True)
+class Alternatives:
+    """`( .. | .. )`: the tokens of each list"""
+
+    lists: Tuple[Tuple["Token", ...], ...]
 
 
 Token = Union[Byte, NotByte, MaskedByte, NotMaskedByte, Jump, Alternatives]
 
 
 class Read(NamedTuple):
+    """A text as it was read: the tokens of the outer list, and the offset after the closing brace and its blanks; what follows is ignored."""
+
     tokens: Tuple[Token, ...]
     reached: int
 
 
 class Literals(NamedTuple):
+    """The literals picked from a pattern, in their order (repeats stay), and how good they are for a search: 0 to 80."""
+
     literals: Tuple[bytes, ...]
     rank: int
 
@@ -126,7 +166,10 @@ def _load():
     here = os.path.dirname(os.path.abspath(__file__))
     built = os.path.join(here, "..", "..", "target", "staticlib", "libtokenmarsh.so")
     named = os.environ.get("TOKENMARSH_SO")
-    lib = ctypes.CDLL(named if named else built if os.path.exists(built) else "libtokenmarsh.so")
+    try:
+        lib = ctypes.CDLL(named if named else built if os.path.exists(built) else "libtokenmarsh.so.0")
+    except OSError as error:
+        raise ImportError(f"no libtokenmarsh.so: run make, or name it by TOKENMARSH_SO ({error})") from error
     text = [ctypes.c_char_p, _size]
     words = [ctypes.POINTER(_u32), _size]
     window = words + [ctypes.c_char_p, _size, _size, _size]
@@ -148,17 +191,27 @@ def _load():
 _lib = _load()
 
 
-def _text(text: bytes) -> bytes:
-    if not isinstance(text, (bytes, bytearray, memoryview)):
-        raise TypeError("a pattern is bytes")
-    return bytes(text)
+def _bytes(lent) -> bytes:
+    """The bytes of a buffer; of `bytes` these themselves. Not of a number, which `bytes` would take for a count of zeros, nor of wider items."""
+    view = memoryview(lent)
+    if view.ndim != 1 or view.itemsize != 1:
+        raise TypeError("the items of a buffer are bytes")
+    return lent if type(lent) is bytes else bytes(view)
 
 
 def _words(words):
-    words = tuple(words)
+    words = tuple(map(operator.index, words))
     if any(not 0 <= w < 1 << 32 for w in words):
         raise ValueError("a word has 32 bits")
     return (_u32 * len(words))(*words), len(words)
+
+
+def _offset(number) -> int:
+    """A window's bound. ctypes would cut a number that is no size_t down to one, and no haystack has an offset that is none."""
+    number = operator.index(number)
+    if not 0 <= number <= _size(-1).value:
+        raise Refused(Refusal.BAD_WINDOW)
+    return number
 
 
 def _answered(result):
@@ -187,67 +240,87 @@ def _list(entries):
 
 def read(text: bytes) -> Read:
     """The tokens of a hexadecimal string, and the offset reached. Refusals 1 to 11."""
-    text = _text(text)
+    text = _bytes(text)
     pool = (_u32 * TOKEN_POOL)()
     r = _answered(_lib.tm_read(text, len(text), pool, TOKEN_POOL))
     return Read(_list([tuple(pool[i:i + 4]) for i in range(0, r.words, 4)]), r.reached)
 
 
-class Program:
-    """A sound program. Its checks take a window as bytes and cannot be refused."""
+class _Program:
+    """Words that are sound, tested once. Its two kinds mean different things by the same words, and so can do different things."""
 
     def __init__(self, words):
-        """Refused: 13, 15."""
-        words = tuple(words)
+        """Refusals 13, 15."""
+        words = tuple(map(operator.index, words))
         if len(words) > NODE_POOL:
             raise Refused(Refusal.TOO_MANY_NODES)
         if not sound(words):
             raise Refused(Refusal.UNSOUND)
-        self.words = words
+        self._words = words
+
+    @property
+    def words(self) -> Tuple[int, ...]:
+        """Its node words."""
+        return self._words
 
     def __eq__(self, other):
-        return isinstance(other, Program) and self.words == other.words
+        return type(self) is type(other) and self.words == other.words
 
     def __hash__(self):
-        return hash(self.words)
+        return hash((type(self), self.words))
 
     def __repr__(self):
-        return "Program([%s])" % ", ".join(f"0x{w:08X}" for w in self.words)
+        return "%s([%s])" % (type(self).__name__, ", ".join(f"0x{w:08X}" for w in self.words))
+
+
+class Forward(_Program):
+    """A sound program that is searched forward. Its checks take a window as bytes and cannot be refused."""
 
     def end(self, window: bytes) -> Optional[int]:
-        """Where the first choice ends that fits the window from its start."""
+        """Where the first choice ends that fits the window from its start, or None."""
         return forward(self.words, window, 0, len(window))
 
-    def start(self, window: bytes) -> Optional[int]:
-        """Of a reverse program: where the first choice starts that fits the window up to its end."""
-        return reverse(self.words, window, 0, len(window))
-
     def tail(self, window: bytes) -> memoryview:
-        """What `end` leaves of the window, empty if nothing fits."""
+        """What `end` leaves of the window, as a part of it; empty if nothing fits."""
         words, n = _words(self.words)
-        r = _lib.tm_tail(words, n, bytes(window), len(window), 0, len(window))
+        r = _lib.tm_tail(words, n, _bytes(window), len(window), 0, len(window))
         return memoryview(window)[r.offset:r.offset + r.length]
 
-    def mirror(self) -> "Program":
-        return Program(mirror(self.words))
+    def mirror(self) -> "Reverse":
+        """The mirror: what it fits is what this program fits, read from its other side."""
+        return Reverse(mirror(self.words))
+
+
+class Reverse(_Program):
+    """A sound program that is searched in reverse: its first node is the last of what it fits. Its checks take a window as bytes and cannot be refused."""
+
+    def start(self, window: bytes) -> Optional[int]:
+        """Where the first choice starts that fits the window up to its end, or None."""
+        return reverse(self.words, window, 0, len(window))
+
+    def mirror(self) -> Forward:
+        """The mirror: what it fits is what this program fits, read from its other side."""
+        return Forward(mirror(self.words))
 
 
 class Pattern(NamedTuple):
-    forward: Program
-    reverse: Program
+    """A compiled pattern: `forward.end` and `reverse.start` fit exactly what it matches."""
+
+    forward: Forward
+    reverse: Reverse
 
 
 def compile(text: bytes) -> Pattern:
     """The two programs of a hexadecimal string. Refusals 1 to 11, then 12, 14, 13."""
-    text = _text(text)
+    text = _bytes(text)
     ahead, back = (_u32 * NODE_POOL)(), (_u32 * NODE_POOL)()
     r = _answered(_lib.tm_compile(text, len(text), ahead, NODE_POOL, back, NODE_POOL))
-    return Pattern(Program(ahead[:r.forward]), Program(back[:r.reverse]))
+    return Pattern(Forward(ahead[:r.forward]), Reverse(back[:r.reverse]))
 
 
 def literals(text: bytes) -> Literals:
     """The literals to search for (if there are any, every match holds one of them), and their rank. Refusals 1 to 11, then 19, 17."""
-    text = _text(text)
+    text = _bytes(text)
     data, lengths = (_u8 * LITERAL_BYTES)(), (_u16 * LITERAL_COUNT)()
     r = _answered(_lib.tm_literals(text, len(text), data, LITERAL_BYTES, lengths, LITERAL_COUNT))
     out, at = [], 0
@@ -259,8 +332,8 @@ def literals(text: bytes) -> Literals:
 
 def _check(function, words, haystack, start, end):
     words, n = _words(words)
-    haystack = bytes(haystack)
-    r = _answered(function(words, n, haystack, len(haystack), start, end))
+    haystack = _bytes(haystack)
+    r = _answered(function(words, n, haystack, len(haystack), _offset(start), _offset(end)))
     return r.offset if r.found else None
 
 

@@ -41,7 +41,7 @@ fn main() -> std::process::ExitCode {
     let args: Vec<String> = std::env::args().skip(1).collect();
     let judge = runs::Judge::new();
     let good = compared(&judge, &args).or_else(|| shown(&judge, &args)).unwrap_or_else(|| {
-        eprintln!("no such comparison; compare/run names them");
+        eprintln!("no such comparison; the head of compare/run names them");
         false
     });
     if good { std::process::ExitCode::SUCCESS } else { std::process::ExitCode::FAILURE }

@@ -2,17 +2,19 @@
 //!
 //!     cargo run --example list '{ 4D 5A [0-64] 50 45 }' FILE
 
+use std::ffi::OsString;
+use std::path::Path;
 use std::{env, fs, process::ExitCode};
 
 use tokenmarsh::Pattern;
 
 fn main() -> ExitCode {
-    let args: Vec<String> = env::args().collect();
+    let args: Vec<OsString> = env::args_os().collect();
     let [_, text, file] = args.as_slice() else {
         eprintln!("usage: list PATTERN FILE");
         return ExitCode::from(2);
     };
-    let pattern = match Pattern::compile(text.as_bytes()) {
+    let pattern = match Pattern::compile(text.as_encoded_bytes()) {
         Ok(pattern) => pattern,
         Err(refused) => {
             eprintln!("{refused}");
@@ -22,7 +24,7 @@ fn main() -> ExitCode {
     let bytes = match fs::read(file) {
         Ok(bytes) => bytes,
         Err(error) => {
-            eprintln!("{file}: {error}");
+            eprintln!("{}: {error}", Path::new(file).display());
             return ExitCode::FAILURE;
         }
     };

@@ -1,7 +1,8 @@
 //! Byte patterns in YARA's hexadecimal strings, read, compiled, searched and picked from by proved code.
 //!
 //! The work is done by libtokenmarsh.a, a library whose every function is proved to meet its contract; this crate is a thin and safe layer over
-//! its C functions. What the types rule out needs no test at run time: a [`Program`] is sound, and a window is a slice.
+//! its C functions. What the types rule out needs no test at run time: a program is sound and has one direction ([`Forward`],
+//! [`Reverse`]), and a window is a slice.
 //!
 //! ```
 //! use tokenmarsh::Pattern;
@@ -25,10 +26,10 @@ pub mod raw;
 mod refusal;
 mod tokens;
 
-pub use literals::{literals, Literals};
-pub use program::{Pattern, Program};
+pub use literals::{Literals, literals};
+pub use program::{Forward, Pattern, Reverse};
 pub use refusal::{Refusal, Refused};
-pub use tokens::{read, Mask, Token, Tokens};
+pub use tokens::{Mask, Token, Tokens, read};
 
 /// The longest text that is read.
 pub const TEXT_LIMIT: usize = 4096;

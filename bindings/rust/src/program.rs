@@ -1,41 +1,58 @@
 use crate::refusal::{Refusal, Refused};
-use crate::{raw, refused, NODE_POOL};
+use crate::{NODE_POOL, raw, refused};
 
-/// A sound program: node words that were tested once, or compiled.
-///
-/// Its checks cannot be refused: the words are sound by construction, and a window is the slice that is searched.
+/// Words that are a sound program: tested once, or written by a proved function that promises it.
 #[derive(Clone, Debug, PartialEq, Eq, Hash)]
-pub struct Program {
-    words: Box<[u32]>,
+struct Sound(Box<[u32]>);
+
+impl Sound {
+    fn tested(words: &[u32]) -> Result<Self, Refusal> {
+        if words.len() > NODE_POOL {
+            return Err(Refusal::TooManyNodes);
+        }
+        // SAFETY: the slice is good for its length.
+        if unsafe { raw::tm_sound(words.as_ptr(), words.len()) } == 1 {
+            Ok(Self(words.into()))
+        } else {
+            Err(Refusal::Unsound)
+        }
+    }
+
+    fn mirror(&self) -> Self {
+        let mut pool = vec![0u32; NODE_POOL];
+        // SAFETY: both slices are good for their lengths, and they do not overlap.
+        let r = unsafe { raw::tm_mirror(self.0.as_ptr(), self.0.len(), pool.as_mut_ptr(), pool.len()) };
+        debug_assert_eq!(r.refusal, 0);
+        Self(pool[..r.words as usize].into())
+    }
 }
 
-impl Program {
+/// A sound program that is searched forward.
+///
+/// Its checks cannot be refused: the words are sound by construction, and a window is the slice that is searched. A program means something else
+/// in the other direction, so there it cannot be searched:
+///
+/// ```compile_fail
+/// let pattern = tokenmarsh::Pattern::compile(b"{ 61 62 }").unwrap();
+/// pattern.forward.start(b"ab");
+/// ```
+#[derive(Clone, Debug, PartialEq, Eq, Hash)]
+pub struct Forward(Sound);
+
+impl Forward {
     /// A program of node words.
     ///
     /// # Errors
     ///
     /// 13 for more than 512 words, 15 for words that are no sound program.
     pub fn new(words: &[u32]) -> Result<Self, Refusal> {
-        if words.len() > NODE_POOL {
-            return Err(Refusal::TooManyNodes);
-        }
-        // SAFETY: the slice is good for its length.
-        if unsafe { raw::tm_sound(words.as_ptr(), words.len()) } == 1 {
-            Ok(Self { words: words.into() })
-        } else {
-            Err(Refusal::Unsound)
-        }
-    }
-
-    /// Words that a proved function wrote and promises to be sound.
-    fn promised(words: &[u32]) -> Self {
-        Self { words: words.into() }
+        Sound::tested(words).map(Self)
     }
 
     /// Its node words.
     #[must_use]
     pub fn words(&self) -> &[u32] {
-        &self.words
+        &self.0.0
     }
 
     /// Where the first choice ends that fits the window from its start.
@@ -49,43 +66,71 @@ impl Program {
     /// ```
     #[must_use]
     pub fn end(&self, window: &[u8]) -> Option<usize> {
+        let words = self.words();
         // SAFETY: both slices are good for their lengths.
-        let r = unsafe {
-            raw::tm_forward(self.words.as_ptr(), self.words.len(), window.as_ptr(), window.len(), 0, window.len())
-        };
+        let r = unsafe { raw::tm_forward(words.as_ptr(), words.len(), window.as_ptr(), window.len(), 0, window.len()) };
         debug_assert_eq!(r.refusal, 0);
         (r.found == 1).then_some(r.offset as usize)
     }
 
-    /// Of a reverse program: where the first choice starts that fits the window up to its end.
-    #[must_use]
-    pub fn start(&self, window: &[u8]) -> Option<usize> {
-        // SAFETY: both slices are good for their lengths.
-        let r = unsafe {
-            raw::tm_reverse(self.words.as_ptr(), self.words.len(), window.as_ptr(), window.len(), 0, window.len())
-        };
-        debug_assert_eq!(r.refusal, 0);
-        (r.found == 1).then_some(r.offset as usize)
-    }
-
-    /// What [`Program::end`] leaves of the window: empty if nothing fits.
+    /// What [`Forward::end`] leaves of the window: empty if nothing fits.
     #[must_use]
     pub fn tail<'h>(&self, window: &'h [u8]) -> &'h [u8] {
+        let words = self.words();
         // SAFETY: both slices are good for their lengths.
-        let r = unsafe {
-            raw::tm_tail(self.words.as_ptr(), self.words.len(), window.as_ptr(), window.len(), 0, window.len())
-        };
+        let r = unsafe { raw::tm_tail(words.as_ptr(), words.len(), window.as_ptr(), window.len(), 0, window.len()) };
         &window[r.offset as usize..(r.offset + r.length) as usize]
     }
 
     /// The mirror: what it fits is what this program fits, read from its other side.
     #[must_use]
-    pub fn mirror(&self) -> Self {
-        let mut pool = vec![0u32; NODE_POOL];
-        // SAFETY: both slices are good for their lengths, and they do not overlap.
-        let r = unsafe { raw::tm_mirror(self.words.as_ptr(), self.words.len(), pool.as_mut_ptr(), pool.len()) };
+    pub fn mirror(&self) -> Reverse {
+        Reverse(self.0.mirror())
+    }
+}
+
+/// A sound program that is searched in reverse: its first node is the last of what it fits.
+#[derive(Clone, Debug, PartialEq, Eq, Hash)]
+pub struct Reverse(Sound);
+
+impl Reverse {
+    /// A program of node words.
+    ///
+    /// # Errors
+    ///
+    /// 13 for more than 512 words, 15 for words that are no sound program.
+    pub fn new(words: &[u32]) -> Result<Self, Refusal> {
+        Sound::tested(words).map(Self)
+    }
+
+    /// Its node words.
+    #[must_use]
+    pub fn words(&self) -> &[u32] {
+        &self.0.0
+    }
+
+    /// Where the first choice starts that fits the window up to its end.
+    ///
+    /// ```
+    /// use tokenmarsh::Pattern;
+    ///
+    /// let pattern = Pattern::compile(b"{ 61 [0-2] 63 }").unwrap();
+    /// assert_eq!(pattern.reverse.start(b"xabc"), Some(1));
+    /// assert_eq!(pattern.reverse.start(b"xabcd"), None);
+    /// ```
+    #[must_use]
+    pub fn start(&self, window: &[u8]) -> Option<usize> {
+        let words = self.words();
+        // SAFETY: both slices are good for their lengths.
+        let r = unsafe { raw::tm_reverse(words.as_ptr(), words.len(), window.as_ptr(), window.len(), 0, window.len()) };
         debug_assert_eq!(r.refusal, 0);
-        Self::promised(&pool[..r.words as usize])
+        (r.found == 1).then_some(r.offset as usize)
+    }
+
+    /// The mirror: what it fits is what this program fits, read from its other side.
+    #[must_use]
+    pub fn mirror(&self) -> Forward {
+        Forward(self.0.mirror())
     }
 }
 
@@ -93,9 +138,9 @@ impl Program {
 #[derive(Clone, Debug, PartialEq, Eq, Hash)]
 pub struct Pattern {
     /// Fits exactly what the pattern matches.
-    pub forward: Program,
+    pub forward: Forward,
     /// Fits exactly these, read from their other side.
-    pub reverse: Program,
+    pub reverse: Reverse,
 }
 
 impl Pattern {
@@ -120,8 +165,8 @@ impl Pattern {
         };
         refused(r.refusal, r.place)?;
         Ok(Self {
-            forward: Program::promised(&forward[..r.forward as usize]),
-            reverse: Program::promised(&reverse[..r.reverse as usize]),
+            forward: Forward(Sound(forward[..r.forward as usize].into())),
+            reverse: Reverse(Sound(reverse[..r.reverse as usize].into())),
         })
     }
 }

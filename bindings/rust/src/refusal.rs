@@ -50,27 +50,26 @@ impl Refusal {
     /// The refusal of a number, if it is one of the table's.
     #[must_use]
     pub fn from_number(number: u32) -> Option<Self> {
-        use Refusal::*;
         Some(match number {
-            1 => TextTooLong,
-            2 => Unexpected,
-            3 => NumberTooBig,
-            4 => JumpEmpty,
-            5 => JumpRangeInvalid,
-            6 => JumpAtBound,
-            7 => JumpUnboundedInAlternation,
-            8 => JumpTooBigInAlternation,
-            9 => CannotNegateMaskAll,
-            10 => HexStringTooDeep,
-            11 => TooManyTokens,
-            12 => NotSimple,
-            13 => TooManyNodes,
-            14 => BranchTooLong,
-            15 => Unsound,
-            16 => BadWindow,
-            17 => TooManyLiterals,
-            18 => NoRoom,
-            19 => NotPlain,
+            1 => Self::TextTooLong,
+            2 => Self::Unexpected,
+            3 => Self::NumberTooBig,
+            4 => Self::JumpEmpty,
+            5 => Self::JumpRangeInvalid,
+            6 => Self::JumpAtBound,
+            7 => Self::JumpUnboundedInAlternation,
+            8 => Self::JumpTooBigInAlternation,
+            9 => Self::CannotNegateMaskAll,
+            10 => Self::HexStringTooDeep,
+            11 => Self::TooManyTokens,
+            12 => Self::NotSimple,
+            13 => Self::TooManyNodes,
+            14 => Self::BranchTooLong,
+            15 => Self::Unsound,
+            16 => Self::BadWindow,
+            17 => Self::TooManyLiterals,
+            18 => Self::NoRoom,
+            19 => Self::NotPlain,
             _ => return None,
         })
     }
@@ -107,6 +106,8 @@ impl fmt::Display for Refusal {
         })
     }
 }
+
+impl Error for Refusal {}
 
 /// A refusal and the offset in the text that it is given at (0 where none is meant).
 #[derive(Clone, Copy, Debug, PartialEq, Eq, Hash)]

@@ -1,6 +1,8 @@
 //! The doors through the safe types: 01's samples and false friends.
 
-use tokenmarsh::{literals, raw, read, Mask, Pattern, Program, Refusal, Refused, Token};
+use std::error::Error;
+
+use tokenmarsh::{Forward, Mask, Pattern, Refusal, Refused, Reverse, Token, literals, raw, read};
 
 fn refusal(text: &str) -> (u32, usize) {
     let Refused { refusal, place } = read(text.as_bytes()).expect_err(text);
@@ -50,9 +52,9 @@ fn programs_are_those_of_the_samples() {
     let word = |text: &[u8]| Pattern::compile(text).unwrap().forward.words().to_vec();
     assert_eq!(word(b"{ A? }"), [0x00F0_A001]);
     let jumps = Pattern::compile(b"{ AB [100] [200] [50] [100] CD }").unwrap();
-    let lengths = |p: &Program| p.words()[1..4].iter().map(|w| w >> 8).collect::<Vec<_>>();
-    assert_eq!(lengths(&jumps.forward), [100, 250, 100]);
-    assert_eq!(lengths(&jumps.reverse), [150, 200, 100]);
+    let lengths = |words: &[u32]| words[1..4].iter().map(|w| w >> 8).collect::<Vec<_>>();
+    assert_eq!(lengths(jumps.forward.words()), [100, 250, 100]);
+    assert_eq!(lengths(jumps.reverse.words()), [150, 200, 100]);
     assert!(Pattern::compile(b"{ AB [255] CD }").is_ok());
     assert_eq!(Pattern::compile(b"{ AB [256] CD }").unwrap_err().refusal, Refusal::NotSimple);
     assert_eq!(Pattern::compile(b"{ AB [4294967295] CD }").unwrap_err().refusal, Refusal::NotSimple);
@@ -93,13 +95,55 @@ fn the_tail_is_the_callers_own() {
 
 #[test]
 fn unsound_words_make_no_program() {
-    assert_eq!(Program::new(&[7]), Err(Refusal::Unsound));
-    assert_eq!(Program::new(&[0x0001_0204]), Err(Refusal::Unsound));
-    assert_eq!(Program::new(&[0; 513]), Err(Refusal::TooManyNodes));
-    assert!(Program::new(&[]).is_ok());
+    let refused = |words: &[u32]| {
+        let refusal = Forward::new(words).err();
+        assert_eq!(refusal, Reverse::new(words).err());
+        refusal
+    };
+    assert_eq!(refused(&[7]), Some(Refusal::Unsound));
+    assert_eq!(refused(&[0x0001_0204]), Some(Refusal::Unsound));
+    assert_eq!(refused(&[u32::MAX]), Some(Refusal::Unsound));
+    assert_eq!(refused(&[7; 513]), Some(Refusal::TooManyNodes));
+    assert_eq!(refused(&[0; 512]), None);
+    assert_eq!(refused(&[]), None);
     // An empty branch, and a value with bits outside its mask, are sound.
-    assert!(Program::new(&[0x0106, 0x0007]).is_ok());
-    assert!(Program::new(&[0x0000_FF01]).is_ok());
+    assert_eq!(refused(&[0x0106, 0x0007]), None);
+    assert_eq!(refused(&[0x0000_FF01]), None);
+}
+
+#[test]
+fn the_empty_program_fits_no_bytes() {
+    let forward = Forward::new(&[]).unwrap();
+    assert_eq!((forward.end(b""), forward.end(b"ab")), (Some(0), Some(0)));
+    assert_eq!((forward.tail(b""), forward.tail(b"ab")), (&b""[..], &b"ab"[..]));
+    let reverse = forward.mirror();
+    assert_eq!((reverse.start(b""), reverse.start(b"ab")), (Some(0), Some(2)));
+    assert_eq!(reverse.mirror(), forward);
+}
+
+#[test]
+fn any_bytes_are_a_text() {
+    for text in [&b"\xFF\xFE"[..], b"{ \x80 }", b"{ 41\0 }", &[0; 4096]] {
+        assert_eq!(read(text).unwrap_err().refusal, Refusal::Unexpected);
+        assert_eq!(Pattern::compile(text).unwrap_err(), read(text).unwrap_err());
+        assert_eq!(literals(text).unwrap_err(), read(text).unwrap_err());
+    }
+    assert_eq!(read(b"{ 41 }\xFF").unwrap().reached, 6);
+}
+
+#[test]
+fn refusals_are_errors() {
+    fn words(words: &[u32]) -> Result<Forward, Box<dyn Error>> {
+        Ok(Forward::new(words)?)
+    }
+    fn text(text: &[u8]) -> Result<Pattern, Box<dyn Error>> {
+        Ok(Pattern::compile(text)?)
+    }
+    assert_eq!(words(&[7]).unwrap_err().to_string(), "unsound program");
+    assert_eq!(text(b"{ AB [0] CD }").unwrap_err().to_string(), "refused 4 at 5: empty jump");
+    for number in 0..=20 {
+        assert_eq!(Refusal::from_number(number).map_or(0, Refusal::number), number % 20);
+    }
 }
 
 #[test]
