@@ -1,5 +1,5 @@
--- 01's P samples that are read or refused, from the grammar, as one claim over the list, and two more of 01's rules: no blank inside a byte, no `|`
--- last. What is read is derived by the rules. Assumes nothing.
+-- 01's P samples that are read or refused, from the grammar, as one claim over the list, and three more of 01's rules: no blank inside a byte, no `|`
+-- last, no number above 4,294,967,295. What is read is derived by the rules. Assumes nothing.
 use mathlib.Core.Path.{_≡_, refl}
 use mathlib.Core.Option.{some}
 use mathlib.Core.List.{List, [], _∷_}
@@ -7,7 +7,7 @@ use Prim.Native.Char.{code}
 use Prim.Native.Nat.{ℕ}
 use Prim.Native.String.{String, [] as empty, _∷_ as _and_}
 use native.Mathlib.Omega.{arith}
-use Rattle.base.specs.declared.Refusal.the-variants.{Unexpected, JumpEmpty, JumpAtBound, JumpTooBigInAlternation, CannotNegateMaskAll}
+use Rattle.base.specs.declared.Refusal.the-variants.{Unexpected, NumberTooBig, JumpEmpty, JumpAtBound, JumpTooBigInAlternation, CannotNegateMaskAll}
 use Rattle.meaning.specs.Entries.{tokenCount}
 use Rattle.meaning.specs.Tokens.{Tokens, Byte, Jump, Alternatives, nothing, _then_, neither, _or_}
 use Rattle.reading.specs.Blanks.{blank, blanks, skip}
@@ -50,6 +50,7 @@ samples =
     ∷ reads (ascii "{ AB } zz") 7 (Byte 0xAB then nothing)
     ∷ refused (ascii "{ A B }")
     ∷ refused (ascii "{ (AB|) }")
+    ∷ refused (ascii "{ AB [4294967296] CD }")
     ∷ []
 
 none : rule.Blanks []
@@ -105,4 +106,5 @@ samples-hold =
     also with-rest
     also rejected-underivable (ascii "{ A B }") Unexpected 2 refl
     also rejected-underivable (ascii "{ (AB|) }") Unexpected 5 refl
+    also rejected-underivable (ascii "{ AB [4294967296] CD }") NumberTooBig 6 refl
     also no-more

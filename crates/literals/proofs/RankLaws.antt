@@ -14,7 +14,7 @@ use Rattle.meaning.specs.Tokens.{Tokens}
 use Rattle.atoms.specs.Score.{literalScore}
 use Rattle.picking.specs.Literals.{literals, combinations, size, sizeOf, sizeIn}
 use Rattle.picking.specs.Numbers.{count, literalAt}
-use Rattle.picking.specs.Choice.{lowest, least, penalty, score, counted, combined, rank, Ranked, ranked, skipped, excessive}
+use Rattle.picking.specs.Choice.{lowest, least, penalty, rankValue, counted, combined, rank, Ranked, ranked, skipped, excessive}
 use Rattle.picking.proofs.NumberLaws.{count-literals, literal-numbered}
 use Rattle.picking.proofs.LengthLaws.{literal-lengths}
 use Rattle.spelling.specs.Words.{firstEntry, flatIn, ends, inside, listsIn, tokenIn, width, tokensIn}
@@ -102,7 +102,7 @@ module _ (ts : Tokens) (n c : ℕ) (n-is : n ≡ min 257 (count ts)) (c-is : c �
   count-exact h = omega arith
 
   pub rank-given : c ≤ 256 → n ≤ 256 → (s p : ℕ) → s ≡ least literalScore (literals ts) → p ≡ penalty c → ranked (s - p) ≡ rank ts
-  unfolding rank combined counted score
+  unfolding rank combined counted rankValue
   rank-given h g s p e f =
       let k : c ≡ combinations ts = omega arith in
       rw (le-ltb 256 (combinations ts) (omega arith)) (rw (le-ltb 256 (length (literals ts)) (let e = count-literals ts in omega arith))
