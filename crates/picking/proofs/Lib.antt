@@ -8,4 +8,5 @@ pub mod KeepLaws
 pub mod FactorLaws
 pub mod ChosenLaws
 pub mod PickedLaws
+pub mod HoldLaws
 pub mod ShortestLaws

@@ -203,12 +203,12 @@ and-right : (a b : Bool) → a && b ≡ true → b ≡ true
 and-right true b e = e
 and-right false b e = absurd (let z : _≡_ {A = ℕ} 0 1 = cc in omega arith)
 
-bytes-left : (s t : List ℕ) → Bytes (s ++ t) → Bytes s
+pub bytes-left : (s t : List ℕ) → Bytes (s ++ t) → Bytes s
 unfolding Bytes
 bytes-left [] t h = tt
 bytes-left (b ∷ s) t h = (h .0, bytes-left s t (h .1))
 
-bytes-right : (s t : List ℕ) → Bytes (s ++ t) → Bytes t
+pub bytes-right : (s t : List ℕ) → Bytes (s ++ t) → Bytes t
 unfolding Bytes
 bytes-right [] t h = h
 bytes-right (b ∷ s) t h = bytes-right s t (h .1)
