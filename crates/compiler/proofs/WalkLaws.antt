@@ -10,6 +10,7 @@ use lib.ListN.{length, getD, take, drop, set, length-append, length-drop}
 use lib.Seq.{drop-drop, drop-at, drop-cons, set-at, getD-drop, take-all}
 use Rattle.meaning.specs.Tokens.{Token, Tokens, Lists, Byte, NotByte, MaskedByte, NotMaskedByte, Jump, Alternatives, nothing, _then_, neither, _or_}
 use Rattle.meaning.specs.Entries.{tokenCount, entriesOf, entries, listEntries}
+use Rattle.meaning.proofs.TokenLaws.{some-entry}
 use Rattle.compiling.specs.Compile.{plainToken, plainTokens, plainLists, simpleToken, simple}
 use Rattle.emit.specs.Lists.{sizeAt, offsets}
 use Rattle.emit.proofs.AltLaws.{size-least}
@@ -90,16 +91,6 @@ pub record Stepped (ws : List ℕ) (at : ℕ) (ts : Tokens) : Type 0 where
   pub fits : at + sizeAt ws at ≤ length ws
   pub passes : simpleAt ws at ≡ true → Walked ws (at + sizeAt ws at) ts
   pub fails : simpleAt ws at ≡ false → simple ts ≡ false
-
-pub some-entry : (t : Token) → 4 ≤ length (entriesOf t)
-unfolding entries
-some-entry (Byte v) = omega arith
-some-entry (NotByte v) = omega arith
-some-entry (MaskedByte v m) = omega arith
-some-entry (NotMaskedByte v m) = omega arith
-some-entry (Jump from none) = omega arith
-some-entry (Jump from (some to)) = omega arith
-some-entry (Alternatives ls) = omega arith
 
 -- one token on
 module _ (ws : List ℕ) (at : ℕ) (t : Token) (ts : Tokens) (e : drop at ws ≡ entriesOf t ++ entries ts) where

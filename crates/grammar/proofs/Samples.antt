@@ -9,12 +9,12 @@ use Prim.Native.String.{String, [] as empty, _∷_ as _and_}
 use native.Mathlib.Omega.{arith}
 use Rattle.base.specs.declared.Refusal.the-variants.{Unexpected, NumberTooBig, JumpEmpty, JumpAtBound, JumpTooBigInAlternation, CannotNegateMaskAll}
 use Rattle.meaning.specs.Entries.{tokenCount}
-use Rattle.meaning.specs.Tokens.{Tokens, Byte, Jump, Alternatives, nothing, _then_, neither, _or_}
+use Rattle.meaning.specs.Tokens.{Tokens, Byte, Jump, Alternatives, nothing, _then_, neither, _or_, total, totalIn, totals}
 use Rattle.reading.specs.Blanks.{blank, blanks, skip}
 use Rattle.reading.specs.Pieces.{within, digit, twoDigits, byteAt, oneDigit, maskedAt, hexAt, plainly, negated, notAt, decimals, numeral, numberAt, checked, closedAt, upperAt, dashAt, lowerAt, rangeAt, jumpToken, jumped, plainAt, _else_}
 use Rattle.reading.specs.Lists.{tokenOr, asToken, bracketed, before, thenMore, isJump, begins, endsIn, ends, atBound, listOf, beside, thenLists, tokenF, moreF, listF, listsF, closing, reading}
 use Rattle.grammar.specs.Grammar as rule
-use Rattle.grammar.specs.Grammar.{Text, Derives, total, totalIn, totals}
+use Rattle.grammar.specs.Grammar.{Text, Derives}
 use Rattle.grammar.proofs.Fronts.{past-blanks}
 use Rattle.grammar.proofs.RulesSpell.{blank-spells}
 use Rattle.grammar.proofs.Derivable.{rejected-underivable}

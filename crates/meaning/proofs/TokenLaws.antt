@@ -1,8 +1,11 @@
 -- The laws of token lists: spans and entries, end to end. Assumes nothing.
 use mathlib.Core.Path.{_≡_, refl, sym, ap, _∙_, subst}
+use mathlib.Core.Option.{none, some}
 use mathlib.Core.List.{List, [], _++_, append-nil, append-assoc}
-use Prim.Native.Nat.{ℕ}
-use Rattle.meaning.specs.Tokens.{Token, Tokens, nothing, _then_, Matches, Spans, _⊕_}
+use Prim.Native.Nat.{ℕ, _≤_}
+use native.Mathlib.Omega.{arith}
+use lib.ListN.{length}
+use Rattle.meaning.specs.Tokens.{Token, Tokens, Byte, NotByte, MaskedByte, NotMaskedByte, Jump, Alternatives, nothing, _then_, Matches, Spans, _⊕_}
 use Rattle.meaning.specs.Entries.{entriesOf, entries}
 
 -- a token alone has the spans that it matches
@@ -43,3 +46,14 @@ pub entries-join : (ts us : Tokens) → entries (ts ⊕ us) ≡ entries ts ++ en
 unfolding entries _⊕_
 entries-join nothing us = refl
 entries-join (t then ts) us = ap (λ (l : List ℕ). entriesOf t ++ l) (entries-join ts us) ∙ sym (append-assoc (entriesOf t) (entries ts) (entries us))
+
+-- a token has an entry at least
+pub some-entry : (t : Token) → 4 ≤ length (entriesOf t)
+unfolding entriesOf
+some-entry (Byte v) = omega arith
+some-entry (NotByte v) = omega arith
+some-entry (MaskedByte v m) = omega arith
+some-entry (NotMaskedByte v m) = omega arith
+some-entry (Jump from none) = omega arith
+some-entry (Jump from (some to)) = omega arith
+some-entry (Alternatives ls) = omega arith

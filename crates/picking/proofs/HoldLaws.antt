@@ -6,8 +6,8 @@ use Prim.Native.Nat.{ℕ}
 use Rattle.meaning.specs.Values.{Bytes}
 use Rattle.meaning.specs.Tokens.{Tokens, Spans, _⊕_}
 use Rattle.meaning.proofs.TokenLaws.{spans-join}
+use Rattle.meaning.proofs.ValueLaws.{bytes-left, bytes-right}
 use Rattle.picking.specs.Choice.{picked, pick}
-use Rattle.picking.proofs.MatchLaws.{bytes-left, bytes-right}
 use Rattle.picking.proofs.FactorLaws.{Factor, Filled}
 use Rattle.picking.proofs.PickedLaws.{picked-are-spans}
 

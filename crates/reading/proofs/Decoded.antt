@@ -10,6 +10,7 @@ use lib.ListN.{length, take, drop, getD, length-append}
 use lib.Seq.{take-at, drop-at}
 use Rattle.meaning.specs.Tokens.{Mask, left, right, all, Token, Tokens, Lists, Byte, NotByte, MaskedByte, NotMaskedByte, Jump, Alternatives, nothing, _then_, neither, _or_}
 use Rattle.meaning.specs.Entries.{entriesOf, entries, listEntries}
+use Rattle.meaning.proofs.TokenLaws.{some-entry}
 
 maskOf : ℕ → Mask
 maskOf b = cond (eqb b 0) left (cond (eqb b 1) right all)
@@ -57,17 +58,6 @@ mutual
   fours-in neither = (0, refl)
   fours-in (ts or ls) = let h = fours ts in let g = fours-in ls in let e = h .1 in let d = g .1 in (h .0 + g .0 + 1, omega (arith, length-append (entries ts) (listEntries ls)))
 
--- a token has an entry at least
-pub words-of : (t : Token) → 4 ≤ length (entriesOf t)
-unfolding entriesOf
-words-of (Byte v) = omega arith
-words-of (NotByte v) = omega arith
-words-of (MaskedByte v m) = omega arith
-words-of (NotMaskedByte v m) = omega arith
-words-of (Jump from none) = omega arith
-words-of (Jump from (some to)) = omega arith
-words-of (Alternatives ls) = omega arith
-
 -- the words of a part whose entries are counted, and what follows it
 part : (xs ys : List ℕ) (k : ℕ) → length xs ≡ 4 * k → (take (4 * (length xs / 4)) (xs ++ ys) ≡ xs) × (drop (4 * (length xs / 4)) (xs ++ ys) ≡ ys)
 part xs ys k e =
@@ -100,7 +90,7 @@ mutual
   tokens-back (t then ts) zero h = absurd (omega arith)
   tokens-back (t then ts) (suc f) h =
       let l = length-append (entriesOf t) (entries ts) in
-      let g = words-of t in
+      let g = some-entry t in
       token-back t (entries ts) f (omega arith) ∙ ap (λ (x : Tokens). t then x) (tokens-back ts f (omega arith))
 
   lists-back : (ls : Lists) (f : ℕ) → length (listEntries ls) < f → listsF f (listEntries ls) ≡ ls
