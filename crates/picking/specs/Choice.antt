@@ -1,4 +1,5 @@
--- Ranks, and the choice of a slice. Assumes nothing: these are definitions.
+-- Ranks, and the choice of a slice, by computing. Assumes nothing: these are definitions; crate promise says in its specs/Winners.antt which
+-- choice wins, with no order of trial, and shows that `inRun` and `choice` give this one.
 use mathlib.Core.Bool.{Bool, true, false, cond, _&&_, _||_}
 use mathlib.Core.Option.{Option, none, some}
 use mathlib.Core.List.{List, [], _∷_}
