@@ -5,6 +5,7 @@ pub mod NumberLaws
 pub mod LengthLaws
 pub mod RefusalLaws
 pub mod KeepLaws
+pub mod PartLaws
 pub mod FactorLaws
 pub mod ChosenLaws
 pub mod PickedLaws
