@@ -1,7 +1,7 @@
 -- From what was read and chosen to what the door says. Assumes nothing.
 use mathlib.Core.Path.{_≡_, refl, sym, ap, ap₂, _∙_, subst}
 use mathlib.Core.Bool.{Bool, true, false, cond, not, _&&_}
-use mathlib.Core.List.{List, [], _∷_, _++_}
+use mathlib.Core.List.{List, [], _∷_, _++_, flatten}
 use Prim.Native.Nat.{ℕ, _-_, _≤_}
 use native.Mathlib.Omega.{arith}
 use lib.Dec.{leb}
@@ -47,7 +47,7 @@ module _ (ls : List (List ℕ)) (rank : ℕ) (w : Wrote) (b l b′ l′ : List �
 
 module _ (ws : List ℕ) (p : Pick) (b l : List ℕ) where
   pub nothing-chosen : p ≡ Nothing → Picks (taking (choiceSays ws p)) (gives 0 0) b l b l
-  unfolding taking pickedSays pickedBytes pickedLengths output.fits output.joined output.lengthsOf output.bytesLeft output.lengthsLeft
+  unfolding taking pickedSays pickedBytes pickedLengths flatten output.fits output.bytesLeft output.lengthsLeft
   nothing-chosen e = subst (λ (x : Pick). Picks (taking (choiceSays ws x)) (gives 0 0) b l b l) (sym e) none-needed
     where
       room : (leb 0 (length l) && leb 0 (length b)) ≡ true
