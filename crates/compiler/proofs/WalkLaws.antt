@@ -11,7 +11,7 @@ use lib.Seq.{drop-drop, drop-at, drop-cons, set-at, getD-drop, take-all}
 use Rattle.meaning.specs.Tokens.{Token, Tokens, Lists, Byte, NotByte, MaskedByte, NotMaskedByte, Jump, Alternatives, nothing, _then_, neither, _or_}
 use Rattle.meaning.specs.Entries.{tokenCount, entriesOf, entries, listEntries}
 use Rattle.meaning.proofs.TokenLaws.{some-entry}
-use Rattle.compiling.specs.Compile.{plainToken, plainTokens, plainLists, simpleToken, simple}
+use Rattle.compiling.specs.Compile.{plainToken, plainTokens, plainBranches, simpleToken, simple}
 use Rattle.emit.specs.Lists.{sizeAt, offsets}
 use Rattle.emit.proofs.AltLaws.{size-least}
 use Rattle.emit.proofs.OrderLaws.{Starts, offsets-count}
@@ -58,8 +58,8 @@ plain-tokens (t then ts) r =
     regroup true b c = refl
     regroup false b c = refl
 
-plain-lists : (ls : Lists) → plainEntries (listEntries ls) ≡ plainLists ls
-unfolding entries plainLists plainEntries plainEntry
+plain-lists : (ls : Lists) → plainEntries (listEntries ls) ≡ plainBranches ls
+unfolding entries plainBranches plainEntries plainEntry
 plain-lists neither = refl
 plain-lists (ts or ls) = plain-tokens ts (listEntries ls) ∙ ap (λ (x : Bool). plainTokens ts && x) (plain-lists ls)
 

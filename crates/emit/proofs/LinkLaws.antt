@@ -17,7 +17,7 @@ use Rattle.meaning.specs.Programs.{byte, mask, negatedMask, Item, one, alt, end
 use Rattle.meaning.proofs.SoundLaws.{and-left, and-right, false-true}
 use Rattle.compiling.specs.ProgramWords.{nodes}
 use Rattle.compiling.specs.Compiling.{jumpLimit, itemOf, added, branchesFor, backwards}
-use Rattle.compiling.specs.Compile.{plainToken, plainTokens, plainLists, simpleToken}
+use Rattle.compiling.specs.Compile.{plainToken, plainTokens, plainBranches, simpleToken}
 use Rattle.meaning.proofs.ValueLaws.{any-spelled}
 use Rattle.compiling.proofs.CountLaws.{backwards-long-of, backwards-long}
 use Rattle.emit.specs.Items.{maskItem, notMaskItem, jumpItem, entryItem, placeOf}
@@ -156,16 +156,16 @@ front-part : (ts : Tokens) (ls : Lists) → plainTokens ts ≡ true → take (4 
 unfolding listEntries
 front-part ts ls p = take-at (entries ts) (listEntries ls) (4 * tokenCount ts) (plain-entries ts p)
 
-pub branches-for : (b : Bool) (ls : Lists) → SpelledMore ls → plainLists ls ≡ true → branchesAt b (listCount ls) (listEntries ls) ≡ branchesFor (directedIn b ls)
-unfolding branchesAt listCount Spelled plainLists branchesFor backwards listEntries tokenCount
+pub branches-for : (b : Bool) (ls : Lists) → SpelledMore ls → plainBranches ls ≡ true → branchesAt b (listCount ls) (listEntries ls) ≡ branchesFor (directedIn b ls)
+unfolding branchesAt listCount Spelled plainBranches branchesFor backwards listEntries tokenCount
 branches-for true neither h p = refl
 branches-for false neither h p = refl
 branches-for true (ts or ls) h p =
-    let q = and-left (plainTokens ts) (plainLists ls) p in
-    ap₂ branch (ap (listProgram true) (front-part ts ls q) ∙ list-program true ts (h .0) q) (ap (branchesAt true (listCount ls)) (front-rest ts ls q) ∙ branches-for true ls (h .1) (and-right (plainTokens ts) (plainLists ls) p))
+    let q = and-left (plainTokens ts) (plainBranches ls) p in
+    ap₂ branch (ap (listProgram true) (front-part ts ls q) ∙ list-program true ts (h .0) q) (ap (branchesAt true (listCount ls)) (front-rest ts ls q) ∙ branches-for true ls (h .1) (and-right (plainTokens ts) (plainBranches ls) p))
 branches-for false (ts or ls) h p =
-    let q = and-left (plainTokens ts) (plainLists ls) p in
-    ap₂ branch (ap (listProgram false) (front-part ts ls q) ∙ list-program false ts (h .0) q) (ap (branchesAt false (listCount ls)) (front-rest ts ls q) ∙ branches-for false ls (h .1) (and-right (plainTokens ts) (plainLists ls) p))
+    let q = and-left (plainTokens ts) (plainBranches ls) p in
+    ap₂ branch (ap (listProgram false) (front-part ts ls q) ∙ list-program false ts (h .0) q) (ap (branchesAt false (listCount ls)) (front-rest ts ls q) ∙ branches-for false ls (h .1) (and-right (plainTokens ts) (plainBranches ls) p))
 
 -- entries are four words each
 Fours : ℕ → Type 0
@@ -207,11 +207,11 @@ module _ (ws : List ℕ) (at : ℕ) (ls : Lists) (r : List ℕ) (e : drop at ws 
       ap₂ take (ap (λ (n : ℕ). 4 * n) (alt-fields .2) ∙ four-in ls) (sym (drop-drop 4 at ws) ∙ ap (drop 4) e)
       ∙ take-at (listEntries ls) r (length (listEntries ls)) refl
 
-  alt-branches : (b : Bool) → SpelledMore ls → plainLists ls ≡ true → altAt b ws at ≡ branchesFor (directedIn b ls)
+  alt-branches : (b : Bool) → SpelledMore ls → plainBranches ls ≡ true → altAt b ws at ≡ branchesFor (directedIn b ls)
   unfolding altAt
   alt-branches b s p = ap₂ (branchesAt b) (alt-fields .1) alt-inside ∙ branches-for b ls s p
 
-  alt-token : (b : Bool) → SpelledMore ls → plainLists ls ≡ true → tokenAt b ws at ≡ itemOf (directedOf b (Alternatives ls))
+  alt-token : (b : Bool) → SpelledMore ls → plainBranches ls ≡ true → tokenAt b ws at ≡ itemOf (directedOf b (Alternatives ls))
   unfolding tokenAt itemOf backwards
   alt-token b s p = rw (alt-fields .0) (ap alt (alt-branches b s p) ∙ of b)
     where
@@ -223,7 +223,7 @@ module _ (ws : List ℕ) (at : ℕ) (ls : Lists) (r : List ℕ) (e : drop at ws 
   unfolding entriesOf
   alt-size = size-five ws at (alt-fields .0) ∙ (omega (arith, alt-fields .2, four-in ls))
 
-  alt-stands : plainLists ls ≡ true → Stands ws at
+  alt-stands : plainBranches ls ≡ true → Stands ws at
   unfolding entriesOf
   alt-stands p = record {
     fits = omega (arith, alt-size, length-drop at ws, ap length e, length-append (listEntries ls) r);
