@@ -14,7 +14,7 @@ use Rattle.atoms.specs.Score
 use Rattle.picking.specs.Literals
 use Rattle.picking.specs.Runs
 use Rattle.picking.specs.Choice
-use Rattle.printing.specs.Text.{ascii}
+use Rattle.base.specs.Text.{ascii}
 use Rattle.printing.specs.Laid
 use Rattle.printing.specs.Numbers
 use Rattle.printing.specs.Lines

@@ -11,7 +11,7 @@ use lib.Seq.{take-append-seam, drop-append-seam}
 use Rattle.printing.specs.declared.Listed.{Listed}
 use Rattle.printing.specs.declared.Listed.the-variants.{Wrote, NoRoom}
 use Rattle.printing.specs.Listed.{listedOf}
-use Rattle.printing.specs.Text.{ascii}
+use Rattle.base.specs.Text.{ascii}
 use Rattle.printing.specs.Laid.{each}
 use Rattle.printing.specs.Lines.{numberLine, nodeLine, numbersLine, programLines, literalLine, literalLines, literalsLines, cut, Picked, picked, unpicked, pickedLines, literalsRefusedLine, refusedLine, programsLines, compiled, refused, listing}
 use Rattle.printing.proofs.LineLaws.{length-number, length-numbers, length-node, length-literal}

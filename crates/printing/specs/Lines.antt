@@ -4,7 +4,7 @@ use Prim.Native.Nat.{ℕ}
 use lib.ListN.{length, take, drop}
 use Rattle.meaning.specs.Programs.{Item, one, jump, range, alt, Test, byte, mask, negatedMask, any, dot}
 use Rattle.meaning.specs.Words.{Shape, item, opens, mark, wrong, shape}
-use Rattle.printing.specs.Text.{ascii}
+use Rattle.base.specs.Text.{ascii}
 use Rattle.printing.specs.Laid.{each}
 use Rattle.printing.specs.Numbers.{hexOf, decimalOf}
 
