@@ -1,6 +1,6 @@
 -- Walks over token entries. Assumes nothing.
 use mathlib.Core.Path.{_≡_, refl, sym, ap, ap₂, _∙_}
-use mathlib.Core.Bool.{Bool, true, false, _&&_}
+use mathlib.Core.Bool.{Bool, true, false, _&&_, and-assoc}
 use mathlib.Core.Option.{none, some}
 use mathlib.Core.List.{List, [], _∷_, _++_, append-nil, append-assoc}
 use Prim.Native.Nat.{ℕ, suc, _+_, _-_, _*_, _≤_, _<_}
@@ -52,11 +52,7 @@ plain-tokens : (ts : Tokens) (r : List ℕ) → plainEntries (entries ts ++ r) �
 unfolding entries plainTokens
 plain-tokens nothing r = refl
 plain-tokens (t then ts) r =
-    ap plainEntries (append-assoc (entriesOf t) (entries ts) r) ∙ plain-token t (entries ts ++ r) ∙ ap (λ (x : Bool). plainToken t && x) (plain-tokens ts r) ∙ regroup (plainToken t) (plainTokens ts) (plainEntries r)
-  where
-    regroup : (a b c : Bool) → (a && (b && c)) ≡ ((a && b) && c)
-    regroup true b c = refl
-    regroup false b c = refl
+    ap plainEntries (append-assoc (entriesOf t) (entries ts) r) ∙ plain-token t (entries ts ++ r) ∙ ap (λ (x : Bool). plainToken t && x) (plain-tokens ts r) ∙ sym (and-assoc (plainToken t) (plainTokens ts) (plainEntries r))
 
 plain-lists : (ls : Lists) → plainEntries (listEntries ls) ≡ plainBranches ls
 unfolding entries plainBranches plainEntries plainEntry

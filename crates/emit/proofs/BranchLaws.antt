@@ -1,6 +1,6 @@
 -- Lists behind their marks, one list more. Assumes nothing.
 use mathlib.Core.Path.{_≡_, refl, sym, ap, ap₂, _∙_, subst}
-use mathlib.Core.Bool.{Bool, true, false, not, _&&_, _||_}
+use mathlib.Core.Bool.{Bool, true, false, not, _&&_, _||_, or-false}
 use mathlib.Core.Option.{none, some}
 use mathlib.Core.List.{List, [], _∷_, _++_, append-nil, append-assoc}
 use Prim.Native.Nat.{ℕ, zero, suc, _+_, _-_, _*_, _/_, _≤_, _<_}
@@ -118,11 +118,7 @@ unfolding branchesAt wordsIn shortIn
 left-end b lists ws o out x n l long g h =
     let z : lists - l ≡ 0 = omega arith in
     let w : h .done ≡ wordsIn (branchesAt b lists ws) = sym (append-nil (h .done)) ∙ (rw z at (h .words)) in
-    (sym (h .size) ∙ ap length w, or-none long ∙ (rw z at (h .longs)), h .front ∙ ap (λ (d : List ℕ). d ++ drop n o) w)
-  where
-    or-none : (t : Bool) → t ≡ (t || false)
-    or-none true = refl
-    or-none false = refl
+    (sym (h .size) ∙ ap length w, sym (or-false long) ∙ (rw z at (h .longs)), h .front ∙ ap (λ (d : List ℕ). d ++ drop n o) w)
 
 -- one list more: its entries are lent to be written behind its mark
 module _ (b : Bool) (lists : ℕ) (ws o out : List ℕ) (x n l : ℕ) (long : Bool) (h : Left b lists ws o out x n l long) (lt : l < lists) where

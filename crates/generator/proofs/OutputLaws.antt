@@ -1,6 +1,6 @@
 -- Literals written one after another, over entries. Assumes nothing.
-use mathlib.Core.Path.{_≡_, refl, sym, ap, ap₂, _∙_, subst}
-use mathlib.Core.Bool.{Bool, true, false, _&&_}
+use mathlib.Core.Path.{_≡_, sym, ap, ap₂, _∙_, subst}
+use mathlib.Core.Bool.{true, false, and-false}
 use mathlib.Core.Logic.{_⊎_, inl, inr}
 use mathlib.Core.List.{List, [], _∷_, _++_, map, flatten}
 use Prim.Native.Nat.{ℕ, _+_, _-_, _≤_, _<_, min}
@@ -129,10 +129,6 @@ unfolding answered bytesLeft lengthsLeft
 all-fit ls n bytes lengths bytes-after lengths-after e h g eb el =
     let f : fits ls bytes lengths ≡ true = fit ls bytes lengths (omega arith) g in
     record { answer-is = ap All (sym e) ∙ rw f; bytes-are = eb ∙ rw f; lengths-are = el ∙ rw f }
-
-and-false : (a : Bool) → (a && false) ≡ false
-and-false true = refl
-and-false false = refl
 
 unfit : (ls : List (List ℕ)) (bytes lengths : List ℕ) → (length lengths < length ls) ⊎ (length bytes < length (flatten ls)) → fits ls bytes lengths ≡ false
 unfolding fits
