@@ -11,7 +11,7 @@ use Rattle.meaning.proofs.SoundLaws.{and-left, and-right, false-true}
 use Rattle.meaning.proofs.ValueLaws.{bytes-join}
 use Rattle.meaning.proofs.TokenLaws.{one-span, join-spans, nothing-after, after-assoc}
 use Rattle.compiling.specs.Compiling.{backwardsOf, backwards, backwardsIn}
-use Rattle.compiling.specs.Compile.{plainToken, plainTokens, plainLists, simpleToken, simple}
+use Rattle.compiling.specs.Compile.{plainToken, plainTokens, plainBranches, simpleToken, simple}
 
 backwards-join : (ts us : Tokens) → backwards (ts ⊕ us) ≡ backwards us ⊕ backwards ts
 unfolding backwards _⊕_
@@ -114,8 +114,8 @@ unfolding backwards plainTokens
 plain-backwards nothing h = h
 plain-backwards (t then ts) h = plain-join (backwards ts) (backwardsOf t then nothing) (plain-backwards ts (and-right (plainToken t) _ h)) (rw (plain-one t (and-left (plainToken t) _ h)))
 
-plain-lists-backwards : (ls : Lists) → plainLists ls ≡ true → plainLists (backwardsIn ls) ≡ true
-unfolding backwards plainLists
+plain-lists-backwards : (ls : Lists) → plainBranches ls ≡ true → plainBranches (backwardsIn ls) ≡ true
+unfolding backwards plainBranches
 plain-lists-backwards neither h = h
 plain-lists-backwards (ts or ls) h = rw (plain-backwards ts (and-left (plainTokens ts) _ h), plain-lists-backwards ls (and-right (plainTokens ts) _ h))
 

@@ -72,7 +72,7 @@ unfolding listOf Bounded
 list-bounded t level count at nothing e c l b h = absurd b
 list-bounded t level count at (tok then ts) e c l b h = list-of t level count at l ∙ rw (h, is-bounded tok ts b) refl
 
-depth-some : (ts : Tokens) → 1 ≤ depth ts
+pub depth-some : (ts : Tokens) → 1 ≤ depth ts
 unfolding depth
 depth-some nothing = omega arith
 depth-some (tok then ts) = omega arith

@@ -1,12 +1,11 @@
 -- 01's P samples that are read or refused, from the grammar, as one claim over the list, and three more of 01's rules: no blank inside a byte, no `|`
 -- last, no number above 4,294,967,295. What is read is derived by the rules. Assumes nothing.
-use mathlib.Core.Path.{_≡_, refl}
+use mathlib.Core.Path.{refl}
 use mathlib.Core.Option.{some}
 use mathlib.Core.List.{List, [], _∷_}
-use Prim.Native.Char.{code}
 use Prim.Native.Nat.{ℕ}
-use Prim.Native.String.{String, [] as empty, _∷_ as _and_}
 use native.Mathlib.Omega.{arith}
+use Rattle.base.specs.Text.{ascii}
 use Rattle.base.specs.declared.Refusal.the-variants.{Unexpected, NumberTooBig, JumpEmpty, JumpAtBound, JumpTooBigInAlternation, CannotNegateMaskAll}
 use Rattle.meaning.specs.Entries.{tokenCount}
 use Rattle.meaning.specs.Tokens.{Tokens, Byte, Jump, Alternatives, nothing, _then_, neither, _or_, total, totalIn, totals}
@@ -18,11 +17,6 @@ use Rattle.grammar.specs.Grammar.{Text, Derives}
 use Rattle.grammar.proofs.Fronts.{past-blanks}
 use Rattle.grammar.proofs.RulesSpell.{blank-spells}
 use Rattle.grammar.proofs.Derivable.{rejected-underivable}
-
--- the bytes of a quoted text of ASCII characters
-abbrev pub ascii : String → Text
-ascii empty = []
-ascii (c and s) = code c ∷ ascii s
 
 -- a text is derivable with these tokens, up to this offset; or it is not derivable
 pub data Sample : Type 0 where

@@ -1,5 +1,5 @@
--- The tokens of every accepted text have values in their ranges, no list of alternatives is empty, and there are at most 512; so its
--- literals have 1 to 512 bytes. Assumes nothing.
+-- In the tokens of every accepted text no list of alternatives is empty, and there are at most 512; so its literals have 1 to 512 bytes.
+-- Assumes nothing.
 use mathlib.Core.Path.{_≡_}
 use mathlib.Core.Bool.{Bool, true, false}
 use mathlib.Core.List.{List, List·Memᴰ}
@@ -8,34 +8,12 @@ use native.Mathlib.Omega.{arith}
 use lib.ListN.{length}
 use Rattle.meaning.specs.Tokens.{Token, Tokens, Lists, Byte, NotByte, MaskedByte, NotMaskedByte, Jump, Alternatives, nothing, _then_, neither, _or_, total}
 use Rattle.reading.specs.Lists.{accepted, reading}
-use Rattle.reading.proofs.Kept.{Keeps, accepted-keeps}
 use Rattle.grammar.proofs.Spelling.{_⨾_, Bounded, SpellsToken, SpellsTokens, SpellsLists, SpellsRest, SpellsString, SpellsText}
 use Rattle.grammar.proofs.TextSpelled.{accepted-spelled}
 use Rattle.picking.specs.Literals.{lengthIn, shortest, shorter, listedOf, listed, listedIn}
 use Rattle.picking.specs.Choice.{picked, pick}
 use Rattle.picking.proofs.FactorLaws.{Filled}
 use Rattle.picking.proofs.PickedLaws.{filled-long, literal-bounds}
-use Rattle.literals.proofs.EntryLaws.{rangedOf, ranged, rangedIn}
-
-kept : Keeps rangedOf ranged rangedIn
-unfolding ranged
-kept =
-    record {
-      byte = λ v h. h;
-      not-byte = λ v h. h;
-      masked-byte = λ v m h. h;
-      not-masked = λ v m h. h;
-      open-jump = λ from. tt;
-      jump = λ from to h. tt;
-      alternatives = λ ls h. h;
-      empty = tt;
-      next = λ tok ts h k. (h, k);
-      last-list = λ ts h. (h, tt);
-      next-list = λ ts ls h k. (h, k);
-    }
-
-pub accepted-ranged : (t : List ℕ) (e : ℕ) (ts : Tokens) → reading t ≡ accepted e ts → ranged ts
-accepted-ranged t e ts h = accepted-keeps rangedOf ranged rangedIn kept t e ts h
 
 -- ---- no list of alternatives is empty
 

@@ -2,11 +2,11 @@
 use mathlib.Core.Path.{_≡_, refl, sym, ap, _∙_, subst}
 use mathlib.Core.Option.{none, some}
 use mathlib.Core.List.{List, [], _++_, append-nil, append-assoc}
-use Prim.Native.Nat.{ℕ, _≤_}
+use Prim.Native.Nat.{ℕ, _*_, _/_, _≤_}
 use native.Mathlib.Omega.{arith}
-use lib.ListN.{length}
-use Rattle.meaning.specs.Tokens.{Token, Tokens, Byte, NotByte, MaskedByte, NotMaskedByte, Jump, Alternatives, nothing, _then_, Matches, Spans, _⊕_}
-use Rattle.meaning.specs.Entries.{entriesOf, entries}
+use lib.ListN.{length, length-append}
+use Rattle.meaning.specs.Tokens.{Token, Tokens, Lists, Byte, NotByte, MaskedByte, NotMaskedByte, Jump, Alternatives, nothing, _then_, neither, _or_, Matches, Spans, _⊕_}
+use Rattle.meaning.specs.Entries.{entriesOf, entries, listEntries}
 
 -- a token alone has the spans that it matches
 pub one-span : (t : Token) (s : List ℕ) → Matches t s → Spans (t then nothing) s
@@ -57,3 +57,24 @@ some-entry (NotMaskedByte v m) = omega arith
 some-entry (Jump from none) = omega arith
 some-entry (Jump from (some to)) = omega arith
 some-entry (Alternatives ls) = omega arith
+
+-- and entries are of four words each
+mutual
+  unfolding entriesOf entries listEntries
+
+  fours-of : (t : Token) → 4 * (length (entriesOf t) / 4) ≡ length (entriesOf t)
+  fours-of (Byte v) = refl
+  fours-of (NotByte v) = refl
+  fours-of (MaskedByte v m) = refl
+  fours-of (NotMaskedByte v m) = refl
+  fours-of (Jump from none) = refl
+  fours-of (Jump from (some to)) = refl
+  fours-of (Alternatives ls) = let h = fours-in ls in omega arith
+
+  pub fours : (ts : Tokens) → 4 * (length (entries ts) / 4) ≡ length (entries ts)
+  fours nothing = refl
+  fours (t then ts) = let a = fours-of t in let b = fours ts in let c = length-append (entriesOf t) (entries ts) in omega arith
+
+  pub fours-in : (ls : Lists) → 4 * (length (listEntries ls) / 4) ≡ length (listEntries ls)
+  fours-in neither = refl
+  fours-in (ts or ls) = let a = fours ts in let b = fours-in ls in let c = length-append (entries ts) (listEntries ls) in omega arith

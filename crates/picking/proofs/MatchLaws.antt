@@ -69,7 +69,7 @@ in-singles (x ∷ bs) s h = go (λ m. in-singles bs s m) (List·Memᴰ·cases-co
     go below (inl e) = (x, e, List·Memᴰ·head refl)
     go below (inr m) = let r = below m in (r .0, r .1, List·Memᴰ·tail (r .2))
 
-singles-in : (bs : List ℕ) (b : ℕ) → List·Memᴰ b bs → List·Memᴰ (b ∷ []) (singles bs)
+pub singles-in : (bs : List ℕ) (b : ℕ) → List·Memᴰ b bs → List·Memᴰ (b ∷ []) (singles bs)
 unfolding singles
 singles-in [] b h = absurd (List·Memᴰ·not-nil h)
 singles-in (x ∷ bs) b h = go (λ m. singles-in bs b m) (List·Memᴰ·cases-cons h)
