@@ -1,6 +1,6 @@
 -- Words copied into a pool, and what compiling leaves there. Assumes nothing.
 use mathlib.Core.Path.{_≡_, refl, sym, ap, ap₂, _∙_}
-use mathlib.Core.Bool.{Bool, true, false, not, _&&_}
+use mathlib.Core.Bool.{Bool, true, false, not, _&&_, and-false}
 use mathlib.Core.List.{List, [], _∷_, _++_, append-assoc}
 use Prim.Native.Nat.{ℕ, suc, _+_, _-_, _≤_, _<_}
 use native.Mathlib.Omega.{arith}
@@ -57,8 +57,4 @@ pub first-many : (n m : ℕ) → 512 < n → (leb n 512 && leb m 512) ≡ false
 first-many n m h = rw (lt-leb n 512 h)
 
 pub second-many : (n m : ℕ) → 512 < m → (leb n 512 && leb m 512) ≡ false
-second-many n m h = rw (lt-leb m 512 h) (go (leb n 512))
-  where
-    go : (t : Bool) → (t && false) ≡ false
-    go true = refl
-    go false = refl
+second-many n m h = rw (lt-leb m 512 h) (and-false (leb n 512))

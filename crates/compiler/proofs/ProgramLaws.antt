@@ -13,6 +13,7 @@ use Rattle.meaning.specs.Tokens.{Tokens, nothing, _then_}
 use Rattle.meaning.specs.Values.{Spelled}
 use Rattle.meaning.specs.Entries.{tokenCount, entriesOf, entries}
 use Rattle.meaning.specs.Programs.{Prog, end}
+use Rattle.meaning.proofs.TokenLaws.{some-entry}
 use Rattle.compiling.specs.ProgramWords.{wordsOf, nodes}
 use Rattle.compiling.specs.Compiling.{added, forwardProgram, reverseProgram, forwardWords, reverseWords}
 use Rattle.compiling.specs.Compile.{simple, short, few, compile}
@@ -22,7 +23,6 @@ use Rattle.emit.proofs.OrderLaws.{directed, offsets-count}
 use Rattle.emit.proofs.LinkLaws.{directed-long, tokens-program}
 use Rattle.compiler.specs.declared.Made.the-variants.{Refused}
 use Rattle.compiler.specs.Made.{Makes, limited}
-use Rattle.compiler.proofs.WalkLaws.{some-entry}
 
 -- tokens have an entry each, at least
 count-few : (ts : Tokens) → 4 * tokenCount ts ≤ length (entries ts)

@@ -1,8 +1,9 @@
--- What picking a text's literals promises: its refusals exactly in their cases, the literals, and a single outcome. Assumes nothing.
+-- What picking a text's literals promises: its refusals exactly in their cases, the literals, that every match holds one of them, and a single
+-- outcome. Assumes nothing.
 use mathlib.Core.Path.{_≡_, refl, sym, ap, ap₂, _∙_}
 use mathlib.Core.Bool.{Bool, true, false, cond}
-use mathlib.Core.Logic.{_↔_}
-use mathlib.Core.List.{List, List·Memᴰ}
+use mathlib.Core.Logic.{_⊎_, inl, inr, ⊎-elim, _↔_}
+use mathlib.Core.List.{List, [], List·Memᴰ, map, flatten}
 use Prim.Native.Nat.{ℕ, _≤_}
 use native.Mathlib.Omega.{arith}
 use lib.ListN.{length}
@@ -10,13 +11,15 @@ use Rattle.base.specs.declared.Refusal.{Refusal}
 use Rattle.base.specs.declared.Refusal.the-variants.{TooManyLiterals, NotPlain}
 use Rattle.base.specs.Refusals.{numberOf}
 use Rattle.base.proofs.RefusalLaws.{number-one}
-use Rattle.meaning.specs.Tokens.{Tokens}
+use Rattle.meaning.specs.Tokens.{Tokens, Spans}
+use Rattle.meaning.specs.Values.{Bytes}
 use Rattle.reading.specs.Lists.{Outcome, accepted, rejected, reading}
 use Rattle.reading.proofs.PieceLaws.{never}
 use Rattle.picking.specs.Runs.{plain, runs}
 use Rattle.picking.specs.Choice.{Choice, unranked, chosen, tooMany, choice, Picked, picked, unpicked, taking, pick}
 use Rattle.picking.proofs.RefusalLaws.{Some, not-plain-is, too-many-given, too-many-only}
 use Rattle.picking.proofs.PickedLaws.{picked-few}
+use Rattle.picking.proofs.HoldLaws.{HoldsOne, match-holds-literal}
 use Rattle.generator.specs.Output as output
 use Rattle.literals.proofs.ReadLaws.{read-literal-bounds}
 use Rattle.literaldoor.specs.declared.LiteralsAnswer.{LiteralsAnswer}
@@ -86,8 +89,8 @@ pub record Handed (t : List ℕ) (ts : Tokens) (b l : List ℕ) (n rank : ℕ) :
   pub number : n ≡ length texts
   pub few : n ≤ 256
   pub sized : (s : List ℕ) → List·Memᴰ s texts → (1 ≤ length s) × (length s ≤ 512)
-  pub bytes-are : bytesLeft t b l ≡ output.over (output.joined texts) b
-  pub lengths-are : lengthsLeft t b l ≡ output.over (output.lengthsOf texts) l
+  pub bytes-are : bytesLeft t b l ≡ output.over (flatten texts) b
+  pub lengths-are : lengthsLeft t b l ≡ output.over (map length texts) l
 
 -- of a text that is read as the tokens ts, and any buffers
 module _ (t : List ℕ) (e : ℕ) (ts : Tokens) (read : reading t ≡ accepted e ts) (b l : List ℕ) where
@@ -132,8 +135,8 @@ module _ (t : List ℕ) (e : ℕ) (ts : Tokens) (read : reading t ≡ accepted e
             number = sym p;
             few = (let z = picked-few ts m ls g in omega arith);
             sized = λ s i. read-literal-bounds t e ts read m ls g s i;
-            bytes-are = ap (λ (x : Outcome). outcomeBytes x b l) read ∙ ap (λ (x : Picked). pickedBytes x b l) g ∙ ap (λ (x : Bool). cond x (output.over (output.joined ls) b) b) f;
-            lengths-are = ap (λ (x : Outcome). outcomeLengths x b l) read ∙ ap (λ (x : Picked). pickedLengths x b l) g ∙ ap (λ (x : Bool). cond x (output.over (output.lengthsOf ls) l) l) f;
+            bytes-are = ap (λ (x : Outcome). outcomeBytes x b l) read ∙ ap (λ (x : Picked). pickedBytes x b l) g ∙ ap (λ (x : Bool). cond x (output.over (flatten ls) b) b) f;
+            lengths-are = ap (λ (x : Outcome). outcomeLengths x b l) read ∙ ap (λ (x : Picked). pickedLengths x b l) g ∙ ap (λ (x : Bool). cond x (output.over (map length ls) l) l) f;
           }
       fitting m ls g false f =
           let k : refuses 18 0 ≡ gives n rank = sym (says-pick ∙ ap (λ (q : Picked). pickedSays q b l) g ∙ ap (λ (x : Bool). cond x (gives (length ls) m) (refuses 18 0)) f) ∙ h in
@@ -142,6 +145,12 @@ module _ (t : List ℕ) (e : ℕ) (ts : Tokens) (read : reading t ≡ accepted e
       go : (p : Picked) → pick ts ≡ p → Handed t ts b l n rank
       go (picked m ls) g = fitting m ls g (output.fits ls b l) refl
       go (unpicked x) g = let k : refuses (numberOf x) 0 ≡ gives n rank = sym (says-pick ∙ ap (λ (q : Picked). pickedSays q b l) g) ∙ h in never (cc)
+
+  -- and if there are any, every match of the pattern holds one of them
+  pub matches-hold : (n rank : ℕ) (h : literalsSays t b l ≡ gives n rank) → (n ≡ 0) ⊎ ((s : List ℕ) → Bytes s → Spans ts s → HoldsOne (handed n rank h .texts) s)
+  matches-hold n rank h =
+      let k = handed n rank h in
+      ⊎-elim (λ (z : k .texts ≡ []). inl (k .number ∙ ap length z)) (λ (f : (s : List ℕ) → Bytes s → Spans ts s → HoldsOne (k .texts) s). inr f) (match-holds-literal ts rank (k .texts) (k .picks))
 
 -- an answer is known by what it says
 said-one : (a b : LiteralsAnswer) → said a ≡ said b → a ≡ b

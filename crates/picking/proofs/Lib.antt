@@ -1,11 +1,13 @@
 -- The laws of the choice.
-pub mod Samples
+pub mod ChoiceSamples
 pub mod MatchLaws
 pub mod NumberLaws
 pub mod LengthLaws
 pub mod RefusalLaws
 pub mod KeepLaws
+pub mod PartLaws
 pub mod FactorLaws
 pub mod ChosenLaws
 pub mod PickedLaws
+pub mod HoldLaws
 pub mod ShortestLaws

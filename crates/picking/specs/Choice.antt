@@ -1,4 +1,5 @@
--- Ranks, and the choice of a slice. Assumes nothing: these are definitions.
+-- Ranks, and the choice of a slice, by computing. Assumes nothing: these are definitions; crate promise says in its specs/Winners.antt which
+-- choice wins, with no order of trial, and shows that `inRun` and `choice` give this one.
 use mathlib.Core.Bool.{Bool, true, false, cond, _&&_, _||_}
 use mathlib.Core.Option.{Option, none, some}
 use mathlib.Core.List.{List, [], _∷_}
@@ -32,13 +33,13 @@ pub data Ranked : Type 0 where
   excessive : Ranked
 
 -- the rank is the least score less the penalty, not below 0
-unfoldable pub score : Tokens → ℕ
-score ts = least literalScore (literals ts) - penalty (combinations ts)
+unfoldable pub rankValue : Tokens → ℕ
+rankValue ts = least literalScore (literals ts) - penalty (combinations ts)
 
 -- literals that exceed 256 are refused with 17
 unfoldable pub counted : Bool → Tokens → Ranked
 counted true ts = excessive
-counted false ts = ranked (score ts)
+counted false ts = ranked (rankValue ts)
 
 -- above 256 combinations a slice is skipped
 unfoldable pub combined : Bool → Tokens → Ranked

@@ -82,7 +82,8 @@ unfoldable pub parts : Tokens → List Tokens
 parts nothing = []
 parts (t then ts) = partBefore t (parts ts)
 
--- a slice of a run: the literal part that stands right before it, the slice, the literal part right after it (no two literal parts meet)
+-- A slice of a run: the literal part that stands right before it, the slice, the literal part right after it. No two literal parts meet
+-- (`parts-apart`), so beyond these stands no further one.
 pub data Slice : Type 0 where
   slice : Tokens → Tokens → Tokens → Slice
 

@@ -4,6 +4,8 @@ pub mod Adding
 pub mod Cases
 pub mod Literals
 pub mod Lengths
+pub mod Best
+pub mod Winners
 pub mod Outcomes
 pub mod Cuts
 pub mod Answers

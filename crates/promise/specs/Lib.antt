@@ -2,6 +2,7 @@ pub mod NodeWords
 pub mod Adding
 pub mod Cases
 pub mod Literals
+pub mod Winners
 pub mod Outcomes
 pub mod Pattern
 pub mod Checks

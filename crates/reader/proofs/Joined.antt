@@ -10,8 +10,8 @@ use lib.ListN.{length, length-append}
 use Rattle.base.specs.declared.Refusal.{Refusal}
 use Rattle.meaning.specs.Tokens.{Token, Tokens, Lists, nothing, _then_, neither, _or_}
 use Rattle.meaning.specs.Entries.{entry, entriesIn, entriesOf, entries, listEntries, tokenCount, listCount}
+use Rattle.meaning.proofs.TokenLaws.{some-entry}
 use Rattle.reading.specs.Lists.{Parsed, read, stopped, before, beside, isJump, begins, endsIn, ends, atBound}
-use Rattle.reading.proofs.Decoded.{words-of}
 use Rattle.reader.specs.Says.{firstOf}
 
 infixl 55 _and_
@@ -77,7 +77,7 @@ at-bound (t then (u then ts)) = rw (le-leb 2 (suc (suc (tokenCount ts))) (omega 
 pub count-le : (ts : Tokens) → tokenCount ts ≤ length (entries ts)
 unfolding tokenCount entries
 count-le nothing = omega arith
-count-le (t then ts) = omega (arith, count-le ts, words-of t, length-append (entriesOf t) (entries ts))
+count-le (t then ts) = omega (arith, count-le ts, some-entry t, length-append (entriesOf t) (entries ts))
 
 -- lists
 infixl 55 _with_

@@ -37,6 +37,10 @@ pub samples-hold :
     × (pick (Alternatives ((Byte 0xAA then nothing) or (Byte 0xBB then nothing) or neither) then nothing) ≡ picked 20 ((0xAA ∷ []) ∷ (0xBB ∷ []) ∷ []))
     -- `{ 61 [0-2] 63 }`: equal ranks and lengths, and the second segment comes first
     × (pick (Byte 0x61 then Jump 0 (some 2) then Byte 0x63 then nothing) ≡ picked 20 ((0x63 ∷ []) ∷ []))
+    -- `{ 00 00 ?? 41 }`: equal ranks, and the longer shortest literal wins, though its run comes last
+    × (pick (Byte 0 then Byte 0 then MaskedByte 0 all then Byte 0x41 then nothing) ≡ picked 20 ((0 ∷ 0 ∷ []) ∷ []))
+    -- `{ 41 42 ?? 00 00 00 }`: the higher rank wins, though its literal is shorter and its run comes last
+    × (pick (Byte 0x41 then Byte 0x42 then MaskedByte 0 all then Byte 0 then Byte 0 then Byte 0 then nothing) ≡ picked 40 ((0x41 ∷ 0x42 ∷ []) ∷ []))
     -- `{ AA BB CC [2] DD EE FF ?? 11 22 }`
     × (pick (Byte 0xAA then Byte 0xBB then Byte 0xCC then Jump 2 (some 2) then Byte 0xDD then Byte 0xEE then Byte 0xFF then MaskedByte 0 all then Byte 0x11 then Byte 0x22 then nothing)
     ≡ picked 50 ((0xDD ∷ 0xEE ∷ 0xFF ∷ []) ∷ []))
@@ -70,5 +74,5 @@ pub samples-hold :
     × (pick (Byte 0x41 then Byte 0x42 then Alternatives ((Byte 0x11 then Byte 0 then Byte 0 then Byte 0 then nothing) or (Byte 0 then Byte 0 then Byte 0 then Byte 0x12 then nothing) or neither)
     then Byte 0x43 then Byte 0x44 then nothing)
     ≡ picked 60 ((0x41 ∷ 0x42 ∷ 0x11 ∷ 0 ∷ 0 ∷ 0 ∷ 0x43 ∷ 0x44 ∷ []) ∷ (0x41 ∷ 0x42 ∷ 0 ∷ 0 ∷ 0 ∷ 0x12 ∷ 0x43 ∷ 0x44 ∷ []) ∷ []))
-unfolding Choice.pick Choice.taking Choice.choice Choice.among Choice.between Choice.beats Choice.least Choice.lowest Choice.inRun Choice.aloneOr Choice.strong Choice.bytesOf Choice.byteOf Choice.best Choice.rankOf Choice.against Choice.widened Choice.rank Choice.combined Choice.counted Choice.score Choice.penalty Runs.slices Runs.longer Runs.literalOnly Runs.parts Runs.partBefore Runs.joins Runs.isLiteral Runs.runs Runs.firstLast Runs.filledOnes Runs.segments Runs.segmented Runs.atFront Runs.plain Runs.plainInside Runs.isAlternatives Literals.taken Literals.passing Literals.kept Literals.isByte Literals.isPlain Literals.plainList Literals.plainLists Literals.before Literals._⊗_ Literals.singles Literals.spelt Literals.combinations Literals.lengthIn _⊕_ isAmong common byteScore windowScore highest literalScore
-samples-hold = (refl, refl, refl, refl, refl, refl, refl, refl, refl, refl, refl, refl, refl, refl, refl, refl, refl, refl)
+unfolding Choice.pick Choice.taking Choice.choice Choice.among Choice.between Choice.beats Choice.least Choice.lowest Choice.inRun Choice.aloneOr Choice.strong Choice.bytesOf Choice.byteOf Choice.best Choice.rankOf Choice.against Choice.widened Choice.rank Choice.combined Choice.counted Choice.rankValue Choice.penalty Runs.slices Runs.longer Runs.literalOnly Runs.parts Runs.partBefore Runs.joins Runs.isLiteral Runs.runs Runs.firstLast Runs.filledOnes Runs.segments Runs.segmented Runs.atFront Runs.plain Runs.plainInside Runs.isAlternatives Literals.taken Literals.passing Literals.kept Literals.isByte Literals.isPlain Literals.plainList Literals.plainLists Literals.before Literals._⊗_ Literals.singles Literals.spelt Literals.combinations Literals.lengthIn _⊕_ isAmong common byteScore windowScore highest literalScore
+samples-hold = (refl, refl, refl, refl, refl, refl, refl, refl, refl, refl, refl, refl, refl, refl, refl, refl, refl, refl, refl, refl)
