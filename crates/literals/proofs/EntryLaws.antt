@@ -26,9 +26,6 @@ use Rattle.literals.specs.Whole.{Whole, none, more}
 -- ---- words within an entry
 
 module _ (k n b : ℕ) (E L : List ℕ) (h : 4 * b ≡ length E) where
-  box : List ℕ
-  box = k ∷ n ∷ b ∷ 0 ∷ (E ++ L)
-
   box-ends : ends (k ∷ n ∷ b ∷ 0 ∷ (E ++ L)) ≡ 4 + length E
   unfolding ends
   box-ends = let e = length-append E L in omega arith

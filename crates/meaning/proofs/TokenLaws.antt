@@ -6,7 +6,7 @@ use Prim.Native.Nat.{ℕ, _*_, _/_, _≤_}
 use native.Mathlib.Omega.{arith}
 use lib.ListN.{length, length-append}
 use Rattle.meaning.specs.Tokens.{Token, Tokens, Lists, Byte, NotByte, MaskedByte, NotMaskedByte, Jump, Alternatives, nothing, _then_, neither, _or_, Matches, Spans, _⊕_}
-use Rattle.meaning.specs.Entries.{entriesOf, entries, listEntries}
+use Rattle.meaning.specs.Entries.{tokenCount, entriesOf, entries, listEntries}
 
 -- a token alone has the spans that it matches
 pub one-span : (t : Token) (s : List ℕ) → Matches t s → Spans (t then nothing) s
@@ -58,7 +58,13 @@ some-entry (Jump from none) = omega arith
 some-entry (Jump from (some to)) = omega arith
 some-entry (Alternatives ls) = omega arith
 
--- and entries are of four words each
+-- so there are no more tokens than entries
+pub count-few : (ts : Tokens) → 4 * tokenCount ts ≤ length (entries ts)
+unfolding tokenCount entries
+count-few nothing = omega arith
+count-few (t then ts) = omega (arith, count-few ts, some-entry t, length-append (entriesOf t) (entries ts))
+
+-- entries are of four words each
 mutual
   unfolding entriesOf entries listEntries
 
