@@ -83,7 +83,7 @@ unfolding Numeral Decimals
 numeral-front n [] p = let z : 0 < 0 = p .1 in absurd (omega arith)
 numeral-front n (c ∷ u) p = (c, u, refl, in-within 48 57 c (p .0 .0) (p .0 .1))
 
-number-seen : (t : List ℕ) (at n : ℕ) (w : List ℕ) (c : ℕ) (r : List ℕ) → drop at t ≡ w ++ (c ∷ r) → Number n w → within 48 57 c ≡ false → 33 ≤ c
+pub number-seen : (t : List ℕ) (at n : ℕ) (w : List ℕ) (c : ℕ) (r : List ℕ) → drop at t ≡ w ++ (c ∷ r) → Number n w → within 48 57 c ≡ false → 33 ≤ c
     → (s : ℕ) × (numberAt t at ≡ found n s (at + length w))
 unfolding Number Spaced _⨾_ Numeral
 number-seen t at n w c r h p z y =

@@ -52,16 +52,16 @@ samples =
     ∷ refused (ascii "{ (AB|) }")
     ∷ []
 
-none : rule.Blanks []
+pub none : rule.Blanks []
 none = rule.no-blank
 
-one : rule.Blanks (ascii " ")
+pub one : rule.Blanks (ascii " ")
 one = rule.a-blank rule.space none
 
-ab : {level : ℕ} → rule.Solid level (Byte 0xAB) (ascii "AB ")
+pub ab : {level : ℕ} → rule.Solid level (Byte 0xAB) (ascii "AB ")
 ab = rule.byte (rule.whole {a = ascii "A"} {b = ascii "B"} (rule.upper {v = 0} (omega arith)) (rule.upper {v = 1} (omega arith)) one)
 
-cd : {level : ℕ} → rule.Solid level (Byte 0xCD) (ascii "CD ")
+pub cd : {level : ℕ} → rule.Solid level (Byte 0xCD) (ascii "CD ")
 cd = rule.byte (rule.whole {a = ascii "C"} {b = ascii "D"} (rule.upper {v = 2} (omega arith)) (rule.upper {v = 3} (omega arith)) one)
 
 ef : {level : ℕ} → rule.Solid level (Byte 0xEF) (ascii "EF")
