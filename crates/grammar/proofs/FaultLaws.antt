@@ -1,11 +1,10 @@
 -- A text is refused exactly as the grammar's faults have it. Assumes nothing.
 use mathlib.Core.Path.{_≡_, refl, sym, ap, ap₂, _∙_, subst, subst₂}
-use mathlib.Core.Bool.{Bool, true, false, cond, _&&_, _||_}
+use mathlib.Core.Bool.{Bool, true, false, _&&_, _||_}
 use mathlib.Core.Logic.{_⊎_, inl, inr, ⊎-elim, _↔_}
 use mathlib.Core.List.{List}
-use Prim.Native.Nat.{ℕ, zero, suc, _+_, _-_, _≤_, _<_}
+use Prim.Native.Nat.{ℕ, suc, _+_, _-_, _≤_, _<_}
 use native.Mathlib.Omega.{arith}
-use borrow.Author.Tests.{ltb-true, ltb-false}
 use lib.Dec.{leb, ltb}
 use lib.ListN.{length}
 use Rattle.base.specs.declared.Refusal.{Refusal}
@@ -16,73 +15,25 @@ use Rattle.reading.specs.Blanks.{here, skip}
 use Rattle.reading.specs.Given as given
 use Rattle.reading.specs.Given.{Given}
 use Rattle.reading.specs.Pieces.{found, plainAt}
-use Rattle.reading.specs.Lists.{Parsed, read, missing, stopped, before, isJump, begins, endsIn, ends, atBound, listOf, token, more, list, rejected, reading}
+use Rattle.reading.specs.Lists.{read, missing, before, isJump, begins, endsIn, ends, atBound, token, more, list, rejected, reading}
 use Rattle.reading.proofs.PieceLaws.{never}
 use Rattle.reading.proofs.GivenLaws.{given-exactly, given-one}
-use Rattle.reading.proofs.ListSteps.{token-gone, list-gone, more-read, more-none, more-stopped, list-deep, list-of}
+use Rattle.reading.proofs.ListSteps.{token-gone, list-gone, more-read, more-none}
 use Rattle.grammar.specs.Grammar as rule
-use Rattle.grammar.specs.Grammar.{Gap, Solid, totalIn}
+use Rattle.grammar.specs.Grammar.{Gap, totalIn}
 use Rattle.grammar.specs.Faults as fault
 use Rattle.grammar.specs.Faults.{Stands, Spells, Missing, Fault}
 use Rattle.grammar.proofs.Spelling.{NoJump, EndsWell, Bounded}
-use Rattle.grammar.proofs.BoundLaws.{bounded}
+use Rattle.grammar.proofs.BoundLaws.{is-no-jump, bounded}
+use Rattle.grammar.proofs.RulesSpell.{solid-spells}
 use Rattle.grammar.proofs.FaultPieces.{mark-there, mark-here}
 use Rattle.grammar.proofs.FaultTokens.{Level, seen, token-stands, token-there, token-here, plain-there, in-token-there, in-token-here, missing-there, missing-here}
-use Rattle.grammar.proofs.FaultLists.{Chain, chain, list-there, list-here}
-
--- a list is missing exactly if its first token is
-more-some : (n : ℕ) (t : List ℕ) (level count at : ℕ) → length t - at < n → more t level count at ≡ missing → ⊥
-unfolding before
-more-some zero t level count at h q = absurd (omega arith)
-more-some (suc n) t level count at h q =
-    go (token t level count at) refl (λ tok e d i. let g = token-gone t level count at i in more-some n t level d e (omega arith))
-  where
-    before-missing : (tok : Token) (x : Parsed Tokens) → before tok x ≡ missing → x ≡ missing
-    before-missing tok (read ts e d) z = never (cc)
-    before-missing tok missing z = refl
-    before-missing tok (stopped r p) z = never (cc)
-
-    go : (x : Parsed Token) → token t level count at ≡ x → ((tok : Token) (e d : ℕ) → token t level count at ≡ read tok e d → more t level d e ≡ missing → ⊥) → ⊥
-    go (read tok e d) i k = k tok e d i (before-missing tok (more t level d e) (sym (more-read t level count at i) ∙ q))
-    go missing i k = let z = more-none t level count at i in never (cc)
-    go (stopped r p) i k = let z = more-stopped t level count at i in never (cc)
-
-list-missing : (t : List ℕ) (level count at : ℕ) → list t level count at ≡ missing → (level ≤ 8) × (token t level count at ≡ missing)
-unfolding listOf Chain
-list-missing t level count at q = deep (ltb 8 level) refl
-  where
-    bound : (b : Bool) (x y : Parsed Tokens) → (x ≡ missing → ⊥) → (y ≡ missing → ⊥) → cond b x y ≡ missing → ⊥
-    bound true x y h k z = h z
-    bound false x y h k z = k z
-
-    go : (x : Parsed Tokens) → more t level count at ≡ x → listOf at x ≡ missing → token t level count at ≡ missing
-    go (read nothing e d) i z = chain t level count at nothing e d i .0
-    go (read (tok then ts) e d) i z = absurd (bound (atBound (tok then ts)) (stopped JumpAtBound at) (read (tok then ts) e d) (λ w. never (cc)) (λ w. never (cc)) z)
-    go missing i z = absurd (more-some (suc (length t - at)) t level count at (omega arith) i)
-    go (stopped r p) i z = never (cc)
-
-    deep : (b : Bool) → ltb 8 level ≡ b → (level ≤ 8) × (token t level count at ≡ missing)
-    deep true i = let z = list-deep t level count at (ltb-true 8 level i) in never (cc)
-    deep false i = let h = ltb-false 8 level i in (h, go (more t level count at) refl (sym (list-of t level count at h) ∙ q))
-
-missing-list : (t : List ℕ) (level count at : ℕ) → level ≤ 8 → token t level count at ≡ missing → list t level count at ≡ missing
-unfolding listOf
-missing-list t level count at h q = list-of t level count at h ∙ ap (listOf at) (more-none t level count at q)
+use Rattle.grammar.proofs.FaultLists.{Chain, chain, list-there, list-here, list-missing}
 
 -- a jump is a gap, and no other token is
-solid-no-jump : {level : ℕ} {tok : Token} {s : List ℕ} → Solid level tok s → isJump tok ≡ true → ⊥
-unfolding isJump
-solid-no-jump (rule.byte p) h = never (cc)
-solid-no-jump (rule.not-byte p) h = never (cc)
-solid-no-jump (rule.half p) h = never (cc)
-solid-no-jump (rule.not-half p) h = never (cc)
-solid-no-jump (rule.any p) h = never (cc)
-solid-no-jump (rule.one p) h = never (cc)
-solid-no-jump (rule.alternatives e p q r k) h = never (cc)
-
-gap-of : {t : List ℕ} {level at e : ℕ} {tok : Token} → Stands t (Spells level tok) at e → isJump tok ≡ true → Stands t (Gap level tok) at e
-gap-of (fault.stands h (inl p) c) j = absurd (solid-no-jump p j)
-gap-of (fault.stands h (inr p) c) j = fault.stands h p c
+gap-of : {t : List ℕ} {level at e : ℕ} {tok : Token} → Level level → Stands t (Spells level tok) at e → isJump tok ≡ true → Stands t (Gap level tok) at e
+gap-of {tok = tok} l (fault.stands h (inl p) c) j = let n = is-no-jump tok (solid-spells (l .0) (l .1) p .1) in never (cc)
+gap-of l (fault.stands h (inr p) c) j = fault.stands h p c
 
 of-gap : {t : List ℕ} {level at e : ℕ} {tok : Token} → Stands t (Gap level tok) at e → Stands t (Spells level tok) at e × (NoJump tok → ⊥) × (totalIn tok ≡ 1)
 unfolding NoJump totalIn
@@ -149,7 +100,7 @@ module _ {t : List ℕ} where
       let y = chain t l (x .1) (x .0) nothing e d (x .3) in
       let s = token-there t l c at tok (x .0) (x .1) h (x .2) in
       let g = token-gone t l c at (x .2) in
-      fault.jump-last k (gap-of (s .0) j) (omega arith) (missing-there t l (x .1) (x .0) h (y .0))
+      fault.jump-last k (gap-of h (s .0) j) (omega arith) (missing-there t l (x .1) (x .0) h (y .0))
   last-there {l} tok (next then ts) c at e d h k q j =
       let x = chain t l c at (tok then (next then ts)) e d q in
       last-there next ts (x .1) (x .0) e d h (looked-next h k (x .2) .0) (x .3) j
@@ -160,7 +111,7 @@ module _ {t : List ℕ} where
   first-there {l} {start} tok ts c e d h k q j =
       let x = chain t l c start (tok then ts) e d q in
       let a = along (tok then ts) c start e d h k q in
-      fault.jump-first (a .0) (a .1) (gap-of (token-there t l c start tok (x .0) (x .1) h (x .2) .0) j)
+      fault.jump-first (a .0) (a .1) (gap-of h (token-there t l c start tok (x .0) (x .1) h (x .2) .0) j)
 
   bound-there : {l start : ℕ} (ts : Tokens) (c e d : ℕ) → Level l → fault.Looked t l start c start → more t l c start ≡ read ts e d → atBound ts ≡ true → Fault t JumpAtBound start
   unfolding atBound begins ends tokenCount
@@ -171,13 +122,13 @@ module _ {t : List ℕ} where
   given-fault (given.too-long h) = fault.too-long h
   given-fault (given.not-opened h k) = fault.not-opened h (λ e m. k (mark-here m .0))
   given-fault (given.no-outer h k q) =
-      let m = list-missing t 1 0 (skip t 1) q in
-      fault.no-list (fault.outermost h (mark-there t "{" 0 k (omega arith))) (m .0) (missing-there t 1 0 (skip t 1) (omega arith, m .0) (m .1))
+      let m = list-missing t 1 0 (skip t 1) (omega arith) .0 q in
+      fault.no-list (fault.outermost h (mark-there t "{" 0 k (omega arith))) (m .0) (m .1)
   given-fault (given.no-list {level = l} {count = c} {at = at} a q) =
       let b = brackets-there a in
       let k = b .1 in
-      let m = list-missing t l c at q in
-      fault.no-list (b .0) (m .0) (missing-there t l c at (omega arith, m .0) (m .1))
+      let m = list-missing t l c at (omega arith) .0 q in
+      fault.no-list (b .0) (m .0) (m .1)
   given-fault (given.not-closed {e = e} {d = d} {ts = ts} h k q n) =
       fault.not-closed (fault.outermost h (mark-there t "{" 0 k (omega arith))) (list-there t 1 0 (skip t 1) ts e d (omega arith) (omega arith) q) (λ x m. n (mark-here m .0))
   given-fault (given.not-bracketed {level = l} {count = c} {at = at} {e = e} {d = d} {ts = ts} a q n o) =
@@ -280,7 +231,7 @@ module _ {t : List ℕ} where
   fault-given (fault.no-list {level = l} {count = c} {at = at} {miss = miss} b h m) = go (begins-here b)
     where
       gone : 1 ≤ l → list t l c at ≡ missing
-      gone k = missing-list t l c at h (missing-here t l c at (k, h) m)
+      gone k = list-missing t l c at k .1 (h, m)
 
       go : Outer t l c at miss ⊎ Inner t l c at miss → Given t Unexpected miss
       go (inl o) =

@@ -1,6 +1,6 @@
 -- What stands at an offset by the grammar, and what the small readers see there: signs, numbers, jumps. Assumes nothing.
 use mathlib.Core.Path.{_≡_, refl, sym, ap, _∙_, subst}
-use mathlib.Core.Bool.{true, false}
+use mathlib.Core.Bool.{false}
 use mathlib.Core.Option.{Option}
 use mathlib.Core.List.{List, [], _∷_, _++_}
 use Prim.Native.Char.{Char, code}
@@ -21,7 +21,7 @@ use Rattle.grammar.proofs.Standing.{after, here-is, here-cons, skip-cle
 use Rattle.grammar.proofs.DigitLaws.{in-within, digits-split}
 use Rattle.grammar.proofs.Fronts.{cons-clear, mark-seen}
 use Rattle.grammar.proofs.PiecesSpelled.{Sound, number-sound, decimals-here}
-use Rattle.grammar.proofs.PiecesRead.{number-seen}
+use Rattle.grammar.proofs.PiecesRead.{digits-front, number-seen, no-digit-45, no-digit-93}
 use Rattle.grammar.proofs.RulesSpell.{mark-spells, number-spells, numeral-spells}
 use Rattle.grammar.proofs.SpellingDerived.{clear-spells, clear-derived, mark-derived, number-derived, numeral-derived}
 
@@ -65,18 +65,14 @@ number-here {t} {x} {n} {y} c m h d k =
     let f = number-seen t x n w c (drop (suc y) t) g (number-spells (s .3)) d k in
     (f .0, f .1 ∙ ap (λ (i : ℕ). found n (f .0) i) (sym (s .5)))
 
-no-digit : (within 48 57 45 ≡ false) × (within 48 57 93 ≡ false)
-unfolding within
-no-digit = (refl, refl)
-
 -- what stands before a jump's dash
 pub from-there : {t : List ℕ} {x n y : ℕ} → given.From t x n y → here t y ≡ 45 → fault.From t x n y
 from-there {t} {x} (given.number {n = n} {s = s} {x = y} q) h = fault.number (number-there t x n s y 45 q h (omega arith))
 from-there (given.nothing q) h = fault.nothing
 
 pub from-here : {t : List ℕ} {x n y : ℕ} → fault.From t x n y → here t y ≡ 45 → given.From t x n y
-from-here (fault.number m) h = given.number (number-here 45 m h (no-digit .0) (omega arith) .1)
-from-here {t} {x} fault.nothing h = given.nothing (number-absent t x (ap (within 48 57) h ∙ no-digit .0))
+from-here (fault.number m) h = given.number (number-here 45 m h no-digit-45 (omega arith) .1)
+from-here {t} {x} fault.nothing h = given.nothing (number-absent t x (ap (within 48 57) h ∙ no-digit-45))
 
 -- jumps
 pub jumps-there : {t : List ℕ} {at m stop : ℕ} {to : Option ℕ} → given.Jumps t at m to stop → fault.Jumps t at m to
@@ -91,20 +87,20 @@ pub jumps-here : {t : List ℕ} {at m : ℕ} {to : Option ℕ} → fault.Jumps t
 jumps-here {t} {at} (fault.single {n = n} {x = x} {y = y} a b c) =
     let i = mark-here a in
     let k = mark-here c in
-    let q = number-here 93 b (k .0) (no-digit .1) (omega arith) in
+    let q = number-here 93 b (k .0) no-digit-93 (omega arith) in
     (y + 1, given.single (i .0) (ap (numberAt t) (sym (i .1)) ∙ q .1) (k .0))
 jumps-here {t} {at} (fault.bounded {m = m} {n = n} {x = x} {y = y} {z = z} {u = u} a f b c d) =
     let i = mark-here a in
     let j = mark-here b in
     let k = mark-here d in
-    let q = number-here 93 c (k .0) (no-digit .1) (omega arith) in
+    let q = number-here 93 c (k .0) no-digit-93 (omega arith) in
     (u + 1, given.bounded (i .0) (subst (λ (v : ℕ). given.From t v m y) (i .1) (from-here f (j .0))) (j .0) (ap (numberAt t) (sym (j .1)) ∙ q .1) (k .0))
 jumps-here {t} {at} (fault.unbounded {m = m} {x = x} {y = y} {z = z} a f b c) =
     let i = mark-here a in
     let j = mark-here b in
     let k = mark-here c in
     let e : here t (skip t (y + 1)) ≡ 93 = ap (λ (v : ℕ). here t v) (sym (j .1)) ∙ k .0 in
-    (skip t (y + 1) + 1, given.unbounded (i .0) (subst (λ (v : ℕ). given.From t v m y) (i .1) (from-here f (j .0))) (j .0) (number-absent t (skip t (y + 1)) (ap (within 48 57) e ∙ no-digit .1)) e)
+    (skip t (y + 1) + 1, given.unbounded (i .0) (subst (λ (v : ℕ). given.From t v m y) (i .1) (from-here f (j .0))) (j .0) (number-absent t (skip t (y + 1)) (ap (within 48 57) e ∙ no-digit-93)) e)
 
 -- digits spell no less with more digits after them
 digits-least : (n : ℕ) (d r : List ℕ) → Decimals d → n * 10 ^ length d + value d ≤ numeral n (d ++ r)
@@ -126,15 +122,10 @@ big-there t x b =
     let h : 4294967295 < numeral 0 (drop x t) = b .1 in
     fault.big (p .1) (p .2) (numeral-derived (p .0) (p .3) (omega arith)) (omega arith)
 
-first-digit : (d : List ℕ) → Decimals d → 0 < length d → (c : ℕ) × (u : List ℕ) × (d ≡ c ∷ u) × (within 48 57 c ≡ true)
-unfolding Decimals
-first-digit [] p h = let z : 0 < 0 = h in absurd (omega arith)
-first-digit (c ∷ u) p h = (c, u, refl, in-within 48 57 c (p .0) (p .1))
-
 pub big-here : {t : List ℕ} {x : ℕ} → fault.Big t x → given.Big t x
 big-here {t} {x} (fault.big {n = n} {s = s} r h p l) =
     let q = numeral-spells p in
-    let f = first-digit s (q .0) (q .1) in
+    let f = digits-front s (q .0) (q .1) in
     let i : here t x ≡ f .0 = here-is t x (f .0) (f .1 ++ r) (h ∙ ap (λ (u : List ℕ). u ++ r) (f .2)) in
     let k : 0 * 10 ^ length s + value s ≤ numeral 0 (s ++ r) = digits-least 0 s r (q .0) in
     let e : numeral 0 (drop x t) ≡ numeral 0 (s ++ r) = ap (numeral 0) h in
