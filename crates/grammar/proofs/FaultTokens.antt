@@ -18,7 +18,7 @@ use Rattle.reading.specs.Pieces.{Seen, found, absent, refused, _else_, Hex, who
 use Rattle.reading.specs.Lists.{Parsed, read, missing, stopped, tokenOr, asToken, bracketed, token, lists, enough}
 use Rattle.reading.proofs.PieceLaws.{never}
 use Rattle.reading.proofs.PieceSteps.{not-hex, plain-not}
-use Rattle.reading.proofs.InToken.{in-token-refuses, refused-in-token}
+use Rattle.reading.proofs.InToken.{opens, in-token-refuses, refused-in-token}
 use Rattle.reading.proofs.ListSteps.{token-step}
 use Rattle.grammar.specs.Grammar.{Gap, totalIn}
 use Rattle.grammar.specs.Faults as fault
@@ -108,11 +108,6 @@ pub plain-there : (t : List ℕ) (level at : ℕ) (tok : Token) (s e : ℕ) → 
 plain-there t level at tok s e l q = token-there t level 0 at tok e 1 l (token-found t level 0 at tok s e q (omega arith)) .0
 
 -- refusals within a token
-bracket-first : {t : List ℕ} {at m stop : ℕ} {to : Option ℕ} → given.Jumps t at m to stop → here t at ≡ 91
-bracket-first (given.single h q k) = h
-bracket-first (given.bounded h f d q k) = h
-bracket-first (given.unbounded h f d q k) = h
-
 no-tilde : {A : Type 0} (t : List ℕ) (at : ℕ) → here t at ≡ 91 → here t at ≡ 126 → A
 no-tilde t at h o = absurd (omega arith)
 
@@ -122,10 +117,10 @@ at-tilde (given.after-tilde h q) o = inl q
 at-tilde (given.tilde-all h k l) o = inr (k, l)
 at-tilde {t} {at = at} (given.big-from h b) o = no-tilde t at h o
 at-tilde {t} {at = at} (given.big-to h f d b) o = no-tilde t at h o
-at-tilde {t} {at = at} (given.empty j) o = no-tilde t at (bracket-first j) o
-at-tilde {t} {at = at} (given.backwards j h) o = no-tilde t at (bracket-first j) o
-at-tilde {t} {at = at} (given.open-inside i j) o = no-tilde t at (bracket-first j) o
-at-tilde {t} {at = at} (given.long-inside i j h k) o = no-tilde t at (bracket-first j) o
+at-tilde {t} {at = at} (given.empty j) o = no-tilde t at (opens j) o
+at-tilde {t} {at = at} (given.backwards j h) o = no-tilde t at (opens j) o
+at-tilde {t} {at = at} (given.open-inside i j) o = no-tilde t at (opens j) o
+at-tilde {t} {at = at} (given.long-inside i j h k) o = no-tilde t at (opens j) o
 
 -- two question marks after a sign
 marks-after : (t : List ℕ) (at : ℕ) → here t (at + 1) ≡ 63 → here t (at + 2) ≡ 63 → drop (at + 1) t ≡ 63 ∷ (63 ∷ drop (at + 3) t)
@@ -222,13 +217,13 @@ missing-here t level count at l m = token-step t level count at ∙ go (plainAt 
     inner : Parsed Lists
     inner = lists t (level + 1) (count + 1) (skip t (at + 1)) (skip t (at + 1))
 
-    opens : (a : Bool) → eqb (here t at) 40 ≡ a → _≡_ {A = Parsed Token} (cond a (cond (ltb count 512) (asToken inner) (stopped TooManyTokens at)) missing) missing
-    opens true i = absurd (m .2 (skip t (at + 1)) (mark-there t "(" at (eqb-true (here t at) 40 i) (omega arith)))
-    opens false i = refl
+    bracket : (a : Bool) → eqb (here t at) 40 ≡ a → _≡_ {A = Parsed Token} (cond a (cond (ltb count 512) (asToken inner) (stopped TooManyTokens at)) missing) missing
+    bracket true i = absurd (m .2 (skip t (at + 1)) (mark-there t "(" at (eqb-true (here t at) 40 i) (omega arith)))
+    bracket false i = refl
 
     go : (x : Seen Token) → plainAt t (ltb 1 level) at ≡ x → tokenOr at count x (bracketed t at count inner) ≡ missing
     go (found tok s e) q = absurd (m .0 tok e (plain-there t level at tok s e l q))
-    go absent q = opens (eqb (here t at) 40) refl
+    go absent q = bracket (eqb (here t at) 40) refl
     go (refused r p) q = absurd (m .1 r p (in-token-there l (refused-in-token t at (ltb 1 level) r p q)))
 
 pub token-missing : (t : List ℕ) (level count at : ℕ) → Level level → (token t level count at ≡ missing) ↔ Missing t level at
