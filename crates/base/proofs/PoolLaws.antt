@@ -4,7 +4,7 @@ use mathlib.Core.List.{List, [], _∷_, _++_, append-assoc}
 use Prim.Native.Nat.{ℕ, suc, _+_, _-_, _≤_, _<_}
 use native.Mathlib.Omega.{arith}
 use native.Mathlib.Numerals.{add-one}
-use lib.ListN.{length, take, drop, set, replicate, length-append, length-replicate, length-drop, take-append-drop, replicate-append-replicate}
+use lib.ListN.{length, take, drop, set, replicate, length-append, length-replicate, take-append-drop, replicate-append-replicate}
 use lib.Seq.{length-take-le, drop-cons, set-at, take-at, drop-append-add}
 use Rattle.base.specs.Pools.{zeroed, filled, cleared}
 
@@ -23,10 +23,6 @@ zeroed-more from i p h l =
   where
     one-more : (n m : ℕ) (t : List ℕ) → m ≡ n + 1 → replicate n 0 ++ (0 ∷ t) ≡ replicate m 0 ++ t
     one-more n m t e = sym (append-assoc (replicate n 0) (0 ∷ []) t) ∙ ap (λ (x : List ℕ). x ++ t) (replicate-append-replicate n 1 0 ∙ ap (λ (k : ℕ). replicate k 0) (sym e))
-
-pub length-zeroed : (from to : ℕ) (p : List ℕ) → from ≤ to → to ≤ length p → length (zeroed from to p) ≡ length p
-unfolding zeroed
-length-zeroed from to p h l = simp (length-append, length-replicate, length-drop, length-take-le from p (omega arith)) (omega arith)
 
 -- zeroing a whole pool's lent part
 pub zeroed-cleared : (size : ℕ) (p : List ℕ) → zeroed 0 size p ≡ cleared size p

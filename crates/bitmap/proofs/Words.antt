@@ -1,6 +1,6 @@
 -- A bitmap's members by its four words.
 use mathlib.Core.Path.{_≡_, refl, sym, ap, ap₂, _∙_}
-use mathlib.Core.Bool.{Bool, true, false, _||_}
+use mathlib.Core.Bool.{Bool, true, false, _||_, or-comm}
 use mathlib.Core.Logic.{⊎-elim}
 use mathlib.Core.List.{List, [], _∷_}
 use Prim.Native.Nat.{ℕ, zero, suc, _+_, _*_, _/_, _%_, _^_, _≤_, _<_}
@@ -32,12 +32,6 @@ four f v h = ap (λ (w : ℕ). bit w (v % 64)) (each f (v / 64) (omega arith))
 
 same-place : (v b : ℕ) → v / 64 ≡ b / 64 → eqb (v % 64) (b % 64) ≡ eqb v b
 same-place v b e = eqb-iff (v % 64) (b % 64) v b (λ g. omega arith) (λ g. omega arith)
-
-or-comm : (s t : Bool) → (s || t) ≡ (t || s)
-or-comm true true = refl
-or-comm true false = refl
-or-comm false true = refl
-or-comm false false = refl
 
 pub set-one : (ws : List ℕ) (b v : ℕ) → b / 64 < length ws
     → bit (getD (set ws (b / 64) (bitOr (getD ws (b / 64) 0) ((1 * 2 ^ (b % 64)) % 2 ^ 64))) (v / 64) 0) (v % 64) ≡ (eqb v b || bit (getD ws (v / 64) 0) (v % 64))

@@ -1,23 +1,22 @@
 -- Between two choices, and one run more. Assumes nothing.
-use mathlib.Core.Path.{_≡_, refl, sym, ap, ap₂, _∙_, subst}
+use mathlib.Core.Path.{_≡_, refl, sym, ap, _∙_, subst}
 use mathlib.Core.Bool.{Bool, true, false, cond}
 use mathlib.Core.List.{List, [], _∷_}
 use Prim.Native.Nat.{ℕ, _+_, _-_, _≤_, _<_}
 use native.Mathlib.Omega.{arith}
 use lib.ListN.{length, take, drop, length-take, length-drop}
-use Rattle.meaning.specs.Tokens.{Tokens, nothing, _then_}
-use Rattle.picking.specs.Numbers.{count}
+use Rattle.meaning.specs.Tokens.{Tokens, nothing}
 use Rattle.picking.specs.Runs.{filledOnes}
-use Rattle.picking.specs.Choice.{Choice, unranked, chosen, tooMany, beats, between, inRun, among}
+use Rattle.picking.specs.Choice.{Choice, chosen, beats, between, inRun, among}
 use Rattle.picking.proofs.ChosenLaws.{chosen-few}
-use Rattle.spelling.specs.Words.{tokenIn, width, tokensIn}
+use Rattle.spelling.specs.Words.{tokensIn}
 use Rattle.spelling.proofs.StepLaws.{tokens-end, tokens-step}
 use Rattle.literals.specs.declared.Pick.{Pick}
 use Rattle.literals.specs.declared.Pick.the-variants.{Nothing, Taken, TooMany}
 use Rattle.literals.specs.Ranks.{choiceSays}
 use Rattle.literals.specs.Whole.{Whole}
 use Rattle.literals.proofs.WholeLaws.{whole-first}
-use Rattle.chooser.specs.Kept.{Inside, Kept, Told, Stretch}
+use Rattle.chooser.specs.Kept.{Kept, Told, Stretch}
 use Rattle.chooser.proofs.ShiftLaws.{Shifts}
 
 -- r is the choice between two
@@ -95,14 +94,8 @@ one-run c us w h =
     ap (λ (ts : Tokens). between c (inRun ts)) e ∙ sym (ap (λ (ts : Tokens). among c (filledOnes (ts ∷ []))) e)
 
 module _ (ws : List ℕ) (from to : ℕ) (s : Stretch ws from to) where
-  pub stretch-few : from + (to - from) ≤ 4096
-  stretch-few = let a = s .few in let b = s .ordered in let c = s .inside in omega arith
-
   pub stretch-in : from + (to - from) ≤ length ws
   stretch-in = let b = s .ordered in let c = s .inside in omega arith
-
-  pub run-few : length (take (to - from) (drop from ws)) ≤ 4096
-  run-few = let a = s .few in let b = s .ordered in let c = s .inside in let d = length-take (to - from) (drop from ws) in let e = length-drop from ws in omega arith
 
   run-some : from < to → 0 < length (take (to - from) (drop from ws))
   run-some h = let c = s .inside in let d = length-take (to - from) (drop from ws) in let e = length-drop from ws in omega arith

@@ -1,23 +1,19 @@
 -- From what was read to what the door says. Assumes nothing.
-use mathlib.Core.Path.{_≡_, refl, sym, ap, ap₂, _∙_}
-use mathlib.Core.Bool.{Bool, true, false, _&&_}
-use mathlib.Core.List.{List, _++_}
-use Prim.Native.Nat.{ℕ, _+_, _-_, _≤_, _<_}
+use mathlib.Core.Path.{_≡_, refl, ap, _∙_}
+use mathlib.Core.Bool.{true, false, and-false}
+use mathlib.Core.List.{List}
+use Prim.Native.Nat.{ℕ, _-_, _≤_, _<_}
 use native.Mathlib.Omega.{arith}
 use lib.Dec.{leb}
-use lib.ListN.{length, take, drop, replicate}
-use lib.Seq.{take-at}
+use lib.ListN.{length, take, drop}
 use borrow.Author.Tests.{le-leb, lt-leb}
 use Rattle.base.specs.declared.Refusal.{Refusal}
 use Rattle.base.specs.Refusals.{numberOf}
-use Rattle.base.specs.Pools.{filled, cleared}
-use Rattle.base.proofs.RefusalLaws.{number-one}
+use Rattle.base.specs.Pools.{cleared}
 use Rattle.meaning.specs.Tokens.{Tokens, _or_}
-use Rattle.meaning.specs.Values.{SpelledOne, Spelled, SpelledFirst}
+use Rattle.meaning.specs.Values.{Spelled}
 use Rattle.meaning.specs.Entries.{entries}
-use Rattle.reading.specs.Lists.{Outcome, accepted, rejected, reading}
-use Rattle.reading.proofs.PieceLaws.{never}
-use Rattle.reading.proofs.TextLaws.{accepted-words}
+use Rattle.reading.specs.Lists.{accepted, rejected, reading}
 use Rattle.reading.proofs.SpelledValues.{accepted-spelled}
 use Rattle.readdoor.specs.declared.ReadAnswer.{ReadAnswer}
 use Rattle.readdoor.specs.declared.ReadAnswer.the-variants as reads
@@ -28,7 +24,7 @@ use Rattle.compiler.specs.declared.Made.{Made}
 use Rattle.compiler.specs.declared.Made.the-variants as made
 use Rattle.compiler.specs.Made.{Makes}
 use Rattle.compiler.specs.Walks.{Entered}
-use Rattle.compiledoor.specs.Door.{Said, gives, refuses, said, madeSays, compiledSays, outcomeSays, compiledForward, compiledReverse, outcomeForward, outcomeReverse, room, compileSays, forwardLeaves, reverseLeaves, TextMakes}
+use Rattle.compiledoor.specs.Door.{Said, refuses, said, madeSays, compiledSays, outcomeSays, compiledForward, compiledReverse, outcomeForward, outcomeReverse, room, compileSays, forwardLeaves, reverseLeaves, TextMakes}
 
 -- what was read stands in the pool
 pub record Got (t q : List ℕ) (e u : ℕ) : Type 0 where
@@ -88,11 +84,7 @@ pub small-first : (p q : List ℕ) → length p < 512 → room p q ≡ false
 small-first p q h = rw (lt-leb 512 (length p) h)
 
 pub small-second : (p q : List ℕ) → length q < 512 → room p q ≡ false
-small-second p q h = rw (lt-leb 512 (length q) h) (go (leb 512 (length p)))
-  where
-    go : (x : Bool) → (x && false) ≡ false
-    go true = refl
-    go false = refl
+small-second p q h = rw (lt-leb 512 (length q) h) (and-false (leb 512 (length p)))
 
 pub both-fit : (p q : List ℕ) → 512 ≤ length p → 512 ≤ length q → room p q ≡ true
 both-fit p q a b = rw (le-leb 512 (length p) a, le-leb 512 (length q) b)

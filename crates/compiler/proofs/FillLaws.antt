@@ -1,12 +1,12 @@
 -- Words copied into a pool, and what compiling leaves there. Assumes nothing.
 use mathlib.Core.Path.{_≡_, refl, sym, ap, ap₂, _∙_}
-use mathlib.Core.Bool.{Bool, true, false, not, _&&_}
+use mathlib.Core.Bool.{Bool, true, false, not, _&&_, and-false}
 use mathlib.Core.List.{List, [], _∷_, _++_, append-assoc}
 use Prim.Native.Nat.{ℕ, suc, _+_, _-_, _≤_, _<_}
 use native.Mathlib.Omega.{arith}
 use native.Mathlib.Numerals.{add-one}
 use lib.Dec.{leb}
-use lib.ListN.{length, getD, take, drop, set, length-append, length-drop}
+use lib.ListN.{length, getD, take, drop, set}
 use lib.Seq.{length-take-le, take-suc, drop-cons, set-at, drop-drop}
 use borrow.Author.Tests.{le-leb, lt-leb}
 use Rattle.base.specs.declared.Refusal.the-variants.{TooManyNodes, BranchTooLong}
@@ -24,9 +24,6 @@ copied-more w o pool i l m e =
     ∙ sym (append-assoc (take i w) (getD w i 0 ∷ []) (drop (suc i) o))
     ∙ ap (λ (x : List ℕ). x ++ drop (suc i) o) (sym (take-suc w i 0 l))
     ∙ ap (λ (k : ℕ). take k w ++ drop k o) (sym (add-one i))
-
-pub copied-length : (w o pool : List ℕ) (n : ℕ) → n ≤ length w → n ≤ length o → pool ≡ take n w ++ drop n o → length pool ≡ length o
-copied-length w o pool n l m e = ap length e ∙ length-append (take n w) (drop n o) ∙ (omega (arith, length-take-le n w l, length-drop n o))
 
 pub copied-filled : (w o pool : List ℕ) (n : ℕ) → n ≤ length w → n ≤ 512 → pool ≡ take n w ++ drop n o → zeroed n 512 pool ≡ filled 512 (take n w) o
 copied-filled w o pool n l m e =
@@ -57,8 +54,4 @@ pub first-many : (n m : ℕ) → 512 < n → (leb n 512 && leb m 512) ≡ false
 first-many n m h = rw (lt-leb n 512 h)
 
 pub second-many : (n m : ℕ) → 512 < m → (leb n 512 && leb m 512) ≡ false
-second-many n m h = rw (lt-leb m 512 h) (go (leb n 512))
-  where
-    go : (t : Bool) → (t && false) ≡ false
-    go true = refl
-    go false = refl
+second-many n m h = rw (lt-leb m 512 h) (and-false (leb n 512))

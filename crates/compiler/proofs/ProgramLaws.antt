@@ -5,14 +5,15 @@ use mathlib.Core.List.{List, _++_}
 use Prim.Native.Nat.{ℕ, _+_, _*_, _-_, _≤_}
 use native.Mathlib.Omega.{arith}
 use lib.Dec.{leb}
-use lib.ListN.{length, take, drop, length-append}
+use lib.ListN.{length, take, drop}
 use lib.Seq.{take-at}
 use Rattle.base.specs.declared.Refusal.the-variants.{NotSimple}
 use Rattle.base.specs.Pools.{cleared}
-use Rattle.meaning.specs.Tokens.{Tokens, nothing, _then_}
+use Rattle.meaning.specs.Tokens.{Tokens}
 use Rattle.meaning.specs.Values.{Spelled}
-use Rattle.meaning.specs.Entries.{tokenCount, entriesOf, entries}
+use Rattle.meaning.specs.Entries.{tokenCount, entries}
 use Rattle.meaning.specs.Programs.{Prog, end}
+use Rattle.meaning.proofs.TokenLaws.{count-few}
 use Rattle.compiling.specs.ProgramWords.{wordsOf, nodes}
 use Rattle.compiling.specs.Compiling.{added, forwardProgram, reverseProgram, forwardWords, reverseWords}
 use Rattle.compiling.specs.Compile.{simple, short, few, compile}
@@ -22,13 +23,6 @@ use Rattle.emit.proofs.OrderLaws.{directed, offsets-count}
 use Rattle.emit.proofs.LinkLaws.{directed-long, tokens-program}
 use Rattle.compiler.specs.declared.Made.the-variants.{Refused}
 use Rattle.compiler.specs.Made.{Makes, limited}
-use Rattle.compiler.proofs.WalkLaws.{some-entry}
-
--- tokens have an entry each, at least
-count-few : (ts : Tokens) → 4 * tokenCount ts ≤ length (entries ts)
-unfolding tokenCount entries
-count-few nothing = omega arith
-count-few (t then ts) = omega (arith, count-few ts, some-entry t, length-append (entriesOf t) (entries ts))
 
 module _ (ws : List ℕ) (ts : Tokens) (e : ws ≡ entries ts) where
   pub count-fits : length ws ≤ 4096 → (count : ℕ) → count ≡ tokenCount ts → count ≤ 1024

@@ -1,6 +1,6 @@
 -- Walks over token entries. Assumes nothing.
 use mathlib.Core.Path.{_≡_, refl, sym, ap, ap₂, _∙_}
-use mathlib.Core.Bool.{Bool, true, false, _&&_}
+use mathlib.Core.Bool.{Bool, true, false, _&&_, and-assoc}
 use mathlib.Core.Option.{none, some}
 use mathlib.Core.List.{List, [], _∷_, _++_, append-nil, append-assoc}
 use Prim.Native.Nat.{ℕ, suc, _+_, _-_, _*_, _≤_, _<_}
@@ -10,7 +10,8 @@ use lib.ListN.{length, getD, take, drop, set, length-append, length-drop}
 use lib.Seq.{drop-drop, drop-at, drop-cons, set-at, getD-drop, take-all}
 use Rattle.meaning.specs.Tokens.{Token, Tokens, Lists, Byte, NotByte, MaskedByte, NotMaskedByte, Jump, Alternatives, nothing, _then_, neither, _or_}
 use Rattle.meaning.specs.Entries.{tokenCount, entriesOf, entries, listEntries}
-use Rattle.compiling.specs.Compile.{plainToken, plainTokens, plainLists, simpleToken, simple}
+use Rattle.meaning.proofs.TokenLaws.{some-entry}
+use Rattle.compiling.specs.Compile.{plainToken, plainTokens, plainBranches, simpleToken, simple}
 use Rattle.emit.specs.Lists.{sizeAt, offsets}
 use Rattle.emit.proofs.AltLaws.{size-least}
 use Rattle.emit.proofs.OrderLaws.{Starts, offsets-count}
@@ -51,14 +52,10 @@ plain-tokens : (ts : Tokens) (r : List ℕ) → plainEntries (entries ts ++ r) �
 unfolding entries plainTokens
 plain-tokens nothing r = refl
 plain-tokens (t then ts) r =
-    ap plainEntries (append-assoc (entriesOf t) (entries ts) r) ∙ plain-token t (entries ts ++ r) ∙ ap (λ (x : Bool). plainToken t && x) (plain-tokens ts r) ∙ regroup (plainToken t) (plainTokens ts) (plainEntries r)
-  where
-    regroup : (a b c : Bool) → (a && (b && c)) ≡ ((a && b) && c)
-    regroup true b c = refl
-    regroup false b c = refl
+    ap plainEntries (append-assoc (entriesOf t) (entries ts) r) ∙ plain-token t (entries ts ++ r) ∙ ap (λ (x : Bool). plainToken t && x) (plain-tokens ts r) ∙ sym (and-assoc (plainToken t) (plainTokens ts) (plainEntries r))
 
-plain-lists : (ls : Lists) → plainEntries (listEntries ls) ≡ plainLists ls
-unfolding entries plainLists plainEntries plainEntry
+plain-lists : (ls : Lists) → plainEntries (listEntries ls) ≡ plainBranches ls
+unfolding entries plainBranches plainEntries plainEntry
 plain-lists neither = refl
 plain-lists (ts or ls) = plain-tokens ts (listEntries ls) ∙ ap (λ (x : Bool). plainTokens ts && x) (plain-lists ls)
 
@@ -90,16 +87,6 @@ pub record Stepped (ws : List ℕ) (at : ℕ) (ts : Tokens) : Type 0 where
   pub fits : at + sizeAt ws at ≤ length ws
   pub passes : simpleAt ws at ≡ true → Walked ws (at + sizeAt ws at) ts
   pub fails : simpleAt ws at ≡ false → simple ts ≡ false
-
-pub some-entry : (t : Token) → 4 ≤ length (entriesOf t)
-unfolding entries
-some-entry (Byte v) = omega arith
-some-entry (NotByte v) = omega arith
-some-entry (MaskedByte v m) = omega arith
-some-entry (NotMaskedByte v m) = omega arith
-some-entry (Jump from none) = omega arith
-some-entry (Jump from (some to)) = omega arith
-some-entry (Alternatives ls) = omega arith
 
 -- one token on
 module _ (ws : List ℕ) (at : ℕ) (t : Token) (ts : Tokens) (e : drop at ws ≡ entriesOf t ++ entries ts) where

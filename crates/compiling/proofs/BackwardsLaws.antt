@@ -2,15 +2,16 @@
 use mathlib.Core.Path.{_≡_, refl, sym, ap, ap₂, _∙_, subst, subst₂}
 use mathlib.Core.Bool.{true}
 use mathlib.Core.Logic.{inl, inr, _↔_}
-use mathlib.Core.List.{List, [], _∷_, _++_, reverse, reverse-append, reverse-reverse}
+use mathlib.Core.List.{List, [], _∷_, reverse, reverse-append, reverse-reverse}
 use Prim.Native.Nat.{ℕ}
 use lib.ListN.{length-reverse}
 use Rattle.meaning.specs.Tokens.{Token, Tokens, Lists, Byte, NotByte, MaskedByte, NotMaskedByte, Jump, Alternatives, nothing, _then_, neither, _or_, One, Within, Matches, Spans, MatchesOne, _⊕_}
 use Rattle.meaning.specs.Values.{Bytes, SpelledOne, Spelled, SpelledFirst, SpelledMore}
 use Rattle.meaning.proofs.SoundLaws.{and-left, and-right, false-true}
+use Rattle.meaning.proofs.ValueLaws.{bytes-join}
 use Rattle.meaning.proofs.TokenLaws.{one-span, join-spans, nothing-after, after-assoc}
 use Rattle.compiling.specs.Compiling.{backwardsOf, backwards, backwardsIn}
-use Rattle.compiling.specs.Compile.{plainToken, plainTokens, plainLists, simpleToken, simple}
+use Rattle.compiling.specs.Compile.{plainToken, plainTokens, plainBranches, simpleToken, simple}
 
 backwards-join : (ts us : Tokens) → backwards (ts ⊕ us) ≡ backwards us ⊕ backwards ts
 unfolding backwards _⊕_
@@ -113,8 +114,8 @@ unfolding backwards plainTokens
 plain-backwards nothing h = h
 plain-backwards (t then ts) h = plain-join (backwards ts) (backwardsOf t then nothing) (plain-backwards ts (and-right (plainToken t) _ h)) (rw (plain-one t (and-left (plainToken t) _ h)))
 
-plain-lists-backwards : (ls : Lists) → plainLists ls ≡ true → plainLists (backwardsIn ls) ≡ true
-unfolding backwards plainLists
+plain-lists-backwards : (ls : Lists) → plainBranches ls ≡ true → plainBranches (backwardsIn ls) ≡ true
+unfolding backwards plainBranches
 plain-lists-backwards neither h = h
 plain-lists-backwards (ts or ls) h = rw (plain-backwards ts (and-left (plainTokens ts) _ h), plain-lists-backwards ls (and-right (plainTokens ts) _ h))
 
@@ -138,11 +139,6 @@ simple-backwards nothing h = h
 simple-backwards (t then ts) h = simple-join (backwards ts) (backwardsOf t then nothing) (simple-backwards ts (and-right (simpleToken t) _ h)) (rw (simple-one t (and-left (simpleToken t) _ h)))
 
 -- reversed bytes are bytes
-bytes-join : (a b : List ℕ) → Bytes a → Bytes b → Bytes (a ++ b)
-unfolding Bytes
-bytes-join [] b h g = g
-bytes-join (x ∷ a) b h g = (h .0, bytes-join a b (h .1) g)
-
 pub bytes-reverse : (s : List ℕ) → Bytes s → Bytes (reverse s)
 unfolding Bytes
 bytes-reverse [] h = h

@@ -12,7 +12,7 @@ use Rattle.meaning.specs.Programs.{Item, Prog, one, jump, range, alt, end, _▹
 use Rattle.meaning.specs.Words.{plain, plainProg}
 use Rattle.meaning.proofs.SoundLaws.{and-left, and-right, false-true}
 use Rattle.compiling.specs.Compiling.{jumpLimit, jumpOf, pairBy, add, itemOf, added, branchesFor, forwardProgram}
-use Rattle.compiling.specs.Compile.{plainToken, plainTokens, plainLists, simpleToken, simple}
+use Rattle.compiling.specs.Compile.{plainToken, plainTokens, plainBranches, simpleToken, simple}
 use Rattle.compiling.proofs.SaidLaws.{FitTest, FitOf, Fit, FitFirst, FitMore}
 use Rattle.compiling.proofs.TokenSpans.{BoundedOne, Bounded, BoundedIn}
 
@@ -100,19 +100,19 @@ plain-added (t then ts) p h g f q =
     let r = plain-fits t (h .0) (and-left (plainToken t) (plainTokens ts) g) in
     plain-added ts (add p (itemOf t)) (h .1) (and-right (plainToken t) (plainTokens ts) g) (add-fit p (itemOf t) f (r .0)) (add-plain p (itemOf t) q (r .1))
 
-more-fit : (ls : Lists) → SpelledMore ls → plainLists ls ≡ true → FitMore (branchesFor ls)
-unfolding Spelled plainLists branchesFor Fit plainProg
+more-fit : (ls : Lists) → SpelledMore ls → plainBranches ls ≡ true → FitMore (branchesFor ls)
+unfolding Spelled plainBranches branchesFor Fit plainProg
 more-fit neither h g = tt
 more-fit (ts or ls) h g =
-    let r = plain-added ts end (h .0) (and-left (plainTokens ts) (plainLists ls) g) tt refl in
-    (r .0, r .1, more-fit ls (h .1) (and-right (plainTokens ts) (plainLists ls) g))
+    let r = plain-added ts end (h .0) (and-left (plainTokens ts) (plainBranches ls) g) tt refl in
+    (r .0, r .1, more-fit ls (h .1) (and-right (plainTokens ts) (plainBranches ls) g))
 
-first-fit : (ls : Lists) → SpelledFirst ls → plainLists ls ≡ true → FitFirst (branchesFor ls)
-unfolding Spelled plainLists branchesFor Fit plainProg
+first-fit : (ls : Lists) → SpelledFirst ls → plainBranches ls ≡ true → FitFirst (branchesFor ls)
+unfolding Spelled plainBranches branchesFor Fit plainProg
 first-fit neither h g = h
 first-fit (ts or ls) h g =
-    let r = plain-added ts end (h .0) (and-left (plainTokens ts) (plainLists ls) g) tt refl in
-    (r .0, r .1, more-fit ls (h .1) (and-right (plainTokens ts) (plainLists ls) g))
+    let r = plain-added ts end (h .0) (and-left (plainTokens ts) (plainBranches ls) g) tt refl in
+    (r .0, r .1, more-fit ls (h .1) (and-right (plainTokens ts) (plainBranches ls) g))
 
 -- the outer list
 simple-fits : (t : Token) → SpelledOne t → simpleToken t ≡ true → FitOf (itemOf t)
@@ -151,10 +151,10 @@ unfolding Bounded plainTokens
 plain-bounded nothing g = tt
 plain-bounded (t then ts) g = (plain-bounded-one t (and-left (plainToken t) (plainTokens ts) g), plain-bounded ts (and-right (plainToken t) (plainTokens ts) g))
 
-lists-bounded : (ls : Lists) → plainLists ls ≡ true → BoundedIn ls
-unfolding Bounded plainLists
+lists-bounded : (ls : Lists) → plainBranches ls ≡ true → BoundedIn ls
+unfolding Bounded plainBranches
 lists-bounded neither g = tt
-lists-bounded (ts or ls) g = (plain-bounded ts (and-left (plainTokens ts) (plainLists ls) g), lists-bounded ls (and-right (plainTokens ts) (plainLists ls) g))
+lists-bounded (ts or ls) g = (plain-bounded ts (and-left (plainTokens ts) (plainBranches ls) g), lists-bounded ls (and-right (plainTokens ts) (plainBranches ls) g))
 
 simple-bounded-one : (t : Token) → simpleToken t ≡ true → BoundedOne t
 unfolding BoundedOne simpleToken

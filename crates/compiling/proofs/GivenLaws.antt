@@ -15,7 +15,7 @@ use Rattle.meaning.specs.Programs.{Item, Prog, Branches, one, jump, range, alt,
 use Rattle.meaning.proofs.SoundLaws.{false-true}
 use Rattle.compiling.specs.ProgramWords.{nodes}
 use Rattle.compiling.specs.Compiling.{jumpLimit, branchLimit, nodeLimit, forwardProgram, reverseProgram, forwardWords, reverseWords, TooFar, TooRich, Some, SomeIn, InBranch, Unsimple, LongIn, LongOf, LongBranch, ManyNodes, Either}
-use Rattle.compiling.specs.Compile.{plainToken, plainTokens, plainLists, simpleToken, simple, shortIn, shortOf, short, few, Compiled, compiled, refused, compile}
+use Rattle.compiling.specs.Compile.{plainToken, plainTokens, plainBranches, simpleToken, simple, shortIn, shortOf, short, few, Compiled, compiled, refused, compile}
 
 -- a test that fails exactly in the case P
 abbrev Fails : Bool → Type 0 → Type 0
@@ -54,10 +54,10 @@ unfolding plainTokens Some
 plain-fails nothing = never (λ h. h)
 plain-fails (t then ts) = both-fail (plainToken t) (plainTokens ts) (plain-token-fails t) (plain-fails ts)
 
-lists-fail : (ls : Lists) → Fails (plainLists ls) (SomeIn (λ t. TooFar t ⊎ TooRich t) ls)
-unfolding plainLists SomeIn
+lists-fail : (ls : Lists) → Fails (plainBranches ls) (SomeIn (λ t. TooFar t ⊎ TooRich t) ls)
+unfolding plainBranches SomeIn
 lists-fail neither = never (λ h. h)
-lists-fail (ts or ls) = both-fail (plainTokens ts) (plainLists ls) (plain-fails ts) (lists-fail ls)
+lists-fail (ts or ls) = both-fail (plainTokens ts) (plainBranches ls) (plain-fails ts) (lists-fail ls)
 
 simple-token-fails : (t : Token) → Fails (simpleToken t) (TooFar t ⊎ InBranch t)
 unfolding simpleToken TooFar InBranch

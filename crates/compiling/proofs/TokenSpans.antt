@@ -10,7 +10,7 @@ use lib.Dec.{ltb}
 use lib.ListN.{length}
 use borrow.Author.Tests.{ltb-false}
 use Rattle.meaning.specs.Tokens.{left, right, all, Token, Tokens, Lists, Byte, NotByte, MaskedByte, NotMaskedByte, Jump, Alternatives, nothing, _then_, neither, _or_, Agrees, One, Within, Matches, Spans, MatchesOne}
-use Rattle.meaning.proofs.ValueLaws.{any-spelled}
+use Rattle.meaning.proofs.ValueLaws.{any-spelled, bytes-left, bytes-right}
 use Rattle.meaning.specs.Values.{Bytes, SpelledOne, Spelled, SpelledFirst, SpelledMore}
 use Rattle.meaning.specs.Programs.{Test, byte, mask, negatedMask, pass, Prog, one, end, SpanOf, Span, SpanIn}
 use Rattle.compiling.specs.Compiling.{itemOf, added, branchesFor, add, forwardProgram}
@@ -35,17 +35,6 @@ unfoldable mutual
   pub BoundedIn : Lists → Type 0
   BoundedIn neither = Unit {0}
   BoundedIn (ts or ls) = Bounded ts × BoundedIn ls
-
--- parts of bytes are bytes
-pub bytes-left : (a b : List ℕ) → Bytes (a ++ b) → Bytes a
-unfolding Bytes
-bytes-left [] b h = tt
-bytes-left (x ∷ a) b h = (h .0, bytes-left a b (h .1))
-
-pub bytes-right : (a b : List ℕ) → Bytes (a ++ b) → Bytes b
-unfolding Bytes
-bytes-right [] b h = h
-bytes-right (x ∷ a) b h = bytes-right a b (h .1)
 
 the-byte : (b : ℕ) → Bytes (b ∷ []) → b < 256
 unfolding Bytes

@@ -25,9 +25,9 @@ unfoldable pub plainTokens : Tokens → Bool
 plainTokens nothing = true
 plainTokens (t then ts) = plainToken t && plainTokens ts
 
-unfoldable pub plainLists : Lists → Bool
-plainLists neither = true
-plainLists (ts or ls) = plainTokens ts && plainLists ls
+unfoldable pub plainBranches : Lists → Bool
+plainBranches neither = true
+plainBranches (ts or ls) = plainTokens ts && plainBranches ls
 
 -- a token that may stand in the outer list
 unfoldable pub simpleToken : Token → Bool
@@ -37,7 +37,7 @@ simpleToken (MaskedByte v m) = true
 simpleToken (NotMaskedByte v m) = true
 simpleToken (Jump from none) = false
 simpleToken (Jump from (some to)) = leb to jumpLimit
-simpleToken (Alternatives ls) = plainLists ls
+simpleToken (Alternatives ls) = plainBranches ls
 
 unfoldable pub simple : Tokens → Bool
 simple nothing = true

@@ -5,11 +5,10 @@ use Prim.Native.Nat.{ℕ}
 use lib.Dec.{eqb}
 use lib.ListN.{length}
 use Rattle.base.specs.Refusals.{numberOf}
-use Rattle.meaning.specs.Tokens.{Tokens}
 use Rattle.reading.specs.Lists.{Outcome, accepted, rejected, reading}
 use Rattle.compiling.specs.Compile.{Compiled, compiled, refused, compile}
 use Rattle.checkdoors.specs.Doors as doors
-use Rattle.printing.specs.Text.{ascii}
+use Rattle.base.specs.Text.{ascii}
 
 pub data Sample : Type 0 where
   -- the text is refused, with the number and at the place

@@ -1,6 +1,6 @@
 -- The token at a place: alternatives, or one of one entry. Assumes nothing.
 use mathlib.Core.Path.{_≡_, refl, sym, ap, ap₂, _∙_, subst}
-use mathlib.Core.Bool.{Bool, true, false, cond, not, _||_}
+use mathlib.Core.Bool.{Bool, true, false, cond, not, _||_, or-false}
 use mathlib.Core.List.{List, [], _∷_, _++_, append-assoc}
 use Prim.Native.Nat.{ℕ, zero, suc, _+_, _-_, _*_, _/_, _%_, _≤_, _<_}
 use native.Mathlib.Omega.{arith}
@@ -9,6 +9,7 @@ use lib.ListN.{length, getD, take, drop, set, length-append, length-drop, take-a
 use lib.Seq.{length-take-le, take-at, drop-at, drop-drop}
 use borrow.Author.Tests.{eq-eqb, ne-eqb}
 use borrow.Rule.Slice.PartMut.{putMid}
+use Rattle.base.proofs.LentLaws.{lent-rest}
 use Rattle.meaning.specs.Programs.{Item, Prog, Branches, one, jump, range, alt, end, _▹_, _⧺_}
 use Rattle.meaning.specs.Words.{fieldSize, word}
 use Rattle.compiling.specs.ProgramWords.{opening, wordsFor, wordsOf, wordsIn}
@@ -21,7 +22,7 @@ use Rattle.emit.specs.Items.{entryItem, pieceOf, growing, lastOf, putCou
 use Rattle.emit.specs.Lists.{listProgram, branchesAt, Listed, altAt, tokenAt, entryAt, itemCount, itemLast, itemOut, sizeAt, Stands}
 use Rattle.emit.proofs.PutLaws.{Puts}
 use Rattle.emit.proofs.HoldLaws.{Holds, Single, entry-single, put-holds, add-appends, words-snoc, last-snoc}
-use Rattle.emit.proofs.LentLaws.{lent-rest, lent-marked}
+use Rattle.emit.proofs.LentLaws.{lent-marked}
 use Rattle.emit.proofs.BranchLaws.{Headed, headed, list-few}
 
 -- branches have no more words than their lists have entries
@@ -124,14 +125,10 @@ module _ (out : List ℕ) (n : ℕ) (last : Last) (long : Bool) where
   unfolding itemCount itemLast itemOut shortOf
   step-single i j piece count next now e s f (x, y, z) = rw e (go j s (rw f at x) (rw f at y) (rw f at z))
     where
-      or-none : (t : Bool) → t ≡ (t || false)
-      or-none true = refl
-      or-none false = refl
-
       go : (j : Item) → Single j → count ≡ putCount n last (pieceOf j) → next ≡ putLast last (pieceOf j) → now ≡ putOut out n last (pieceOf j) → (count ≡ itemCount n last j) × (next ≡ itemLast last j) × (long ≡ (long || not (shortOf j))) × (now ≡ itemOut out n last j)
-      go (one t) u a b c = (a, b, or-none long, c)
-      go (jump m) u a b c = (a, b, or-none long, c)
-      go (range p q) u a b c = (a, b, or-none long, c)
+      go (one t) u a b c = (a, b, sym (or-false long), c)
+      go (jump m) u a b c = (a, b, sym (or-false long), c)
+      go (range p q) u a b c = (a, b, sym (or-false long), c)
       go (alt bs) u a b c = absurd u
 
 pub entry-at-single : (ws : List ℕ) (at : ℕ) → Single (entryAt ws at)

@@ -1,6 +1,6 @@
 -- Lists behind their marks, one list more. Assumes nothing.
 use mathlib.Core.Path.{_≡_, refl, sym, ap, ap₂, _∙_, subst}
-use mathlib.Core.Bool.{Bool, true, false, not, _&&_, _||_}
+use mathlib.Core.Bool.{Bool, true, false, not, _&&_, _||_, or-false}
 use mathlib.Core.Option.{none, some}
 use mathlib.Core.List.{List, [], _∷_, _++_, append-nil, append-assoc}
 use Prim.Native.Nat.{ℕ, zero, suc, _+_, _-_, _*_, _/_, _≤_, _<_}
@@ -16,7 +16,7 @@ use Rattle.meaning.specs.Words.{word}
 use Rattle.meaning.proofs.SoundLaws.{and-left, and-right, false-true}
 use Rattle.compiling.specs.ProgramWords.{wordsFor, wordsOf, wordsIn, nodes}
 use Rattle.compiling.specs.Compiling.{branchLimit}
-use Rattle.compiling.specs.Compile.{plainToken, plainTokens, plainLists, shortIn}
+use Rattle.compiling.specs.Compile.{plainToken, plainTokens, plainBranches, shortIn}
 use Rattle.compiling.proofs.CountLaws.{add-nodes}
 use Rattle.emit.specs.Lists.{addedTo, listItem, listProgram, branchesAt, Listed}
 use Rattle.emit.proofs.HoldLaws.{Single}
@@ -78,13 +78,13 @@ front-rest ts ls h =
     ∙ drop-at (e ++ entries ts) (listEntries ls) (4 + 4 * tokenCount ts) (length-append e (entries ts) ∙ (omega (arith, plain-entries ts h)))
 
 pub headed : (k : ℕ) (ws : List ℕ) (x : ℕ) → x ≤ length ws → Listed (suc k) (drop x ws) → Headed k ws x
-unfolding plainLists listCount
+unfolding plainBranches listCount
 headed k ws x l h = go (h .lists) (h .entered) (h .plainly) (h .many)
   where
-    go : (ls : Lists) → drop x ws ≡ listEntries ls → plainLists ls ≡ true → listCount ls ≡ suc k → Headed k ws x
+    go : (ls : Lists) → drop x ws ≡ listEntries ls → plainBranches ls ≡ true → listCount ls ≡ suc k → Headed k ws x
     go neither e p m = absurd (omega arith)
     go (ts or ls) e p m =
-        let q : plainTokens ts ≡ true = and-left (plainTokens ts) (plainLists ls) p in
+        let q : plainTokens ts ≡ true = and-left (plainTokens ts) (plainBranches ls) p in
         let c : getD ws (x + 1) 0 ≡ tokenCount ts = sym (getD-drop x ws 1 0) ∙ ap (λ (l : List ℕ). getD l 1 0) e ∙ front-count ts ls in
         let n : length ws - x ≡ 4 + 4 * tokenCount ts + length (listEntries ls) = sym (length-drop x ws) ∙ ap length e ∙ front-long ts ls q in
         let d : drop (x + 4 + 4 * getD ws (x + 1) 0) ws ≡ listEntries ls =
@@ -92,7 +92,7 @@ headed k ws x l h = go (h .lists) (h .entered) (h .plainly) (h .many)
         ∙ sym (drop-drop (4 + 4 * tokenCount ts) x ws) ∙ ap (drop (4 + 4 * tokenCount ts)) e ∙ front-rest ts ls q in
         record {
           fits = omega arith;
-          after = record { lists = ls; entered = d; plainly = and-right (plainTokens ts) (plainLists ls) p; many = omega arith };
+          after = record { lists = ls; entered = d; plainly = and-right (plainTokens ts) (plainBranches ls) p; many = omega arith };
         }
 
 -- l lists are done: what stands in the buffer, and what is left
@@ -118,11 +118,7 @@ unfolding branchesAt wordsIn shortIn
 left-end b lists ws o out x n l long g h =
     let z : lists - l ≡ 0 = omega arith in
     let w : h .done ≡ wordsIn (branchesAt b lists ws) = sym (append-nil (h .done)) ∙ (rw z at (h .words)) in
-    (sym (h .size) ∙ ap length w, or-none long ∙ (rw z at (h .longs)), h .front ∙ ap (λ (d : List ℕ). d ++ drop n o) w)
-  where
-    or-none : (t : Bool) → t ≡ (t || false)
-    or-none true = refl
-    or-none false = refl
+    (sym (h .size) ∙ ap length w, sym (or-false long) ∙ (rw z at (h .longs)), h .front ∙ ap (λ (d : List ℕ). d ++ drop n o) w)
 
 -- one list more: its entries are lent to be written behind its mark
 module _ (b : Bool) (lists : ℕ) (ws o out : List ℕ) (x n l : ℕ) (long : Bool) (h : Left b lists ws o out x n l long) (lt : l < lists) where

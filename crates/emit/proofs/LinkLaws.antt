@@ -14,10 +14,11 @@ use Rattle.meaning.specs.Tokens.{Mask, left, right, all, Token, Tokens, Lists, 
 use Rattle.meaning.specs.Values.{SpelledOne, Spelled, SpelledMore}
 use Rattle.meaning.specs.Entries.{maskNumber, entriesIn, tokenCount, listCount, entriesOf, entries, listEntries}
 use Rattle.meaning.specs.Programs.{byte, mask, negatedMask, Item, one, alt, end, or as branch}
+use Rattle.meaning.proofs.TokenLaws.{fours-in}
 use Rattle.meaning.proofs.SoundLaws.{and-left, and-right, false-true}
 use Rattle.compiling.specs.ProgramWords.{nodes}
 use Rattle.compiling.specs.Compiling.{jumpLimit, itemOf, added, branchesFor, backwards}
-use Rattle.compiling.specs.Compile.{plainToken, plainTokens, plainLists, simpleToken}
+use Rattle.compiling.specs.Compile.{plainToken, plainTokens, plainBranches, simpleToken}
 use Rattle.meaning.proofs.ValueLaws.{any-spelled}
 use Rattle.compiling.proofs.CountLaws.{backwards-long-of, backwards-long}
 use Rattle.emit.specs.Items.{maskItem, notMaskItem, jumpItem, entryItem, placeOf}
@@ -156,44 +157,16 @@ front-part : (ts : Tokens) (ls : Lists) → plainTokens ts ≡ true → take (4 
 unfolding listEntries
 front-part ts ls p = take-at (entries ts) (listEntries ls) (4 * tokenCount ts) (plain-entries ts p)
 
-pub branches-for : (b : Bool) (ls : Lists) → SpelledMore ls → plainLists ls ≡ true → branchesAt b (listCount ls) (listEntries ls) ≡ branchesFor (directedIn b ls)
-unfolding branchesAt listCount Spelled plainLists branchesFor backwards listEntries tokenCount
+pub branches-for : (b : Bool) (ls : Lists) → SpelledMore ls → plainBranches ls ≡ true → branchesAt b (listCount ls) (listEntries ls) ≡ branchesFor (directedIn b ls)
+unfolding branchesAt listCount Spelled plainBranches branchesFor backwards listEntries tokenCount
 branches-for true neither h p = refl
 branches-for false neither h p = refl
 branches-for true (ts or ls) h p =
-    let q = and-left (plainTokens ts) (plainLists ls) p in
-    ap₂ branch (ap (listProgram true) (front-part ts ls q) ∙ list-program true ts (h .0) q) (ap (branchesAt true (listCount ls)) (front-rest ts ls q) ∙ branches-for true ls (h .1) (and-right (plainTokens ts) (plainLists ls) p))
+    let q = and-left (plainTokens ts) (plainBranches ls) p in
+    ap₂ branch (ap (listProgram true) (front-part ts ls q) ∙ list-program true ts (h .0) q) (ap (branchesAt true (listCount ls)) (front-rest ts ls q) ∙ branches-for true ls (h .1) (and-right (plainTokens ts) (plainBranches ls) p))
 branches-for false (ts or ls) h p =
-    let q = and-left (plainTokens ts) (plainLists ls) p in
-    ap₂ branch (ap (listProgram false) (front-part ts ls q) ∙ list-program false ts (h .0) q) (ap (branchesAt false (listCount ls)) (front-rest ts ls q) ∙ branches-for false ls (h .1) (and-right (plainTokens ts) (plainLists ls) p))
-
--- entries are four words each
-Fours : ℕ → Type 0
-Fours n = (q : ℕ) × (n ≡ 4 * q)
-
-mutual
-  unfolding entries Fours
-
-  fours-of : (t : Token) → Fours (length (entriesOf t))
-  fours-of (Byte v) = (1, refl)
-  fours-of (NotByte v) = (1, refl)
-  fours-of (MaskedByte v m) = (1, refl)
-  fours-of (NotMaskedByte v m) = (1, refl)
-  fours-of (Jump from none) = (1, refl)
-  fours-of (Jump from (some to)) = (1, refl)
-  fours-of (Alternatives ls) = let q = fours-in ls in (1 + q .0, omega (arith, q .1))
-
-  fours : (ts : Tokens) → Fours (length (entries ts))
-  fours nothing = (0, refl)
-  fours (t then ts) = let p = fours-of t in let q = fours ts in (p .0 + q .0, omega (arith, p .1, q .1, length-append (entriesOf t) (entries ts)))
-
-  fours-in : (ls : Lists) → Fours (length (listEntries ls))
-  fours-in neither = (0, refl)
-  fours-in (ts or ls) = let p = fours ts in let q = fours-in ls in (1 + p .0 + q .0, omega (arith, p .1, q .1, length-append (entries ts) (listEntries ls)))
-
-four-in : (ls : Lists) → 4 * entriesIn (listEntries ls) ≡ length (listEntries ls)
-unfolding Fours
-four-in ls = let q = fours-in ls in omega (arith, q .1)
+    let q = and-left (plainTokens ts) (plainBranches ls) p in
+    ap₂ branch (ap (listProgram false) (front-part ts ls q) ∙ list-program false ts (h .0) q) (ap (branchesAt false (listCount ls)) (front-rest ts ls q) ∙ branches-for false ls (h .1) (and-right (plainTokens ts) (plainBranches ls) p))
 
 -- alternatives at a place
 module _ (ws : List ℕ) (at : ℕ) (ls : Lists) (r : List ℕ) (e : drop at ws ≡ entriesOf (Alternatives ls) ++ r) where
@@ -204,14 +177,14 @@ module _ (ws : List ℕ) (at : ℕ) (ls : Lists) (r : List ℕ) (e : drop at ws 
   pub alt-inside : take (4 * getD ws (at + 2) 0) (drop (at + 4) ws) ≡ listEntries ls
   unfolding entriesOf
   alt-inside =
-      ap₂ take (ap (λ (n : ℕ). 4 * n) (alt-fields .2) ∙ four-in ls) (sym (drop-drop 4 at ws) ∙ ap (drop 4) e)
+      ap₂ take (ap (λ (n : ℕ). 4 * n) (alt-fields .2) ∙ fours-in ls) (sym (drop-drop 4 at ws) ∙ ap (drop 4) e)
       ∙ take-at (listEntries ls) r (length (listEntries ls)) refl
 
-  alt-branches : (b : Bool) → SpelledMore ls → plainLists ls ≡ true → altAt b ws at ≡ branchesFor (directedIn b ls)
+  alt-branches : (b : Bool) → SpelledMore ls → plainBranches ls ≡ true → altAt b ws at ≡ branchesFor (directedIn b ls)
   unfolding altAt
   alt-branches b s p = ap₂ (branchesAt b) (alt-fields .1) alt-inside ∙ branches-for b ls s p
 
-  alt-token : (b : Bool) → SpelledMore ls → plainLists ls ≡ true → tokenAt b ws at ≡ itemOf (directedOf b (Alternatives ls))
+  alt-token : (b : Bool) → SpelledMore ls → plainBranches ls ≡ true → tokenAt b ws at ≡ itemOf (directedOf b (Alternatives ls))
   unfolding tokenAt itemOf backwards
   alt-token b s p = rw (alt-fields .0) (ap alt (alt-branches b s p) ∙ of b)
     where
@@ -221,9 +194,9 @@ module _ (ws : List ℕ) (at : ℕ) (ls : Lists) (r : List ℕ) (e : drop at ws 
 
   alt-size : sizeAt ws at ≡ length (entriesOf (Alternatives ls))
   unfolding entriesOf
-  alt-size = size-five ws at (alt-fields .0) ∙ (omega (arith, alt-fields .2, four-in ls))
+  alt-size = size-five ws at (alt-fields .0) ∙ (omega (arith, alt-fields .2, fours-in ls))
 
-  alt-stands : plainLists ls ≡ true → Stands ws at
+  alt-stands : plainBranches ls ≡ true → Stands ws at
   unfolding entriesOf
   alt-stands p = record {
     fits = omega (arith, alt-size, length-drop at ws, ap length e, length-append (listEntries ls) r);

@@ -1,6 +1,6 @@
 -- The outer list's program, one token more. Assumes nothing.
 use mathlib.Core.Path.{_≡_, refl, sym, ap, _∙_, subst}
-use mathlib.Core.Bool.{Bool, true, false, not, _&&_, _||_}
+use mathlib.Core.Bool.{Bool, true, false, not, _&&_, _||_, and-true, and-assoc}
 use mathlib.Core.List.{List}
 use Prim.Native.Nat.{ℕ, _+_, _*_, _≤_, _<_}
 use native.Mathlib.Omega.{arith}
@@ -18,10 +18,6 @@ use Rattle.emit.specs.Lists.{addedTo, itemCount, itemLast, itemOut, toke
 use Rattle.emit.proofs.HoldLaws.{Holds, nothing-held}
 use Rattle.emit.proofs.AltLaws.{Steps, item-holds, size-least}
 use Rattle.emit.proofs.LinkLaws.{token-room}
-
-and-true : (t : Bool) → (t && true) ≡ t
-and-true true = refl
-and-true false = refl
 
 pair-short : (i j : Item) → short (pairBy (jumpOf i) (jumpOf j) i j) ≡ (shortOf i && shortOf j)
 unfolding pairBy jumpOf short shortOf
@@ -42,11 +38,7 @@ short-add : (p : Prog) (j : Item) → short (add p j) ≡ (short p && shortOf j)
 unfolding add short
 short-add end j = and-true (shortOf j)
 short-add (i ▹ end) j = pair-short i j ∙ ap (λ (t : Bool). t && shortOf j) (sym (and-true (shortOf i)))
-short-add (i ▹ (k ▹ p)) j = ap (λ (t : Bool). shortOf i && t) (short-add (k ▹ p) j) ∙ regroup (shortOf i) (short (k ▹ p)) (shortOf j)
-  where
-    regroup : (a b c : Bool) → (a && (b && c)) ≡ ((a && b) && c)
-    regroup true b c = refl
-    regroup false b c = refl
+short-add (i ▹ (k ▹ p)) j = ap (λ (t : Bool). shortOf i && t) (short-add (k ▹ p) j) ∙ sym (and-assoc (shortOf i) (short (k ▹ p)) (shortOf j))
 
 -- k tokens are done
 pub record Done (b : Bool) (ws st o out : List ℕ) (n : ℕ) (last : Last) (long : Bool) (k : ℕ) : Type 0 where

@@ -11,7 +11,7 @@ use Rattle.meaning.specs.Entries.{listCount, entriesOf, entries, listEntries}
 use Rattle.meaning.specs.Programs.{Item, Prog, Branches, one, jump, range, alt, end, stop, or}
 use Rattle.compiling.specs.ProgramWords.{wordsFor}
 use Rattle.compiling.specs.Compiling.{add}
-use Rattle.compiling.specs.Compile.{plainLists, simple}
+use Rattle.compiling.specs.Compile.{plainBranches, simple}
 use Rattle.emit.specs.declared.Last.{Last}
 use Rattle.emit.specs.declared.Last.the-variants.{Fixed}
 use Rattle.emit.specs.Items.{entryItem, pieceOf, placeOf, putCount, putLast, putOut}
@@ -41,7 +41,7 @@ branchesAt b (suc n) ws = or (listProgram b (take (4 * getD ws 1 0) (drop 4 ws))
 pub record Listed (n : ℕ) (ws : List ℕ) : Type 0 where
   pub lists : Lists
   pub entered : ws ≡ listEntries lists
-  pub plainly : plainLists lists ≡ true
+  pub plainly : plainBranches lists ≡ true
   pub many : listCount lists ≡ n
 
 -- the branches of the alternatives at a place, and the item of the token there

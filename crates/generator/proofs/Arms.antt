@@ -1,13 +1,13 @@
 -- What a caller knows in each arm of a match on the answer. Assumes nothing.
 use mathlib.Core.Path.{_≡_, refl, sym, ap, _∙_}
 use mathlib.Core.Bool.{Bool, true, false, cond}
-use mathlib.Core.List.{List}
+use mathlib.Core.List.{List, map, flatten}
 use Prim.Native.Nat.{ℕ}
 use native.Mathlib.Omega.{arith}
 use lib.ListN.{length}
 use Rattle.generator.specs.declared.Wrote.{Wrote}
 use Rattle.generator.specs.declared.Wrote.the-variants.{All, NoRoom}
-use Rattle.generator.specs.Output.{joined, lengthsOf, over, fits, answered, bytesLeft, lengthsLeft, Generated}
+use Rattle.generator.specs.Output.{over, fits, answered, bytesLeft, lengthsLeft, Generated}
 
 apart : (n : ℕ) → All n ≡ NoRoom → ⊥
 apart n h = let z : _≡_ {A = ℕ} 0 1 = cc in omega arith
@@ -16,8 +16,8 @@ apart n h = let z : _≡_ {A = ℕ} 0 1 = cc in omega arith
 pub record AllWritten (ls : List (List ℕ)) (n : ℕ) (bytes lengths bytes-after lengths-after : List ℕ) : Type 0 where
   pub fitting : fits ls bytes lengths ≡ true
   pub number : n ≡ length ls
-  pub bytes-are : bytes-after ≡ over (joined ls) bytes
-  pub lengths-are : lengths-after ≡ over (lengthsOf ls) lengths
+  pub bytes-are : bytes-after ≡ over (flatten ls) bytes
+  pub lengths-are : lengths-after ≡ over (map length ls) lengths
 
 -- they do not fit, and nothing was written
 pub record NoneWritten (ls : List (List ℕ)) (bytes lengths bytes-after lengths-after : List ℕ) : Type 0 where
@@ -30,13 +30,13 @@ module _ (ls : List (List ℕ)) (r : Wrote) (bytes lengths b l : List ℕ) (g : 
   unfolding answered
   answer-when t e = g .answer-is ∙ ap (λ (x : Bool). cond x (All (length ls)) NoRoom) e
 
-  bytes-when : (t : Bool) → fits ls bytes lengths ≡ t → b ≡ cond t (over (joined ls) bytes) bytes
+  bytes-when : (t : Bool) → fits ls bytes lengths ≡ t → b ≡ cond t (over (flatten ls) bytes) bytes
   unfolding bytesLeft
-  bytes-when t e = g .bytes-are ∙ ap (λ (x : Bool). cond x (over (joined ls) bytes) bytes) e
+  bytes-when t e = g .bytes-are ∙ ap (λ (x : Bool). cond x (over (flatten ls) bytes) bytes) e
 
-  lengths-when : (t : Bool) → fits ls bytes lengths ≡ t → l ≡ cond t (over (lengthsOf ls) lengths) lengths
+  lengths-when : (t : Bool) → fits ls bytes lengths ≡ t → l ≡ cond t (over (map length ls) lengths) lengths
   unfolding lengthsLeft
-  lengths-when t e = g .lengths-are ∙ ap (λ (x : Bool). cond x (over (lengthsOf ls) lengths) lengths) e
+  lengths-when t e = g .lengths-are ∙ ap (λ (x : Bool). cond x (over (map length ls) lengths) lengths) e
 
   pub wrote-all : (n : ℕ) → r ≡ All n → AllWritten ls n bytes lengths b l
   wrote-all n h = go (fits ls bytes lengths) refl

@@ -1,12 +1,13 @@
 // Translated from boreal's boreal/src/matcher/literals.rs (MIT OR Apache-2.0), commit 7010b5e967; see NOTICE.
 // The generator of literals: all of them, in order, into lent buffers.
 ghost use mathlib.Core.Path.{_≡_};
+ghost use mathlib.Core.List.{map, flatten};
 ghost use Prim.Native.Nat.{_≤_, _<_};
 ghost use lib.ListN.{length};
 ghost use Rattle.picking.specs.Literals.{literals};
 ghost use Rattle.picking.specs.Numbers.{count, literalAt};
 ghost use Rattle.spelling.specs.Words.{tokensIn};
-ghost use Rattle.generator.specs.Output.{joined, lengthsOf, over, Generated};
+ghost use Rattle.generator.specs.Output.{over, Generated};
 
 // How many literals were written; or one of the buffers is too small, and nothing was.
 pub enum Wrote {
@@ -26,7 +27,7 @@ fn length_at(ws: &[u32], k: usize) -> usize
 // The bytes of all n literals. Known before the first is written, for a refusal leaves the buffers as they were.
 fn total_of(ws: &[u32], n: usize) -> usize
     requires { ⌜ (length (now ws) ≤ 4096) × (n ≡ count (tokensIn (now ws))) × (n ≤ 256) ⌝ }
-    ensures { λ r. ⌜ r ≡ length (joined (literals (tokensIn (now (ws .entry))))) ⌝ }
+    ensures { λ r. ⌜ r ≡ length (flatten (literals (tokensIn (now (ws .entry))))) ⌝ }
 {
     let mut total = 0;
     let mut k = 0;
@@ -39,8 +40,8 @@ fn total_of(ws: &[u32], n: usize) -> usize
 
 // Writes all n literals, each into what the ones before it left of the buffer.
 fn write_each(ws: &[u32], n: usize, bytes: &mut [u8], lengths: &mut [u16])
-    requires { ⌜ (length (now ws) ≤ 4096) × (n ≡ count (tokensIn (now ws))) × (n ≤ 256) × (n ≤ length (now lengths)) × (length (joined (literals (tokensIn (now ws)))) ≤ length (now bytes)) ⌝ }
-    ensures { λ _. ⌜ (now (bytes .exit) ≡ over (joined (literals (tokensIn (now (ws .entry))))) (now (bytes .entry))) × (now (lengths .exit) ≡ over (lengthsOf (literals (tokensIn (now (ws .entry))))) (now (lengths .entry))) ⌝ }
+    requires { ⌜ (length (now ws) ≤ 4096) × (n ≡ count (tokensIn (now ws))) × (n ≤ 256) × (n ≤ length (now lengths)) × (length (flatten (literals (tokensIn (now ws)))) ≤ length (now bytes)) ⌝ }
+    ensures { λ _. ⌜ (now (bytes .exit) ≡ over (flatten (literals (tokensIn (now (ws .entry))))) (now (bytes .entry))) × (now (lengths .exit) ≡ over (map length (literals (tokensIn (now (ws .entry))))) (now (lengths .entry))) ⌝ }
 {
     let mut at = 0;
     let mut k = 0;

@@ -1,6 +1,6 @@
 -- Jumps at the bounds of a list: the reader's test and what the grammar says. Assumes nothing.
 use mathlib.Core.Path.{_≡_, refl}
-use mathlib.Core.Bool.{Bool, true, false, _&&_, _||_}
+use mathlib.Core.Bool.{Bool, true, false, _&&_, _||_, and-false}
 use Prim.Native.Nat.{suc}
 use native.Mathlib.Omega.{arith}
 use borrow.Author.Tests.{le-leb}
@@ -10,7 +10,6 @@ use Rattle.meaning.specs.Entries.{tokenCount}
 use Rattle.reading.specs.Lists.{isJump, begins, endsIn, ends, atBound}
 use Rattle.reading.proofs.PieceLaws.{never}
 use Rattle.grammar.proofs.Spelling.{NoJump, EndsWell, Bounded}
-use Rattle.grammar.proofs.DigitLaws.{and-false}
 
 no-jump : (tok : Token) → isJump tok ≡ false → NoJump tok
 unfolding isJump NoJump

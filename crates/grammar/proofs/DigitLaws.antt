@@ -1,6 +1,6 @@
 -- Digits and numbers: the tests of the reader and what the grammar says. Assumes nothing.
 use mathlib.Core.Path.{_≡_, refl, ap, _∙_}
-use mathlib.Core.Bool.{Bool, true, false, cond, _&&_}
+use mathlib.Core.Bool.{Bool, true, false, cond, and-false}
 use mathlib.Core.Option.{none, some}
 use mathlib.Core.List.{List, [], _∷_, _++_}
 use Prim.Native.Nat.{ℕ, suc, _+_, _-_, _*_, _^_, _<_, _≤_}
@@ -20,10 +20,6 @@ in-within a b c h k = rw (le-leb a c h, le-leb c b k) refl
 pub below-within : (a b c : ℕ) → c < a → within a b c ≡ false
 unfolding within
 below-within a b c h = rw (lt-leb a c h) refl
-
-pub and-false : (x : Bool) → x && false ≡ false
-and-false true = refl
-and-false false = refl
 
 pub above-within : (a b c : ℕ) → b < c → within a b c ≡ false
 unfolding within

@@ -10,7 +10,7 @@ use lib.ListN.{length}
 use Rattle.base.specs.declared.Refusal.{Refusal}
 use Rattle.base.specs.declared.Refusal.the-variants.{Unexpected, JumpAtBound, TooManyTokens}
 use Rattle.meaning.specs.Entries.{tokenCount}
-use Rattle.meaning.specs.Tokens.{Token, Tokens, Byte, nothing, _then_}
+use Rattle.meaning.specs.Tokens.{Token, Tokens, Byte, nothing, _then_, totalIn}
 use Rattle.reading.specs.Blanks.{here, skip}
 use Rattle.reading.specs.Given as given
 use Rattle.reading.specs.Given.{Given}
@@ -20,7 +20,7 @@ use Rattle.reading.proofs.PieceLaws.{never}
 use Rattle.reading.proofs.GivenLaws.{given-exactly, given-one}
 use Rattle.reading.proofs.ListSteps.{token-gone, list-gone, more-read, more-none}
 use Rattle.grammar.specs.Grammar as rule
-use Rattle.grammar.specs.Grammar.{Gap, totalIn}
+use Rattle.grammar.specs.Grammar.{Gap}
 use Rattle.grammar.specs.Faults as fault
 use Rattle.grammar.specs.Faults.{Stands, Spells, Missing, Fault}
 use Rattle.grammar.proofs.Spelling.{NoJump, EndsWell, Bounded}

@@ -9,11 +9,11 @@ use borrow.Author.Tests.{ltb-true, ltb-false}
 use lib.Dec.{ltb}
 use lib.ListN.{length, drop}
 use Rattle.base.specs.declared.Refusal.the-variants.{JumpAtBound, HexStringTooDeep}
-use Rattle.meaning.specs.Tokens.{Token, Tokens, nothing, _then_}
+use Rattle.meaning.specs.Tokens.{Token, Tokens, nothing, _then_, total}
 use Rattle.reading.specs.Lists.{Parsed, read, missing, stopped, before, atBound, listOf, token, more, list, enough}
 use Rattle.reading.proofs.PieceLaws.{never}
 use Rattle.reading.proofs.ListSteps.{token-gone, more-read, more-none, more-stopped, list-deep, list-of}
-use Rattle.grammar.specs.Grammar.{TokenList, total}
+use Rattle.grammar.specs.Grammar.{TokenList}
 use Rattle.grammar.specs.Faults as fault
 use Rattle.grammar.specs.Faults.{Missing, Listed}
 use Rattle.grammar.proofs.Spelling.{NoBlank, SpellsList, depth}

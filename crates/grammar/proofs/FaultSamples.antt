@@ -5,20 +5,21 @@ use mathlib.Core.Logic.{inl}
 use mathlib.Core.List.{[], _∷_}
 use Prim.Native.Nat.{ℕ, _+_, _≤_, _<_}
 use native.Mathlib.Omega.{arith}
+use Rattle.base.specs.Text.{ascii}
 use Rattle.base.specs.declared.Refusal.the-variants.{Unexpected, JumpAtBound}
-use Rattle.meaning.specs.Tokens.{Jump}
+use Rattle.meaning.specs.Tokens.{Jump, total, totalIn, totals}
 use Rattle.reading.specs.Blanks.{blank, blanks, skip}
 use Rattle.reading.specs.Pieces.{within, digit, twoDigits, byteAt, oneDigit, maskedAt, hexAt, plainly, negated, notAt, decimals, numeral, numberAt, dashAt, lowerAt, rangeAt, jumped, plainAt, _else_}
 use Rattle.reading.specs.Lists.{tokenOr, bracketed, tokenF}
 use Rattle.grammar.specs.Grammar as rule
-use Rattle.grammar.specs.Grammar.{Text, Clear, Gap, total, totalIn, totals}
+use Rattle.grammar.specs.Grammar.{Text, Clear, Gap}
 use Rattle.grammar.specs.Faults as fault
 use Rattle.grammar.specs.Faults.{Missing, Fault}
 use Rattle.grammar.proofs.Fronts.{past-blanks}
 use Rattle.grammar.proofs.RulesSpell.{blank-spells}
 use Rattle.grammar.proofs.FaultPieces.{mark-here}
 use Rattle.grammar.proofs.FaultTokens.{missing-there}
-use Rattle.grammar.proofs.Samples.{ascii, none, one, ab, cd}
+use Rattle.grammar.proofs.Samples.{none, one, ab, cd}
 
 clear : (c : ℕ) {s : Text} → 33 ≤ c → Clear (c ∷ s)
 clear c h = rule.other (λ b. past-blanks c h (blank-spells b))

@@ -11,7 +11,7 @@ use lib.Dec.{eqb, ltb}
 use lib.ListN.{length, drop}
 use Rattle.base.specs.declared.Refusal.{Refusal}
 use Rattle.base.specs.declared.Refusal.the-variants.{Unexpected, NumberTooBig, CannotNegateMaskAll, TooManyTokens}
-use Rattle.meaning.specs.Tokens.{left, right, all, Token, Lists, Byte, NotByte, MaskedByte, NotMaskedByte, Jump, Alternatives}
+use Rattle.meaning.specs.Tokens.{left, right, all, Token, Lists, Byte, NotByte, MaskedByte, NotMaskedByte, Jump, Alternatives, totalIn}
 use Rattle.reading.specs.Blanks.{here, skip}
 use Rattle.reading.specs.Given as given
 use Rattle.reading.specs.Pieces.{Seen, found, absent, refused, _else_, Hex, whole, masked, hexAt, negated, plainAt}
@@ -20,7 +20,7 @@ use Rattle.reading.proofs.PieceLaws.{never}
 use Rattle.reading.proofs.PieceSteps.{not-hex, plain-not}
 use Rattle.reading.proofs.InToken.{opens, in-token-refuses, refused-in-token}
 use Rattle.reading.proofs.ListSteps.{token-step}
-use Rattle.grammar.specs.Grammar.{Gap, totalIn}
+use Rattle.grammar.specs.Grammar.{Gap}
 use Rattle.grammar.specs.Faults as fault
 use Rattle.grammar.specs.Faults.{Stands, Spells, Missing}
 use Rattle.grammar.proofs.Spelling.{_⨾_, NoBlank, SpellsToken, NoJump, depthIn}

@@ -9,12 +9,11 @@ use native.Mathlib.Omega.{arith}
 use borrow.Author.Tests.{lt-ltb}
 use lib.Dec.{ltb}
 use lib.ListN.{length, drop}
-use Rattle.meaning.specs.Tokens.{Token, Tokens, Lists, Byte, NotByte, MaskedByte, NotMaskedByte, Jump, Alternatives, nothing, _then_, neither, _or_}
+use Rattle.meaning.specs.Tokens.{Token, Tokens, Lists, Byte, NotByte, MaskedByte, NotMaskedByte, Jump, Alternatives, nothing, _then_, neither, _or_, totalIn, total, totals}
 use Rattle.reading.specs.Blanks.{here, skip}
 use Rattle.reading.specs.Pieces.{found, absent, within, digit, plainAt}
 use Rattle.reading.specs.Lists.{Parsed, read, missing, tokenOr, asToken, bracketed, before, listOf, beside, token, more, list, lists}
 use Rattle.reading.proofs.ListSteps.{token-step, more-read, more-none, list-of, lists-closed, lists-barred}
-use Rattle.grammar.specs.Grammar.{totalIn, total, totals}
 use Rattle.grammar.proofs.Spelling.{_⨾_, NoBlank, Bounded, SpellsToken, SpellsTokens, SpellsLists, SpellsRest, SpellsList, Marked, depthIn, depth, depths}
 use Rattle.grammar.proofs.Standing.{after, cut, here-is}
 use Rattle.grammar.proofs.Fronts.{Opens, opens-clear, opens-seq, cons-clear, mark-opens, token-opens, tokens-clear, marked-form, mark-seen}

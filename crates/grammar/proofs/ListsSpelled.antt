@@ -7,11 +7,10 @@ use native.Mathlib.Omega.{arith}
 use borrow.Author.Tests.{ltb-true, ltb-false, eqb-true, lt-ltb}
 use lib.Dec.{eqb, ltb}
 use Rattle.base.specs.declared.Refusal.the-variants.{TooManyTokens, Unexpected, JumpAtBound, HexStringTooDeep}
-use Rattle.meaning.specs.Tokens.{Token, Tokens, Lists, Byte, NotByte, MaskedByte, NotMaskedByte, Jump, Alternatives, nothing, _then_, neither, _or_}
+use Rattle.meaning.specs.Tokens.{Token, Tokens, Lists, Byte, NotByte, MaskedByte, NotMaskedByte, Jump, Alternatives, nothing, _then_, neither, _or_, totalIn, total, totals}
 use Rattle.reading.specs.Blanks.{here, skip}
 use Rattle.reading.specs.Pieces.{Seen, found, absent, refused, plainAt}
 use Rattle.reading.specs.Lists.{Parsed, read, missing, stopped, tokenOr, asToken, bracketed, before, thenMore, atBound, listOf, beside, thenLists, tokenF, moreF, listF, listsF}
-use Rattle.grammar.specs.Grammar.{totalIn, total, totals}
 use Rattle.grammar.proofs.Spelling.{Language, _⨾_, Marked, SpellsToken, SpellsTokens, SpellsLists, SpellsRest, SpellsList, depthIn, depth, depths}
 use Rattle.grammar.proofs.Standing.{Stands, seq, change, mark-stands}
 use Rattle.grammar.proofs.PiecesSpelled.{Sound, Plain, SpellsPlain, plain-sound, nothing-stands}

@@ -1,6 +1,6 @@
 -- What the grammar spells the small readers find. Assumes nothing.
 use mathlib.Core.Path.{_≡_, refl, sym, ap, ap₂, _∙_, subst}
-use mathlib.Core.Bool.{Bool, true, false, cond, _&&_}
+use mathlib.Core.Bool.{Bool, true, false, cond, _&&_, and-false}
 use mathlib.Core.Logic.{_⊎_, inl, inr}
 use mathlib.Core.Option.{Option, none, some}
 use mathlib.Core.List.{List, [], _∷_, _++_}
@@ -15,7 +15,7 @@ use Rattle.reading.specs.Pieces.{found, absent, _else_, within, digit, Hex, who
 use Rattle.reading.proofs.PieceSteps.{byte-none, byte-half, byte-both, masked-all, masked-left, masked-right, masked-no-right, hex-byte, hex-masked, not-else, not-hex, number-absent, number-found, checked-open, checked-both, closed-at, dash-at, range-else, range-at, lower-closed, lower-dash, jumped-open, jumped-found}
 use Rattle.grammar.proofs.Spelling.{_⨾_, Blank, Blanks, NoBlank, Spaced, Sign, Marked, HexDigit, Whole, Masked, Decimals, value, Numeral, Number, From, To, Single, Dashed, Bracketed, Ordered, Bounds, Allowed, NotOne, AsJump, Negatable, SpellsToken}
 use Rattle.grammar.proofs.Standing.{after, cut, here-is, skips}
-use Rattle.grammar.proofs.DigitLaws.{digit-complete, digits-count, digits-value, in-within, below-within, and-false}
+use Rattle.grammar.proofs.DigitLaws.{digit-complete, digits-count, digits-value, in-within, below-within}
 use Rattle.grammar.proofs.Fronts.{digit-range, two-form, two-seen, mark-seen, marked-form, number-opens, mark-opens, opens-clear, opens-seq, cons-clear, from-clear, to-clear, OpensLow, whole-low, masked-low}
 use Rattle.grammar.proofs.PiecesSpelled.{Plain, SpellsHex}
 

@@ -1,28 +1,22 @@
--- 01's P samples that are read or refused, from the grammar, as one claim over the list, and two more of 01's rules: no blank inside a byte, no `|`
--- last. What is read is derived by the rules. Assumes nothing.
-use mathlib.Core.Path.{_≡_, refl}
+-- 01's P samples that are read or refused, from the grammar, as one claim over the list, and three more of 01's rules: no blank inside a byte, no `|`
+-- last, no number above 4,294,967,295. What is read is derived by the rules. Assumes nothing.
+use mathlib.Core.Path.{refl}
 use mathlib.Core.Option.{some}
 use mathlib.Core.List.{List, [], _∷_}
-use Prim.Native.Char.{code}
 use Prim.Native.Nat.{ℕ}
-use Prim.Native.String.{String, [] as empty, _∷_ as _and_}
 use native.Mathlib.Omega.{arith}
-use Rattle.base.specs.declared.Refusal.the-variants.{Unexpected, JumpEmpty, JumpAtBound, JumpTooBigInAlternation, CannotNegateMaskAll}
+use Rattle.base.specs.Text.{ascii}
+use Rattle.base.specs.declared.Refusal.the-variants.{Unexpected, NumberTooBig, JumpEmpty, JumpAtBound, JumpTooBigInAlternation, CannotNegateMaskAll}
 use Rattle.meaning.specs.Entries.{tokenCount}
-use Rattle.meaning.specs.Tokens.{Tokens, Byte, Jump, Alternatives, nothing, _then_, neither, _or_}
+use Rattle.meaning.specs.Tokens.{Tokens, Byte, Jump, Alternatives, nothing, _then_, neither, _or_, total, totalIn, totals}
 use Rattle.reading.specs.Blanks.{blank, blanks, skip}
 use Rattle.reading.specs.Pieces.{within, digit, twoDigits, byteAt, oneDigit, maskedAt, hexAt, plainly, negated, notAt, decimals, numeral, numberAt, checked, closedAt, upperAt, dashAt, lowerAt, rangeAt, jumpToken, jumped, plainAt, _else_}
 use Rattle.reading.specs.Lists.{tokenOr, asToken, bracketed, before, thenMore, isJump, begins, endsIn, ends, atBound, listOf, beside, thenLists, tokenF, moreF, listF, listsF, closing, reading}
 use Rattle.grammar.specs.Grammar as rule
-use Rattle.grammar.specs.Grammar.{Text, Derives, total, totalIn, totals}
+use Rattle.grammar.specs.Grammar.{Text, Derives}
 use Rattle.grammar.proofs.Fronts.{past-blanks}
 use Rattle.grammar.proofs.RulesSpell.{blank-spells}
 use Rattle.grammar.proofs.Derivable.{rejected-underivable}
-
--- the bytes of a quoted text of ASCII characters
-abbrev pub ascii : String → Text
-ascii empty = []
-ascii (c and s) = code c ∷ ascii s
 
 -- a text is derivable with these tokens, up to this offset; or it is not derivable
 pub data Sample : Type 0 where
@@ -50,6 +44,7 @@ samples =
     ∷ reads (ascii "{ AB } zz") 7 (Byte 0xAB then nothing)
     ∷ refused (ascii "{ A B }")
     ∷ refused (ascii "{ (AB|) }")
+    ∷ refused (ascii "{ AB [4294967296] CD }")
     ∷ []
 
 pub none : rule.Blanks []
@@ -105,4 +100,5 @@ samples-hold =
     also with-rest
     also rejected-underivable (ascii "{ A B }") Unexpected 2 refl
     also rejected-underivable (ascii "{ (AB|) }") Unexpected 5 refl
+    also rejected-underivable (ascii "{ AB [4294967296] CD }") NumberTooBig 6 refl
     also no-more

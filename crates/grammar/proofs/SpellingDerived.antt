@@ -5,7 +5,7 @@ use mathlib.Core.Logic.{_⊎_, inl, inr}
 use mathlib.Core.Option.{Option, none, some}
 use mathlib.Core.List.{List, [], _∷_, _++_, append-assoc, append-nil}
 use Prim.Native.Char.{Char, code}
-use Prim.Native.Nat.{ℕ, suc, _+_, _-_, _*_, _^_, _≤_, _<_, max}
+use Prim.Native.Nat.{ℕ, suc, _+_, _-_, _*_, _^_, _≤_, _<_}
 use native.Mathlib.Nat.{pow-suc}
 use native.Mathlib.Omega.{arith}
 use borrow.Author.Tests.{ltb-false, lt-ltb, le-ltb}
@@ -16,6 +16,7 @@ use Rattle.grammar.specs.Grammar as rule
 use Rattle.grammar.proofs.Spelling.{_⨾_, Blank, Blanks, NoBlank, Spaced, Sign, Marked, Digit, decimal, upper, lower, HexDigit, Whole, Masked, Decimals, value, Numeral, Number, From, To, Single, Dashed, Ordered, Bracketed, Bounds, Allowed, NotOne, AsJump, Negatable, NoJump, EndsWell, Bounded, SpellsToken, SpellsTokens, SpellsLists, SpellsRest, SpellsList, depthIn, depth, depths}
 use Rattle.grammar.proofs.Fronts.{marked-form}
 use Rattle.grammar.proofs.RulesSpell.{blank-spells}
+use Rattle.grammar.proofs.ListsRead.{depth-some}
 
 pub blank-derived : (c : ℕ) → Blank c → rule.Blank c
 unfolding Blank
@@ -212,11 +213,6 @@ module _ (level : ℕ) where
       go (inr j) =
           let d = jump-derived level (j .0) (j .1) a l (subst (λ (x : Token). SpellsToken (ltb 1 level) x a) (j .2) r) in
           rule.jump e (subst (λ (x : Token). rule.Gap level x a) (sym (j .2)) d) (k (after ts (λ n. subst NoJump (j .2) n) w))
-
-depth-some : (ts : Tokens) → 1 ≤ depth ts
-unfolding depth
-depth-some nothing = omega arith
-depth-some (tok then ts) = omega arith
 
 outer : (level : ℕ) (ts : Tokens) (s : List ℕ) → 1 < level → SpellsTokens true ts s → SpellsTokens (ltb 1 level) ts s
 outer level ts s h = subst (λ (b : Bool). SpellsTokens b ts s) (sym (lt-ltb 1 level h))

@@ -6,12 +6,11 @@ use Prim.Native.Nat.{ℕ, _+_, _≤_}
 use native.Mathlib.Omega.{arith}
 use borrow.Author.Tests.{le-leb}
 use lib.ListN.{length, drop}
-use Rattle.meaning.specs.Tokens.{Tokens}
+use Rattle.meaning.specs.Tokens.{Tokens, total}
 use Rattle.reading.specs.Blanks.{here, skip}
 use Rattle.reading.specs.Lists.{read, list, accepted, rejected, closing, reading}
 use Rattle.base.specs.declared.Refusal.{Refusal}
 use Rattle.reading.proofs.PieceLaws.{never}
-use Rattle.grammar.specs.Grammar.{total}
 use Rattle.grammar.proofs.Spelling.{_⨾_, NoBlank, SpellsString, SpellsText, Spelled, depth}
 use Rattle.grammar.proofs.Standing.{cut}
 use Rattle.grammar.proofs.Fronts.{marked-form, mark-seen}

@@ -8,10 +8,9 @@ use borrow.Author.Tests.{leb-true, eqb-true}
 use lib.Dec.{eqb, leb}
 use lib.ListN.{length, drop}
 use Rattle.base.specs.declared.Refusal.the-variants.{Unexpected, TextTooLong}
-use Rattle.meaning.specs.Tokens.{Tokens}
+use Rattle.meaning.specs.Tokens.{Tokens, total}
 use Rattle.reading.specs.Blanks.{here, skip}
 use Rattle.reading.specs.Lists.{Parsed, read, missing, stopped, list, enough, Outcome, accepted, rejected, closing, reading}
-use Rattle.grammar.specs.Grammar.{total}
 use Rattle.grammar.proofs.Spelling.{Marked, SpellsString, SpellsText, Spelled}
 use Rattle.grammar.proofs.Standing.{Stands, seq, skip-clear, mark-stands}
 use Rattle.grammar.proofs.ListsSpelled.{Right, ListRight, list-right-all}

@@ -8,8 +8,8 @@ use Prim.Native.Nat.{ℕ, suc, _+_, _≤_, _<_}
 use lib.ListN.{length, drop}
 use Rattle.base.specs.declared.Refusal.{Refusal}
 use Rattle.base.specs.declared.Refusal.the-variants.{TextTooLong, Unexpected, NumberTooBig, JumpEmpty, JumpRangeInvalid, JumpAtBound, JumpUnboundedInAlternation, JumpTooBigInAlternation, CannotNegateMaskAll, HexStringTooDeep, TooManyTokens}
-use Rattle.meaning.specs.Tokens.{Token, Tokens}
-use Rattle.grammar.specs.Grammar.{Text, Clear, Mark, Numeral, Number, Gap, Solid, TokenList, totalIn, total}
+use Rattle.meaning.specs.Tokens.{Token, Tokens, totalIn, total}
+use Rattle.grammar.specs.Grammar.{Text, Clear, Mark, Numeral, Number, Gap, Solid, TokenList}
 
 -- from `at` up to e stands a string of this kind, and no blank follows it
 pub data Stands (t : Text) (Kind : Text → Type 0) (at : ℕ) : ℕ → Type 0 where

@@ -6,7 +6,7 @@ use mathlib.Core.List.{List, [], _∷_, _++_}
 use Prim.Native.Char.{Char, code}
 use Prim.Native.Nat.{ℕ, suc, _+_, _*_, _≤_, _<_}
 use lib.ListN.{length}
-use Rattle.meaning.specs.Tokens.{Mask, left, right, all, Token, Tokens, Lists, Byte, NotByte, MaskedByte, NotMaskedByte, Jump, Alternatives, nothing, _then_, neither, _or_}
+use Rattle.meaning.specs.Tokens.{Mask, left, right, all, Token, Tokens, Lists, Byte, NotByte, MaskedByte, NotMaskedByte, Jump, Alternatives, nothing, _then_, neither, _or_, total}
 
 -- a text is its bytes
 abbrev pub Text : Type 0
@@ -95,24 +95,6 @@ mutual
   pub data Rest : ℕ → Lists → Text → Type 0 where
     close : {level : ℕ} {s : Text} → Mark ")" s → Rest level neither s
     bar : {level : ℕ} {ts : Tokens} {ls : Lists} {s a b c : Text} → s ≡ a ++ (b ++ c) → Mark "|" a → TokenList level ts b → Rest level ls c → Rest level (ts or ls) s
-
--- the count of tokens: alternatives are one, and what is inside counts too
-unfoldable mutual
-  pub totalIn : Token → ℕ
-  totalIn (Byte v) = 1
-  totalIn (NotByte v) = 1
-  totalIn (MaskedByte v m) = 1
-  totalIn (NotMaskedByte v m) = 1
-  totalIn (Jump from to) = 1
-  totalIn (Alternatives ls) = suc (totals ls)
-
-  pub total : Tokens → ℕ
-  total nothing = 0
-  total (tok then ts) = totalIn tok + total ts
-
-  pub totals : Lists → ℕ
-  totals neither = 0
-  totals (ts or ls) = total ts + totals ls
 
 -- `{`, a list, `}`
 pub data Pattern : Tokens → Text → Type 0 where

@@ -1,7 +1,7 @@
 -- What the doors' answers mean for the listing. Assumes nothing.
 use mathlib.Core.Path.{_≡_, refl, sym, ap, ap₂, _∙_}
 use mathlib.Core.Bool.{Bool, true, false, _&&_}
-use mathlib.Core.List.{List, [], _∷_, _++_, map}
+use mathlib.Core.List.{List, [], _++_, map, flatten}
 use Prim.Native.Nat.{ℕ, _+_, _-_, _≤_}
 use native.Mathlib.Omega.{arith}
 use lib.Dec.{leb}
@@ -14,8 +14,8 @@ use Rattle.compiling.specs.Compile.{Compiled, compiled as programs, refused as 
 use Rattle.picking.specs.Choice.{Picked as Choice, picked as chosen, unpicked as unchosen, pick}
 use Rattle.meaning.proofs.SoundLaws.{and-left}
 use Rattle.printing.specs.Laid.{Put}
-use Rattle.printing.specs.Lines.{literalsLines, joined, cut, refusedLine, literalsRefusedLine, picked, unpicked, pickedLines, compiled, refused, programsLines, listing}
-use Rattle.printing.proofs.ListingLaws.{cut-joined, programs-fit}
+use Rattle.printing.specs.Lines.{literalsLines, cut, refusedLine, literalsRefusedLine, picked, unpicked, pickedLines, compiled, refused, programsLines, listing}
+use Rattle.printing.proofs.ListingLaws.{cut-flatten, programs-fit}
 use Rattle.base.specs.declared.Refusal.{Refusal}
 use Rattle.base.specs.Refusals.{numberOf}
 use Rattle.compiledoor.specs.declared.CompileAnswer.{CompileAnswer}
@@ -78,34 +78,20 @@ pub record Taken (o : Read) (n rank : ℕ) (b l : List ℕ) : Type 0 where
   pub few : n ≤ 256
   pub lists : pickedOf o ≡ picked rank (cut (take n l) b)
 
--- the two crates join the literals' bytes alike, and have the same lengths
-same-joined : (ls : List (List ℕ)) → output.joined ls ≡ joined ls
-unfolding output.joined joined
-same-joined [] = refl
-same-joined (l ∷ ls) = ap (λ (x : List ℕ). l ++ x) (same-joined ls)
-
-same-lengths : (ls : List (List ℕ)) → output.lengthsOf ls ≡ map length ls
-unfolding output.lengthsOf
-same-lengths [] = refl
-same-lengths (l ∷ ls) = ap (λ (x : List ℕ). length l ∷ x) (same-lengths ls)
-
 -- of buffers of the lent sizes
 module _ (b l : List ℕ) (lb : length b ≡ 32768) (ll : length l ≡ 256) where
   -- room there is room here
-  same-room : (ls : List (List ℕ)) → output.fits ls b l ≡ (leb (length ls) 256 && leb (length (joined ls)) 32768)
+  same-room : (ls : List (List ℕ)) → output.fits ls b l ≡ (leb (length ls) 256 && leb (length (flatten ls)) 32768)
   unfolding output.fits
   same-room ls =
-      ap₂ (λ (x y : ℕ). leb (length ls) x && leb (length (output.joined ls)) y) ll lb
-      ∙ ap (λ (x : List ℕ). leb (length ls) 256 && leb (length x) 32768) (same-joined ls)
+      ap₂ (λ (x y : ℕ). leb (length ls) x && leb (length (flatten ls)) y) ll lb
 
   -- all literals are cut out of what was written
-  cut-written : (ls : List (List ℕ)) (b' l' : List ℕ) (n : ℕ) → n ≡ length ls → b' ≡ output.over (output.joined ls) b → l' ≡ output.over (output.lengthsOf ls) l → cut (take n l') b' ≡ ls
+  cut-written : (ls : List (List ℕ)) (b' l' : List ℕ) (n : ℕ) → n ≡ length ls → b' ≡ output.over (flatten ls) b → l' ≡ output.over (map length ls) l → cut (take n l') b' ≡ ls
   cut-written ls b' l' n hn eb el =
-      let e = same-lengths ls in
-      let ml : length (output.lengthsOf ls) ≡ n = ap length e ∙ length-map ls length ∙ sym hn in
-      let tl : take n l' ≡ map length ls = ap (take n) el ∙ take-at (output.lengthsOf ls) (drop (length (output.lengthsOf ls)) l) n ml ∙ e in
-      let bl : b' ≡ joined ls ++ drop (length (output.joined ls)) b = eb ∙ ap (λ (x : List ℕ). x ++ drop (length (output.joined ls)) b) (same-joined ls) in
-      ap₂ (λ (x y : List ℕ). cut x y) tl bl ∙ cut-joined ls (drop (length (output.joined ls)) b)
+      let ml : length (map length ls) ≡ n = length-map ls length ∙ sym hn in
+      let tl : take n l' ≡ map length ls = ap (take n) el ∙ take-at (map length ls) (drop (length (map length ls)) l) n ml in
+      ap₂ (λ (x y : List ℕ). cut x y) tl eb ∙ cut-flatten ls (drop (length (flatten ls)) b)
 
   pub says-taken : (o : Read) (b' l' : List ℕ) (n rank : ℕ) → taken.gives n rank ≡ taken.outcomeSays o b l → b' ≡ taken.outcomeBytes o b l → l' ≡ taken.outcomeLengths o b l → Taken o n rank b' l'
   unfolding taken.outcomeSays taken.outcomeBytes taken.outcomeLengths taken.pickedSays taken.pickedBytes taken.pickedLengths output.bytesLeft output.lengthsLeft pickedOf withRoom
@@ -118,10 +104,10 @@ module _ (b l : List ℕ) (lb : length b ≡ 32768) (ll : length l ≡ 256) wher
           let e' : taken.gives n rank ≡ taken.gives (length ls) r = rw (h, f) at e in
           let hn : n ≡ length ls = cc in
           let hr : rank ≡ r = cc in
-          let eb' : b' ≡ output.over (output.joined ls) b = rw (h, f) at eb in
-          let el' : l' ≡ output.over (output.lengthsOf ls) l = rw (h, f) at el in
-          let g : (leb (length ls) 256 && leb (length (joined ls)) 32768) ≡ true = sym (same-room ls) ∙ f in record {
-            few = let k : length ls ≤ 256 = leb-true (length ls) 256 (and-left (leb (length ls) 256) (leb (length (joined ls)) 32768) g) in omega arith;
+          let eb' : b' ≡ output.over (flatten ls) b = rw (h, f) at eb in
+          let el' : l' ≡ output.over (map length ls) l = rw (h, f) at el in
+          let g : (leb (length ls) 256 && leb (length (flatten ls)) 32768) ≡ true = sym (same-room ls) ∙ f in record {
+            few = let k : length ls ≤ 256 = leb-true (length ls) 256 (and-left (leb (length ls) 256) (leb (length (flatten ls)) 32768) g) in omega arith;
             lists = rw (h, g) (ap₂ picked (sym hr) (sym (cut-written ls b' l' n hn eb' el')));
           }
 
@@ -139,7 +125,7 @@ module _ (b l : List ℕ) (lb : length b ≡ 32768) (ll : length l ≡ 256) wher
       fit r ls false f h =
           let e' : taken.refuses k place ≡ taken.refuses 18 0 = rw (h, f) at e in
           let hk : k ≡ 18 = cc in
-          let g : (leb (length ls) 256 && leb (length (joined ls)) 32768) ≡ false = sym (same-room ls) ∙ f in
+          let g : (leb (length ls) 256 && leb (length (flatten ls)) 32768) ≡ false = sym (same-room ls) ∙ f in
           rw (h, g) (ap unpicked (sym hk))
 
       go : (c : Choice) → pick ts ≡ c → withRoom (pick ts) ≡ unpicked k

@@ -1,7 +1,7 @@
 -- What listing promises: a single outcome, and that 81,920 bytes have room for the listing of every text. Assumes nothing.
 use mathlib.Core.Path.{_≡_, refl, sym, ap, _∙_}
 use mathlib.Core.Bool.{Bool, true, false, cond, _&&_}
-use mathlib.Core.List.{List, _++_}
+use mathlib.Core.List.{List, _++_, flatten}
 use Prim.Native.Nat.{ℕ, _+_, _^_, _≤_, _<_}
 use native.Mathlib.Omega.{arith}
 use lib.Dec.{leb}
@@ -23,7 +23,7 @@ use Rattle.printing.specs.declared.Listed.{Listed}
 use Rattle.printing.specs.declared.Listed.the-variants.{Wrote, NoRoom as Short}
 use Rattle.printing.specs.Laid.{laid}
 use Rattle.printing.specs.Listed.{listedOf}
-use Rattle.printing.specs.Lines.{joined, Picked, picked, unpicked, compiled, listing}
+use Rattle.printing.specs.Lines.{Picked, picked, unpicked, compiled, listing}
 use Rattle.printing.proofs.LaidLaws.{laid-fits}
 use Rattle.printing.proofs.ListingLaws.{Small, listing-fits, refused-fits}
 use Rattle.lister.specs.Listings.{withRoom, withPrograms, outcome, listingOf}
@@ -65,16 +65,16 @@ picked-small : (ts : Tokens) → Small (withRoom (pick ts))
 unfolding withRoom
 picked-small ts = go (pick ts) refl
   where
-    fit : (n : ℕ) (ls : List (List ℕ)) (b : Bool) → n ≤ 80 → (leb (length ls) 256 && leb (length (joined ls)) 32768) ≡ b → Small (cond b (picked n ls) (unpicked (numberOf NoRoom)))
+    fit : (n : ℕ) (ls : List (List ℕ)) (b : Bool) → n ≤ 80 → (leb (length ls) 256 && leb (length (flatten ls)) 32768) ≡ b → Small (cond b (picked n ls) (unpicked (numberOf NoRoom)))
     fit n ls true h e = (
       omega arith,
-      leb-true (length ls) 256 (and-left (leb (length ls) 256) (leb (length (joined ls)) 32768) e),
-      leb-true (length (joined ls)) 32768 (and-right (leb (length ls) 256) (leb (length (joined ls)) 32768) e),
+      leb-true (length ls) 256 (and-left (leb (length ls) 256) (leb (length (flatten ls)) 32768) e),
+      leb-true (length (flatten ls)) 32768 (and-right (leb (length ls) 256) (leb (length (flatten ls)) 32768) e),
     )
     fit n ls false h e = number-small NoRoom
 
     go : (c : Choice) → pick ts ≡ c → Small (withRoom c)
-    go (chosen n ls) e = fit n ls (leb (length ls) 256 && leb (length (joined ls)) 32768) (picked-low ts n ls e) refl
+    go (chosen n ls) e = fit n ls (leb (length ls) 256 && leb (length (flatten ls)) 32768) (picked-low ts n ls e) refl
     go (unchosen r) e = number-small r
 
 programs-small : (ts : Tokens) (f r : List ℕ) → compile ts ≡ programs f r → (length f ≤ 512) × (length r ≤ 512)

@@ -14,7 +14,7 @@ use Rattle.atoms.specs.Score.{literalScore}
 use Rattle.atoms.proofs.Laws.{score-le}
 use Rattle.picking.specs.Literals.{literals, combinations}
 use Rattle.picking.specs.Runs.{runs, parts, Slice, slice, slices}
-use Rattle.picking.specs.Choice.{lowest, least, Ranked, ranked, skipped, excessive, score, counted, combined, rank, Choice, unranked, chosen, tooMany, widened, against, rankOf, best, bytesOf, strong, aloneOr, inRun, beats, between, among, choice, picked, pick}
+use Rattle.picking.specs.Choice.{lowest, least, Ranked, ranked, skipped, excessive, rankValue, counted, combined, rank, Choice, unranked, chosen, tooMany, widened, against, rankOf, best, bytesOf, strong, aloneOr, inRun, beats, between, among, choice, picked, pick}
 use Rattle.picking.proofs.PickedLaws.{Source, picked-from}
 
 lowest-le : (ls : List (List ℕ)) (n : ℕ) → n ≤ 80 → lowest literalScore ls n ≤ 80
@@ -39,7 +39,7 @@ Low (chosen n ts) = n ≤ 80
 Low tooMany = Unit {0}
 
 rank-low : (ts : Tokens) → LowRank (rank ts)
-unfolding rank combined counted score
+unfolding rank combined counted rankValue
 rank-low ts = by-combinations (ltb 256 (combinations ts))
   where
     by-count : (b : Bool) → LowRank (counted b ts)

@@ -1,6 +1,6 @@
 -- The listing of a text. Assumes nothing: these are definitions.
 use mathlib.Core.Bool.{cond, _&&_}
-use mathlib.Core.List.{List}
+use mathlib.Core.List.{List, flatten}
 use Prim.Native.Nat.{ℕ}
 use lib.Dec.{leb}
 use lib.ListN.{length}
@@ -9,7 +9,7 @@ use Rattle.base.specs.Refusals.{numberOf}
 use Rattle.reading.specs.Lists.{Outcome as Read, accepted, rejected, reading}
 use Rattle.compiling.specs.Compile.{Compiled, compiled as programs, refused as uncompiled, compile}
 use Rattle.picking.specs.Choice.{Picked as Choice, picked as chosen, unpicked as unchosen, pick}
-use Rattle.printing.specs.Lines.{joined, Picked, picked, unpicked, Outcome, compiled, refused, listing}
+use Rattle.printing.specs.Lines.{Picked, picked, unpicked, Outcome, compiled, refused, listing}
 
 -- how many bytes and how many lengths the listing program lends for literals
 abbrev pub lentBytes : ℕ
@@ -20,7 +20,7 @@ lentLengths = 256
 
 -- the literals, if there is room for them
 unfoldable pub withRoom : Choice → Picked
-withRoom (chosen rank ls) = cond (leb (length ls) lentLengths && leb (length (joined ls)) lentBytes) (picked rank ls) (unpicked (numberOf NoRoom))
+withRoom (chosen rank ls) = cond (leb (length ls) lentLengths && leb (length (flatten ls)) lentBytes) (picked rank ls) (unpicked (numberOf NoRoom))
 withRoom (unchosen r) = unpicked (numberOf r)
 
 -- both programs with what was picked, or why there are none: the place of such a refusal is 0

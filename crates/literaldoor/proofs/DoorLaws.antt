@@ -1,7 +1,7 @@
 -- From what was read and chosen to what the door says. Assumes nothing.
-use mathlib.Core.Path.{_≡_, refl, sym, ap, ap₂, _∙_, subst}
-use mathlib.Core.Bool.{Bool, true, false, cond, not, _&&_}
-use mathlib.Core.List.{List, [], _∷_, _++_}
+use mathlib.Core.Path.{_≡_, refl, sym, ap, _∙_, subst}
+use mathlib.Core.Bool.{Bool, true, false, cond, _&&_}
+use mathlib.Core.List.{List, [], flatten}
 use Prim.Native.Nat.{ℕ, _-_, _≤_}
 use native.Mathlib.Omega.{arith}
 use lib.Dec.{leb}
@@ -11,10 +11,12 @@ use Rattle.base.specs.declared.Refusal.{Refusal}
 use Rattle.base.specs.Refusals.{numberOf}
 use Rattle.meaning.specs.Tokens.{Tokens}
 use Rattle.meaning.specs.Entries.{entries}
-use Rattle.reading.specs.Lists.{Outcome, accepted, rejected, reading}
+use Rattle.meaning.specs.Values.{Spelled}
+use Rattle.reading.proofs.SpelledValues.{accepted-spelled}
+use Rattle.reading.specs.Lists.{accepted, rejected, reading}
 use Rattle.picking.specs.Literals.{literals}
-use Rattle.picking.specs.Runs.{plain, segments, firstLast, filledOnes, runs}
-use Rattle.picking.specs.Choice.{Choice, unranked, chosen, tooMany, among, choice, Picked, picked, unpicked, taking, pick}
+use Rattle.picking.specs.Runs.{plain, firstLast, filledOnes, runs}
+use Rattle.picking.specs.Choice.{Choice, unranked, among, choice, Picked, picked, taking, pick}
 use Rattle.spelling.specs.Words.{tokensIn}
 use Rattle.generator.specs.declared.Wrote.{Wrote}
 use Rattle.generator.specs.declared.Wrote.the-variants.{All, NoRoom}
@@ -24,8 +26,7 @@ use Rattle.literals.specs.declared.Pick.{Pick}
 use Rattle.literals.specs.declared.Pick.the-variants.{Nothing, Taken, TooMany}
 use Rattle.literals.specs.Ranks.{choiceSays}
 use Rattle.literals.specs.Whole.{Whole}
-use Rattle.literals.proofs.EntryLaws.{whole-entries, plain-entries, ranged, segments-entries}
-use Rattle.literals.proofs.ReadLaws.{accepted-ranged}
+use Rattle.literals.proofs.EntryLaws.{whole-entries, plain-entries, segments-entries}
 use Rattle.literaldoor.specs.Door.{Said, gives, refuses, pickedSays, pickedBytes, pickedLengths, outcomeSays, outcomeBytes, outcomeLengths, literalsSays, bytesLeft, lengthsLeft, Picks}
 
 -- ---- what was written
@@ -47,7 +48,7 @@ module _ (ls : List (List ℕ)) (rank : ℕ) (w : Wrote) (b l b′ l′ : List �
 
 module _ (ws : List ℕ) (p : Pick) (b l : List ℕ) where
   pub nothing-chosen : p ≡ Nothing → Picks (taking (choiceSays ws p)) (gives 0 0) b l b l
-  unfolding taking pickedSays pickedBytes pickedLengths output.fits output.joined output.lengthsOf output.bytesLeft output.lengthsLeft
+  unfolding taking pickedSays pickedBytes pickedLengths flatten output.fits output.bytesLeft output.lengthsLeft
   nothing-chosen e = subst (λ (x : Pick). Picks (taking (choiceSays ws x)) (gives 0 0) b l b l) (sym e) none-needed
     where
       room : (leb 0 (length l) && leb 0 (length b)) ≡ true
@@ -76,7 +77,7 @@ plain-chosen ts c s b l b′ l′ e f h = rw e (subst (λ (x : Choice). Picks (t
 
 -- ---- the entries of a text are taken for its tokens
 
-pub pick-entries : (ts : Tokens) → ranged ts → pick (tokensIn (entries ts)) ≡ pick ts
+pub pick-entries : (ts : Tokens) → Spelled ts → pick (tokensIn (entries ts)) ≡ pick ts
 unfolding pick choice runs
 pick-entries ts h = go (plain ts) refl
   where
@@ -96,7 +97,7 @@ text-refused t c y b l g = rw g (refl, refl, refl)
 pub text-picked : (t : List ℕ) (e : ℕ) (ts : Tokens) (ws : List ℕ) (s : Said) (b l b′ l′ : List ℕ) → reading t ≡ accepted e ts → ws ≡ entries ts → Picks (pick (tokensIn ws)) s b l b′ l′ → Door t s b l b′ l′
 unfolding outcomeSays outcomeBytes outcomeLengths
 text-picked t e ts ws s b l b′ l′ g w h =
-    rw g (subst (λ (x : Picked). Picks x s b l b′ l′) (ap (λ (x : List ℕ). pick (tokensIn x)) w ∙ pick-entries ts (accepted-ranged t e ts g)) h)
+    rw g (subst (λ (x : Picked). Picks x s b l b′ l′) (ap (λ (x : List ℕ). pick (tokensIn x)) w ∙ pick-entries ts (accepted-spelled t e ts g)) h)
 
 pub entries-whole : (ts : Tokens) (ws : List ℕ) → ws ≡ entries ts → length (entries ts) ≤ 4092 → (length ws ≤ 4096) × Whole ws
 entries-whole ts ws w h = (let l = ap length w in omega arith, subst Whole (sym w) (whole-entries ts))

@@ -2,7 +2,7 @@
 use mathlib.Core.Path.{_≡_, refl, sym, ap, ap₂, _∙_}
 use mathlib.Core.Bool.{Bool, true, false, cond}
 use mathlib.Core.Logic.{_↔_}
-use mathlib.Core.List.{List, List·Memᴰ}
+use mathlib.Core.List.{List, List·Memᴰ, map, flatten}
 use Prim.Native.Nat.{ℕ, _≤_}
 use native.Mathlib.Omega.{arith}
 use lib.ListN.{length}
@@ -86,8 +86,8 @@ pub record Handed (t : List ℕ) (ts : Tokens) (b l : List ℕ) (n rank : ℕ) :
   pub number : n ≡ length texts
   pub few : n ≤ 256
   pub sized : (s : List ℕ) → List·Memᴰ s texts → (1 ≤ length s) × (length s ≤ 512)
-  pub bytes-are : bytesLeft t b l ≡ output.over (output.joined texts) b
-  pub lengths-are : lengthsLeft t b l ≡ output.over (output.lengthsOf texts) l
+  pub bytes-are : bytesLeft t b l ≡ output.over (flatten texts) b
+  pub lengths-are : lengthsLeft t b l ≡ output.over (map length texts) l
 
 -- of a text that is read as the tokens ts, and any buffers
 module _ (t : List ℕ) (e : ℕ) (ts : Tokens) (read : reading t ≡ accepted e ts) (b l : List ℕ) where
@@ -132,8 +132,8 @@ module _ (t : List ℕ) (e : ℕ) (ts : Tokens) (read : reading t ≡ accepted e
             number = sym p;
             few = (let z = picked-few ts m ls g in omega arith);
             sized = λ s i. read-literal-bounds t e ts read m ls g s i;
-            bytes-are = ap (λ (x : Outcome). outcomeBytes x b l) read ∙ ap (λ (x : Picked). pickedBytes x b l) g ∙ ap (λ (x : Bool). cond x (output.over (output.joined ls) b) b) f;
-            lengths-are = ap (λ (x : Outcome). outcomeLengths x b l) read ∙ ap (λ (x : Picked). pickedLengths x b l) g ∙ ap (λ (x : Bool). cond x (output.over (output.lengthsOf ls) l) l) f;
+            bytes-are = ap (λ (x : Outcome). outcomeBytes x b l) read ∙ ap (λ (x : Picked). pickedBytes x b l) g ∙ ap (λ (x : Bool). cond x (output.over (flatten ls) b) b) f;
+            lengths-are = ap (λ (x : Outcome). outcomeLengths x b l) read ∙ ap (λ (x : Picked). pickedLengths x b l) g ∙ ap (λ (x : Bool). cond x (output.over (map length ls) l) l) f;
           }
       fitting m ls g false f =
           let k : refuses 18 0 ≡ gives n rank = sym (says-pick ∙ ap (λ (q : Picked). pickedSays q b l) g ∙ ap (λ (x : Bool). cond x (gives (length ls) m) (refuses 18 0)) f) ∙ h in

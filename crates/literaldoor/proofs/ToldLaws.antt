@@ -14,7 +14,6 @@ use Rattle.picking.proofs.ShortestLaws.{segments-told}
 use Rattle.spelling.specs.Words.{tokensIn}
 use Rattle.literals.specs.Whole.{Whole}
 use Rattle.literals.proofs.EntryLaws.{plain-entries, segments-entries}
-use Rattle.literals.proofs.ReadLaws.{accepted-ranged}
 use Rattle.chooser.specs.Kept.{Told, AllTold}
 use Rattle.literaldoor.proofs.DoorLaws.{entries-whole}
 
@@ -26,7 +25,7 @@ every-told (s ∷ ss) h = (h .0, every-told ss (h .1))
 module _ (t : List ℕ) (e : ℕ) (ts : Tokens) (r : reading t ≡ accepted e ts) (ws : List ℕ) (w : ws ≡ entries ts) where
   plain-told : plain ts ≡ true → AllTold (segments (tokensIn ws))
   plain-told p =
-      subst AllTold (sym (ap (λ (x : List ℕ). segments (tokensIn x)) w ∙ segments-entries ts p (accepted-ranged t e ts r)))
+      subst AllTold (sym (ap (λ (x : List ℕ). segments (tokensIn x)) w ∙ segments-entries ts p (accepted-spelled t e ts r)))
       (every-told (segments ts) (segments-told ts p (accepted-spelled t e ts r)))
 
   pub entries-asked : length (entries ts) ≤ 4092 → (length ws ≤ 4096) × Whole ws × (plain (tokensIn ws) ≡ true → AllTold (segments (tokensIn ws)))

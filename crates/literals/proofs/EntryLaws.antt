@@ -1,53 +1,31 @@
 -- The entries of tokens are whole, and are taken for those tokens as far as the choice asks: of a jump only that it closes a run.
 -- Assumes nothing.
 use mathlib.Core.Path.{_≡_, refl, sym, ap, ap₂, _∙_, subst}
-use mathlib.Core.Bool.{Bool, true, false, cond, _&&_}
+use mathlib.Core.Bool.{Bool, true, _&&_}
 use mathlib.Core.Option.{Option, none as nowhere, some}
 use mathlib.Core.List.{List, [], _∷_, _++_}
-use Prim.Native.Nat.{ℕ, zero, suc, _+_, _-_, _*_, _/_, _%_, _≤_, _<_, min}
+use Prim.Native.Nat.{ℕ, _+_, _-_, _*_, _/_, _<_}
 use native.Mathlib.Omega.{arith}
 use native.Mathlib.Nat.{mod-eq-of-lt}
-use lib.Dec.{eqb}
-use lib.ListN.{length, getD, take, drop, length-append}
+use lib.ListN.{length, take, drop, length-append}
 use lib.Seq.{take-at, drop-at, drop-drop}
 use borrow.Author.Tests.{ne-eqb}
 use Rattle.meaning.specs.Tokens.{Mask, left, right, all, Token, Tokens, Lists, Byte, NotByte, MaskedByte, NotMaskedByte, Jump, Alternatives, nothing, _then_, neither, _or_}
-use Rattle.meaning.specs.Entries.{entry, maskNumber, entriesIn, tokenCount, listCount, entriesOf, entries, listEntries}
+use Rattle.meaning.specs.Values.{Spelled, SpelledMore}
+use Rattle.meaning.specs.Entries.{entry, maskNumber, tokenCount, listCount, entries, listEntries}
+use Rattle.meaning.proofs.SoundLaws.{and-left, and-right}
+use Rattle.meaning.proofs.TokenLaws.{fours, fours-in}
+use Rattle.meaning.proofs.ValueLaws.{any-spelled}
 use Rattle.picking.specs.Literals.{isPlain, plainList, plainLists}
-use Rattle.picking.specs.Runs.{closes, isAlternatives, plainInside, plain, segmented, atFront, segments}
-use Rattle.spelling.specs.Words.{maskIn, entryToken, firstEntry, flatIn, ends, inside, listsIn, tokenIn, width, tokensIn}
+use Rattle.picking.specs.Runs.{closes, isAlternatives, plainInside, plain, segmented, segments}
+use Rattle.spelling.specs.Words.{maskIn, entryToken, flatIn, ends, inside, listsIn, width, tokensIn}
 use Rattle.spelling.proofs.StepLaws.{flat-end, flat-step, lists-end, lists-step, tokens-end, tokens-step, width-inside}
-use Rattle.spelling.proofs.PlainLaws.{token-alternatives, token-entry}
-use Rattle.literals.specs.Whole.{Entire, Whole, none, more}
-
--- ---- entries are fours of words
-
-mutual
-  unfolding entries
-
-  fours-of : (t : Token) → 4 * (length (entriesOf t) / 4) ≡ length (entriesOf t)
-  fours-of (Byte v) = refl
-  fours-of (NotByte v) = refl
-  fours-of (MaskedByte v m) = refl
-  fours-of (NotMaskedByte v m) = refl
-  fours-of (Jump from nowhere) = refl
-  fours-of (Jump from (some to)) = refl
-  fours-of (Alternatives ls) = let h = fours-in ls in omega arith
-
-  pub fours : (ts : Tokens) → 4 * (length (entries ts) / 4) ≡ length (entries ts)
-  fours nothing = refl
-  fours (t then ts) = let a = fours-of t in let b = fours ts in let c = length-append (entriesOf t) (entries ts) in omega arith
-
-  fours-in : (ls : Lists) → 4 * (length (listEntries ls) / 4) ≡ length (listEntries ls)
-  fours-in neither = refl
-  fours-in (ts or ls) = let a = fours ts in let b = fours-in ls in let c = length-append (entries ts) (listEntries ls) in omega arith
+use Rattle.spelling.proofs.PlainLaws.{token-alternatives, token-entry, entry-inside}
+use Rattle.literals.specs.Whole.{Whole, none, more}
 
 -- ---- words within an entry
 
 module _ (k n b : ℕ) (E L : List ℕ) (h : 4 * b ≡ length E) where
-  box : List ℕ
-  box = k ∷ n ∷ b ∷ 0 ∷ (E ++ L)
-
   box-ends : ends (k ∷ n ∷ b ∷ 0 ∷ (E ++ L)) ≡ 4 + length E
   unfolding ends
   box-ends = let e = length-append E L in omega arith
@@ -140,43 +118,22 @@ lists-plain neither = ap plainLists (lists-end [] (omega arith))
 lists-plain (ts or ls) =
     ap plainLists (lists-box 6 (tokenCount ts) (length (entries ts) / 4) (entries ts) (listEntries ls) (fours ts)) ∙ ap₂ (λ (a b : Bool). a && b) (flat-plain ts) (lists-plain ls)
 
-entry-plain : (k v m : ℕ) → plainInside (entryToken k v m) ≡ true
-unfolding plainInside
-entry-plain = Rattle.spelling.proofs.TallyLaws.entry-cases (λ t. plainInside t ≡ true) (λ v. refl) (λ v. refl) (λ v m. refl) (λ v m. refl) refl
-
 -- 19 is decided on the entries as on the tokens
 pub plain-entries : (ts : Tokens) → plain (tokensIn (entries ts)) ≡ plain ts
 unfolding entries plain plainInside
 plain-entries nothing = ap plain (tokens-end [] (omega arith))
-plain-entries (Byte v then ts) = ap plain (tokens-cons 0 v 0 0 (entries ts) (not-5 0 (omega arith))) ∙ ap₂ (λ (a b : Bool). a && b) (entry-plain 0 v 0) (plain-entries ts)
-plain-entries (NotByte v then ts) = ap plain (tokens-cons 1 v 0 0 (entries ts) (not-5 1 (omega arith))) ∙ ap₂ (λ (a b : Bool). a && b) (entry-plain 1 v 0) (plain-entries ts)
+plain-entries (Byte v then ts) = ap plain (tokens-cons 0 v 0 0 (entries ts) (not-5 0 (omega arith))) ∙ ap₂ (λ (a b : Bool). a && b) (entry-inside 0 v 0) (plain-entries ts)
+plain-entries (NotByte v then ts) = ap plain (tokens-cons 1 v 0 0 (entries ts) (not-5 1 (omega arith))) ∙ ap₂ (λ (a b : Bool). a && b) (entry-inside 1 v 0) (plain-entries ts)
 plain-entries (MaskedByte v m then ts) =
-    ap plain (tokens-cons 2 v (maskNumber m) 0 (entries ts) (not-5 2 (omega arith))) ∙ ap₂ (λ (a b : Bool). a && b) (entry-plain 2 v (maskNumber m)) (plain-entries ts)
+    ap plain (tokens-cons 2 v (maskNumber m) 0 (entries ts) (not-5 2 (omega arith))) ∙ ap₂ (λ (a b : Bool). a && b) (entry-inside 2 v (maskNumber m)) (plain-entries ts)
 plain-entries (NotMaskedByte v m then ts) =
-    ap plain (tokens-cons 3 v (maskNumber m) 0 (entries ts) (not-5 3 (omega arith))) ∙ ap₂ (λ (a b : Bool). a && b) (entry-plain 3 v (maskNumber m)) (plain-entries ts)
-plain-entries (Jump from nowhere then ts) = ap plain (tokens-cons 4 from 0 0 (entries ts) (not-5 4 (omega arith))) ∙ ap₂ (λ (a b : Bool). a && b) (entry-plain 4 from 0) (plain-entries ts)
-plain-entries (Jump from (some to) then ts) = ap plain (tokens-cons 4 from to 1 (entries ts) (not-5 4 (omega arith))) ∙ ap₂ (λ (a b : Bool). a && b) (entry-plain 4 from to) (plain-entries ts)
+    ap plain (tokens-cons 3 v (maskNumber m) 0 (entries ts) (not-5 3 (omega arith))) ∙ ap₂ (λ (a b : Bool). a && b) (entry-inside 3 v (maskNumber m)) (plain-entries ts)
+plain-entries (Jump from nowhere then ts) = ap plain (tokens-cons 4 from 0 0 (entries ts) (not-5 4 (omega arith))) ∙ ap₂ (λ (a b : Bool). a && b) (entry-inside 4 from 0) (plain-entries ts)
+plain-entries (Jump from (some to) then ts) = ap plain (tokens-cons 4 from to 1 (entries ts) (not-5 4 (omega arith))) ∙ ap₂ (λ (a b : Bool). a && b) (entry-inside 4 from to) (plain-entries ts)
 plain-entries (Alternatives ls then ts) =
     ap plain (tokens-box (listCount ls) (length (listEntries ls) / 4) (listEntries ls) (entries ts) (fours-in ls)) ∙ ap₂ (λ (a b : Bool). a && b) (lists-plain ls) (plain-entries ts)
 
 -- ---- the tokens again, where values are as they are read
-
-unfoldable mutual
-  pub rangedOf : Token → Type 0
-  rangedOf (Byte v) = v < 256
-  rangedOf (NotByte v) = v < 256
-  rangedOf (MaskedByte v m) = v < 16
-  rangedOf (NotMaskedByte v m) = v < 16
-  rangedOf (Jump from to) = Unit {0}
-  rangedOf (Alternatives ls) = rangedIn ls
-
-  pub ranged : Tokens → Type 0
-  ranged nothing = Unit {0}
-  ranged (t then ts) = rangedOf t × ranged ts
-
-  pub rangedIn : Lists → Type 0
-  rangedIn neither = Unit {0}
-  rangedIn (ts or ls) = ranged ts × rangedIn ls
 
 mask-back : (m : Mask) → maskIn (maskNumber m) ≡ m
 unfolding maskIn
@@ -200,30 +157,22 @@ not-masked-back : (v : ℕ) (m : Mask) → v < 16 → entryToken 3 v (maskNumber
 unfolding entryToken
 not-masked-back v m h = ap₂ NotMaskedByte (mod-eq-of-lt h) (mask-back m)
 
-right-of : (a b : Bool) → a && b ≡ true → b ≡ true
-right-of true b e = e
-right-of false b e = absurd (let z : _≡_ {A = ℕ} 0 1 = cc in omega arith)
-
-left-of : (a b : Bool) → a && b ≡ true → a ≡ true
-left-of true b e = refl
-left-of false b e = absurd (let z : _≡_ {A = ℕ} 0 1 = cc in omega arith)
-
-flat-back : (ts : Tokens) → plainList ts ≡ true → ranged ts → flatIn (entries ts) ≡ ts
-unfolding entries plainList isPlain ranged
+flat-back : (ts : Tokens) → plainList ts ≡ true → Spelled ts → flatIn (entries ts) ≡ ts
+unfolding entries plainList isPlain Spelled
 flat-back nothing p h = flat-end [] (omega arith)
 flat-back (Byte v then ts) p h = flat-cons 0 v 0 0 (entries ts) ∙ ap₂ _then_ (byte-back v (h .0)) (flat-back ts p (h .1))
 flat-back (NotByte v then ts) p h = flat-cons 1 v 0 0 (entries ts) ∙ ap₂ _then_ (not-back v (h .0)) (flat-back ts p (h .1))
-flat-back (MaskedByte v m then ts) p h = flat-cons 2 v (maskNumber m) 0 (entries ts) ∙ ap₂ _then_ (masked-back v m (h .0)) (flat-back ts (right-of (isPlain (MaskedByte v m)) (plainList ts) p) (h .1))
-flat-back (NotMaskedByte v m then ts) p h = flat-cons 3 v (maskNumber m) 0 (entries ts) ∙ ap₂ _then_ (not-masked-back v m (h .0)) (flat-back ts (right-of (isPlain (NotMaskedByte v m)) (plainList ts) p) (h .1))
+flat-back (MaskedByte v m then ts) p h = flat-cons 2 v (maskNumber m) 0 (entries ts) ∙ ap₂ _then_ (masked-back v m (h .0)) (flat-back ts (and-right (isPlain (MaskedByte v m)) (plainList ts) p) (h .1))
+flat-back (NotMaskedByte v m then ts) p h = flat-cons 3 v (maskNumber m) 0 (entries ts) ∙ ap₂ _then_ (not-masked-back v m (h .0)) (flat-back ts (and-right (isPlain (NotMaskedByte v m)) (plainList ts) p) (h .1))
 flat-back (Jump from to then ts) p h = absurd (let z : _≡_ {A = ℕ} 0 1 = cc in omega arith)
 flat-back (Alternatives ls then ts) p h = absurd (let z : _≡_ {A = ℕ} 0 1 = cc in omega arith)
 
-lists-back : (ls : Lists) → plainLists ls ≡ true → rangedIn ls → listsIn (listEntries ls) ≡ ls
-unfolding entries plainLists ranged
+lists-back : (ls : Lists) → plainLists ls ≡ true → SpelledMore ls → listsIn (listEntries ls) ≡ ls
+unfolding entries plainLists Spelled
 lists-back neither p h = lists-end [] (omega arith)
 lists-back (ts or ls) p h =
     lists-box 6 (tokenCount ts) (length (entries ts) / 4) (entries ts) (listEntries ls) (fours ts)
-    ∙ ap₂ _or_ (flat-back ts (left-of (plainList ts) (plainLists ls) p) (h .0)) (lists-back ls (right-of (plainList ts) (plainLists ls) p) (h .1))
+    ∙ ap₂ _or_ (flat-back ts (and-left (plainList ts) (plainLists ls) p) (h .0)) (lists-back ls (and-right (plainList ts) (plainLists ls) p) (h .1))
 
 joined : (t : Token) (ss rs : List Tokens) → ss ≡ rs → (s : Token) → s ≡ t → segmented (closes s) s ss ≡ segmented (closes t) t rs
 joined t ss rs e s f = ap₂ (λ (x : Token) (y : List Tokens). segmented (closes x) x y) f e
@@ -234,8 +183,8 @@ unfolding entryToken segmented isPlain isAlternatives
 closed from to m ss rs e = ap (λ (x : List Tokens). nothing ∷ x) e
 
 -- the segments, and so the runs and the choice, are those of the tokens
-pub segments-entries : (ts : Tokens) → plain ts ≡ true → ranged ts → segments (tokensIn (entries ts)) ≡ segments ts
-unfolding entries plain plainInside ranged segments
+pub segments-entries : (ts : Tokens) → plain ts ≡ true → Spelled ts → segments (tokensIn (entries ts)) ≡ segments ts
+unfolding entries plain plainInside Spelled segments
 segments-entries nothing p h = ap segments (tokens-end [] (omega arith))
 segments-entries (Byte v then ts) p h =
     ap segments (tokens-cons 0 v 0 0 (entries ts) (not-5 0 (omega arith))) ∙ joined (Byte v) _ _ (segments-entries ts p (h .1)) (entryToken 0 v 0) (byte-back v (h .0))
@@ -251,4 +200,4 @@ segments-entries (Jump from (some to) then ts) p h =
     ap segments (tokens-cons 4 from to 1 (entries ts) (not-5 4 (omega arith))) ∙ closed from (some to) to _ _ (segments-entries ts p (h .1))
 segments-entries (Alternatives ls then ts) p h =
     ap segments (tokens-box (listCount ls) (length (listEntries ls) / 4) (listEntries ls) (entries ts) (fours-in ls))
-    ∙ joined (Alternatives ls) _ _ (segments-entries ts (right-of (plainLists ls) (plain ts) p) (h .1)) (Alternatives (listsIn (listEntries ls))) (ap Alternatives (lists-back ls (left-of (plainLists ls) (plain ts) p) (h .0)))
+    ∙ joined (Alternatives ls) _ _ (segments-entries ts (and-right (plainLists ls) (plain ts) p) (h .1)) (Alternatives (listsIn (listEntries ls))) (ap Alternatives (lists-back ls (and-left (plainLists ls) (plain ts) p) (any-spelled ls (h .0))))

@@ -1,23 +1,21 @@
 -- Ranks of entries. Assumes nothing.
-use mathlib.Core.Path.{_≡_, refl, sym, ap, ap₂, _∙_, subst}
-use mathlib.Core.Bool.{Bool, true, false, cond}
+use mathlib.Core.Path.{_≡_, refl, sym, ap, ap₂, _∙_}
 use mathlib.Core.List.{List, [], _∷_, _++_, append-nil, List·Memᴰ, List·Memᴰ·head, List·Memᴰ·tail}
 use Prim.Native.Nat.{ℕ, zero, suc, _+_, _-_, _*_, _≤_, _<_, min}
 use native.Mathlib.Omega.{arith}
 use native.Mathlib.Numerals.{add-one}
-use lib.Dec.{leb, ltb}
-use lib.ListN.{length, getD, take, drop, length-drop, length-take, length-append, drop-of-length-le}
+use lib.ListN.{length, getD, take, drop, length-append, drop-of-length-le}
 use lib.Seq.{drop-cons, take-at}
 use Rattle.spelling.specs.Tallies.{Written}
 use borrow.Author.Tests.{lt-ltb, le-ltb, le-leb, lt-leb}
-use Rattle.meaning.specs.Tokens.{Tokens}
+use Rattle.meaning.specs.Tokens.{Tokens, total}
 use Rattle.atoms.specs.Score.{literalScore}
-use Rattle.picking.specs.Literals.{literals, combinations, size, sizeOf, sizeIn}
+use Rattle.picking.specs.Literals.{literals, combinations}
 use Rattle.picking.specs.Numbers.{count, literalAt}
-use Rattle.picking.specs.Choice.{lowest, least, penalty, score, counted, combined, rank, Ranked, ranked, skipped, excessive}
+use Rattle.picking.specs.Choice.{lowest, least, penalty, rankValue, counted, combined, rank, ranked, skipped, excessive}
 use Rattle.picking.proofs.NumberLaws.{count-literals, literal-numbered}
 use Rattle.picking.proofs.LengthLaws.{literal-lengths}
-use Rattle.spelling.specs.Words.{firstEntry, flatIn, ends, inside, listsIn, tokenIn, width, tokensIn}
+use Rattle.spelling.specs.Words.{tokensIn}
 use Rattle.spelling.proofs.SizeLaws.{tokens-size}
 
 nth-in : (l : List (List ℕ)) (k : ℕ) → k < length l → List·Memᴰ (getD l k []) l
@@ -30,7 +28,7 @@ pub literal-fits : (ws : List ℕ) (k : ℕ) → k < count (tokensIn ws) → 4 *
 literal-fits ws k h =
     let T = tokensIn ws in
     let m : List·Memᴰ (getD (literals T) k []) (literals T) = nth-in (literals T) k (let e = count-literals T in omega arith) in
-    let l : length (getD (literals T) k []) ≤ size T = literal-lengths T (getD (literals T) k []) m .1 in
+    let l : length (getD (literals T) k []) ≤ total T = literal-lengths T (getD (literals T) k []) m .1 in
     let e : length (getD (literals T) k []) ≡ length (literalAt T k) = ap length (literal-numbered T k h) in
     let s = tokens-size ws in
     omega arith
@@ -102,7 +100,7 @@ module _ (ts : Tokens) (n c : ℕ) (n-is : n ≡ min 257 (count ts)) (c-is : c �
   count-exact h = omega arith
 
   pub rank-given : c ≤ 256 → n ≤ 256 → (s p : ℕ) → s ≡ least literalScore (literals ts) → p ≡ penalty c → ranked (s - p) ≡ rank ts
-  unfolding rank combined counted score
+  unfolding rank combined counted rankValue
   rank-given h g s p e f =
       let k : c ≡ combinations ts = omega arith in
       rw (le-ltb 256 (combinations ts) (omega arith)) (rw (le-ltb 256 (length (literals ts)) (let e = count-literals ts in omega arith))

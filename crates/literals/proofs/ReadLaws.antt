@@ -1,42 +1,19 @@
--- The tokens of every accepted text have values in their ranges, no list of alternatives is empty, and there are at most 512; so its
--- literals have 1 to 512 bytes. Assumes nothing.
-use mathlib.Core.Path.{_≡_, refl, ap₂}
+-- In the tokens of every accepted text no list of alternatives is empty, and there are at most 512; so its literals have 1 to 512 bytes.
+-- Assumes nothing.
+use mathlib.Core.Path.{_≡_}
 use mathlib.Core.Bool.{Bool, true, false}
 use mathlib.Core.List.{List, List·Memᴰ}
-use Prim.Native.Nat.{ℕ, _+_, _≤_, min}
+use Prim.Native.Nat.{ℕ, _≤_, min}
 use native.Mathlib.Omega.{arith}
 use lib.ListN.{length}
-use Rattle.meaning.specs.Tokens.{Token, Tokens, Lists, Byte, NotByte, MaskedByte, NotMaskedByte, Jump, Alternatives, nothing, _then_, neither, _or_}
+use Rattle.meaning.specs.Tokens.{Token, Tokens, Lists, Byte, NotByte, MaskedByte, NotMaskedByte, Jump, Alternatives, nothing, _then_, neither, _or_, total}
 use Rattle.reading.specs.Lists.{accepted, reading}
-use Rattle.reading.proofs.Kept.{Keeps, accepted-keeps}
-use Rattle.grammar.specs.Grammar.{totalIn, total, totals}
 use Rattle.grammar.proofs.Spelling.{_⨾_, Bounded, SpellsToken, SpellsTokens, SpellsLists, SpellsRest, SpellsString, SpellsText}
 use Rattle.grammar.proofs.TextSpelled.{accepted-spelled}
-use Rattle.picking.specs.Literals.{lengthIn, shortest, shorter, sizeOf, size, sizeIn, listedOf, listed, listedIn}
+use Rattle.picking.specs.Literals.{lengthIn, shortest, shorter, listedOf, listed, listedIn}
 use Rattle.picking.specs.Choice.{picked, pick}
 use Rattle.picking.proofs.FactorLaws.{Filled}
 use Rattle.picking.proofs.PickedLaws.{filled-long, literal-bounds}
-use Rattle.literals.proofs.EntryLaws.{rangedOf, ranged, rangedIn}
-
-kept : Keeps rangedOf ranged rangedIn
-unfolding ranged
-kept =
-    record {
-      byte = λ v h. h;
-      not-byte = λ v h. h;
-      masked-byte = λ v m h. h;
-      not-masked = λ v m h. h;
-      open-jump = λ from. tt;
-      jump = λ from to h. tt;
-      alternatives = λ ls h. h;
-      empty = tt;
-      next = λ tok ts h k. (h, k);
-      last-list = λ ts h. (h, tt);
-      next-list = λ ts ls h k. (h, k);
-    }
-
-pub accepted-ranged : (t : List ℕ) (e : ℕ) (ts : Tokens) → reading t ≡ accepted e ts → ranged ts
-accepted-ranged t e ts h = accepted-keeps rangedOf ranged rangedIn kept t e ts h
 
 -- ---- no list of alternatives is empty
 
@@ -84,30 +61,8 @@ accepted-listed t e ts h =
 
 -- ---- at most 512 tokens
 
-mutual
-  unfolding sizeOf size sizeIn totalIn total totals
-
-  token-size : (t : Token) → sizeOf t ≡ totalIn t
-  token-size (Byte v) = refl
-  token-size (NotByte v) = refl
-  token-size (MaskedByte v m) = refl
-  token-size (NotMaskedByte v m) = refl
-  token-size (Jump from to) = refl
-  token-size (Alternatives ls) = let h = lists-size ls in omega arith
-
-  tokens-size : (ts : Tokens) → size ts ≡ total ts
-  tokens-size nothing = refl
-  tokens-size (t then ts) = ap₂ _+_ (token-size t) (tokens-size ts)
-
-  lists-size : (ls : Lists) → sizeIn ls ≡ totals ls
-  lists-size neither = refl
-  lists-size (ts or ls) = ap₂ _+_ (tokens-size ts) (lists-size ls)
-
-pub accepted-size : (t : List ℕ) (e : ℕ) (ts : Tokens) → reading t ≡ accepted e ts → size ts ≤ 512
-accepted-size t e ts h =
-    let k = accepted-spelled t e ts h .2 in
-    let q = tokens-size ts in
-    omega arith
+pub accepted-size : (t : List ℕ) (e : ℕ) (ts : Tokens) → reading t ≡ accepted e ts → total ts ≤ 512
+accepted-size t e ts h = accepted-spelled t e ts h .2
 
 -- the literals picked for an accepted text have 1 to 512 bytes
 pub read-literal-bounds : (t : List ℕ) (e : ℕ) (ts : Tokens) → reading t ≡ accepted e ts → (n : ℕ) (ls : List (List ℕ)) → pick ts ≡ picked n ls → (l : List ℕ) → List·Memᴰ l ls

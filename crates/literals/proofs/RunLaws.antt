@@ -3,25 +3,27 @@ use mathlib.Core.Path.{_≡_, refl, sym, ap, ap₂, _∙_, subst}
 use mathlib.Core.Bool.{Bool, true, false, cond, _&&_}
 use mathlib.Core.Option.{Option, none, some}
 use mathlib.Core.List.{List, [], _∷_, _++_}
-use Prim.Native.Nat.{ℕ, _+_, _-_, _*_, _%_, _≤_, _<_}
+use Prim.Native.Nat.{ℕ, _+_, _-_, _*_, _≤_, _<_}
 use native.Mathlib.Omega.{arith}
-use native.Mathlib.Nat.{mul-one, one-mul, mod-one}
+use native.Mathlib.Nat.{one-mul, mod-one}
 use lib.Dec.{eqb, leb}
 use lib.ListN.{length, getD, take, drop, length-drop}
 use borrow.Author.Tests.{eq-eqb, ne-eqb, le-leb, lt-leb}
-use Rattle.meaning.specs.Tokens.{Token, Tokens, Byte, NotByte, MaskedByte, NotMaskedByte, Jump, Alternatives, nothing, _then_}
+use Rattle.meaning.specs.Tokens.{Tokens, Byte, NotByte, MaskedByte, NotMaskedByte, Jump, Alternatives, nothing, _then_}
 use Rattle.atoms.specs.Score.{literalScore}
+use Rattle.meaning.proofs.SoundLaws.{and-left, and-right}
 use Rattle.picking.specs.Literals.{taken, isByte}
-use Rattle.picking.specs.Numbers.{countOf, count, prefixed, pieceOf, ending, literalAt}
+use Rattle.picking.specs.Numbers.{count, prefixed, ending, literalAt}
 use Rattle.picking.specs.Runs.{isLiteral, joins, partBefore, parts, Slice, literalOnly, longer, slices}
 use Rattle.picking.specs.Choice.{Choice, unranked, chosen, tooMany, against, rankOf, best, bytesOf, byteOf, strong, aloneOr, inRun}
+use Rattle.picking.proofs.RefusalLaws.{best-full}
 use Rattle.spelling.specs.Words.{tokensIn}
 use Rattle.spelling.proofs.StepLaws.{tokens-end}
 use Rattle.spelling.proofs.PartLaws.{part-all, part-long}
 use Rattle.literals.specs.declared.Pick.{Pick}
 use Rattle.literals.specs.declared.Pick.the-variants.{Nothing, Taken, TooMany}
 use Rattle.literals.specs.Ranks.{choiceSays}
-use Rattle.literals.specs.Whole.{Whole, none as empty, byteEnd, partEnd, Placed}
+use Rattle.literals.specs.Whole.{Whole, none as empty, partEnd, Placed}
 use Rattle.literals.proofs.PartLaws.{Part, first-part}
 use Rattle.literals.proofs.SliceLaws.{later-words}
 use Rattle.literals.proofs.LongerLaws.{words}
@@ -30,11 +32,6 @@ best-append : (xs ys : List Slice) (c : Choice) → best c (xs ++ ys) ≡ best (
 unfolding best
 best-append [] ys c = refl
 best-append (x ∷ xs) ys c = best-append xs ys (against c x (rankOf x))
-
-best-full : (ss : List Slice) → best tooMany ss ≡ tooMany
-unfolding best against
-best-full [] = refl
-best-full (s ∷ ss) = best-full ss
 
 no-tokens : (run : List ℕ) (a : ℕ) → words run a a ≡ nothing
 no-tokens run a = let e : a - a ≡ 0 = omega arith in ap (λ (x : ℕ). tokensIn (take x (drop a run))) e ∙ tokens-end (take 0 (drop a run)) (omega arith)
@@ -138,10 +135,6 @@ unfoldable pub AllBytes : Tokens → Type 0
 AllBytes nothing = Unit {0}
 AllBytes (t then ts) = (isByte t ≡ true) × AllBytes ts
 
-both-true : (a b : Bool) → a && b ≡ true → (a ≡ true) × (b ≡ true)
-both-true true b e = (refl, e)
-both-true false b e = absurd (let z : _≡_ {A = ℕ} 0 1 = cc in omega arith)
-
 -- a part that begins with a byte holds nothing else
 pub literal-bytes : (ts p : Tokens) (ps : List Tokens) → parts ts ≡ p ∷ ps → isLiteral p ≡ true → AllBytes p
 unfolding parts partBefore joins AllBytes isLiteral
@@ -152,7 +145,7 @@ literal-bytes (t then ts) p ps e l = go (parts ts) (λ q rs f k. literal-bytes t
     one f = subst AllBytes f (subst (λ (x : Tokens). isLiteral x ≡ true) (sym f) l, tt)
 
     pick : (b : Bool) (q : Tokens) (rs : List Tokens) → isByte t && isLiteral q ≡ b → (isLiteral q ≡ true → AllBytes q) → joins b t q rs ≡ p ∷ ps → AllBytes p
-    pick true q rs k ih g = let f : (t then q) ≡ p = cc in subst AllBytes f (both-true (isByte t) (isLiteral q) k .0, ih (both-true (isByte t) (isLiteral q) k .1))
+    pick true q rs k ih g = let f : (t then q) ≡ p = cc in subst AllBytes f (and-left (isByte t) (isLiteral q) k, ih (and-right (isByte t) (isLiteral q) k))
     pick false q rs k ih g = one cc
 
     go : (qs : List Tokens) → ((q : Tokens) (rs : List Tokens) → qs ≡ q ∷ rs → isLiteral q ≡ true → AllBytes q) → partBefore t qs ≡ p ∷ ps → AllBytes p

@@ -1,28 +1,18 @@
 -- Whole entries: they are taken for their tokens wherever they stand. Assumes nothing.
 use mathlib.Core.Path.{_≡_, refl, sym, ap, ap₂, _∙_, subst}
 use mathlib.Core.Bool.{Bool, true, false, cond}
-use mathlib.Core.List.{List, [], _∷_, _++_, append-nil, append-assoc}
-use Prim.Native.Nat.{ℕ, zero, suc, _+_, _-_, _*_, _≤_, _<_, min}
+use mathlib.Core.List.{List, [], _++_}
+use Prim.Native.Nat.{ℕ, _+_, _-_, _*_, _≤_, _<_, min}
 use native.Mathlib.Omega.{arith}
 use lib.Dec.{eqb}
-use lib.ListN.{length, getD, take, drop, length-append, length-take, length-drop, take-append-drop, List·getD-append, drop-of-length-le}
-use lib.Seq.{take-append-le, drop-append-le, length-take-le, getD-take, take-all, drop-append-seam}
+use lib.ListN.{length, getD, take, drop, length-append, length-drop, take-append-drop, List·getD-append, drop-of-length-le}
+use lib.Seq.{take-append-le, drop-append-le, length-take-le, getD-take}
 use borrow.Author.Tests.{eqb-true, eqb-false}
-use Rattle.meaning.specs.Tokens.{Token, Tokens, Lists, Alternatives, nothing, _then_, _⊕_}
+use Rattle.meaning.specs.Tokens.{Token, Tokens, Alternatives, nothing, _then_, _⊕_}
 use Rattle.spelling.specs.Words.{entryToken, firstEntry, ends, inside, listsIn, tokenIn, width, tokensIn}
 use Rattle.spelling.proofs.StepLaws.{tokens-end, tokens-step, width-le, width-long, width-inside, ends-le}
 use Rattle.spelling.proofs.PlainLaws.{token-alternatives, token-entry}
 use Rattle.literals.specs.Whole.{Entire, Whole, none, more}
-
-join-nothing : (ts : Tokens) → ts ⊕ nothing ≡ ts
-unfolding _⊕_
-join-nothing nothing = refl
-join-nothing (t then ts) = ap (λ (x : Tokens). t then x) (join-nothing ts)
-
-pub join-assoc : (a b c : Tokens) → (a ⊕ b) ⊕ c ≡ a ⊕ (b ⊕ c)
-unfolding _⊕_
-join-assoc nothing b c = refl
-join-assoc (t then a) b c = ap (λ (x : Tokens). t then x) (join-assoc a b c)
 
 ends-plain : (ws : List ℕ) → ends ws ≡ min (length ws) (4 + 4 * getD ws 2 0)
 unfolding ends

@@ -130,17 +130,7 @@ module _ (w : ℕ) (ws : List ℕ) where
       go (mark k) e = false-true (and-right (proper w) false (rw (e, plainWords) at h))
       go wrong e = false-true (and-right (proper w) false (rw (e, plainWords) at h))
 
--- a branch's words are sound by themselves, and say one row
-pub plain-sound : (ws : List ℕ) → plainWords ws ≡ true → Sound ws
-unfolding soundWords
-plain-sound [] h = refl
-plain-sound (w ∷ ws) h =
-    let q = plain-item w ws h in
-    step (q .1) (q .4) (plain-sound ws (q .3))
-  where
-    step : {i : Item} → shape w ≡ item i → proper w ≡ true → Sound ws → Sound (w ∷ ws)
-    step e p s = rw (e, soundWords) (rw (p, s))
-
+-- a branch's words say one row
 single-row : (o : Order) (i : Item) (p : Prog) → plain i ≡ true → (r : Row) × (rows o p ≡ r ∷ []) → (r : Row) × (rows o (i ▹ p) ≡ r ∷ [])
 unfolding rows plain _⊗_ before
 single-row o (one t) p h (r, e) = ((t ∷ []) ++ r, rw e)
@@ -210,3 +200,9 @@ plain-nil = refl
 pub plain-append : (ws vs : List ℕ) → plainWords ws ≡ true → plainWords vs ≡ true → plainWords (ws ++ vs) ≡ true
 plain-append [] vs h g = g
 plain-append (w ∷ ws) vs h g = let q = plain-item w ws h in make-plain w (ws ++ vs) (q .1) (q .2) (q .4) (plain-append ws vs (q .3) g)
+
+-- a branch's words are sound by themselves
+pub plain-sound : (ws : List ℕ) → plainWords ws ≡ true → Sound ws
+unfolding soundWords
+plain-sound [] h = refl
+plain-sound (w ∷ ws) h = let q = plain-item w ws h in make-item w ws (q .1) (q .4) (plain-sound ws (q .3))

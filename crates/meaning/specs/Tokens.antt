@@ -4,7 +4,7 @@ use mathlib.Core.Path.{_≡_}
 use mathlib.Core.Logic.{_⊎_}
 use mathlib.Core.Option.{Option, none, some}
 use mathlib.Core.List.{List, [], _∷_, _++_}
-use Prim.Native.Nat.{ℕ, _/_, _%_, _≤_}
+use Prim.Native.Nat.{ℕ, suc, _+_, _/_, _%_, _≤_}
 use lib.ListN.{length}
 
 -- which half of a byte is left open: the left one of `?X`, the right one of `X?`, both of `??`
@@ -79,3 +79,21 @@ infixr 50 _⊕_
 unfoldable pub _⊕_ : Tokens → Tokens → Tokens
 nothing ⊕ us = us
 (t then ts) ⊕ us = t then (ts ⊕ us)
+
+-- the count of tokens: alternatives are one, and what is inside counts too
+unfoldable mutual
+  pub totalIn : Token → ℕ
+  totalIn (Byte v) = 1
+  totalIn (NotByte v) = 1
+  totalIn (MaskedByte v m) = 1
+  totalIn (NotMaskedByte v m) = 1
+  totalIn (Jump from to) = 1
+  totalIn (Alternatives ls) = suc (totals ls)
+
+  pub total : Tokens → ℕ
+  total nothing = 0
+  total (t then ts) = totalIn t + total ts
+
+  pub totals : Lists → ℕ
+  totals neither = 0
+  totals (ts or ls) = total ts + totals ls

@@ -1,12 +1,12 @@
 -- How long literals are. Assumes nothing.
-use mathlib.Core.Path.{_≡_, refl, sym, ap, _∙_, subst}
-use mathlib.Core.Logic.{_⊎_, inl, inr, ⊎-elim}
+use mathlib.Core.Path.{_≡_, sym, ap, _∙_, subst}
+use mathlib.Core.Logic.{_⊎_, ⊎-elim}
 use mathlib.Core.List.{List, [], _∷_, _++_, append-nil, append-assoc, List·Memᴰ, List·Memᴰ·not-nil, List·Memᴰ·eq-of-singleton, List·Memᴰ·append-cases}
 use Prim.Native.Nat.{ℕ, _+_, _≤_, min}
 use native.Mathlib.Omega.{arith}
 use lib.ListN.{length, length-append}
-use Rattle.meaning.specs.Tokens.{Token, Tokens, Lists, Byte, NotByte, MaskedByte, NotMaskedByte, Jump, Alternatives, nothing, _then_, neither, _or_}
-use Rattle.picking.specs.Literals.{taken, _⊗_, singles, followed, spelt, branched, literals, lengthOf, lengthIn, shortest, shorter, sizeOf, size, sizeIn, listedOf, listed, listedIn}
+use Rattle.meaning.specs.Tokens.{Token, Tokens, Lists, Byte, NotByte, MaskedByte, NotMaskedByte, Jump, Alternatives, nothing, _then_, neither, _or_, totalIn, total, totals}
+use Rattle.picking.specs.Literals.{taken, _⊗_, singles, followed, spelt, branched, literals, lengthOf, lengthIn, shortest, shorter}
 use Rattle.picking.proofs.MatchLaws.{Pieces, in-joined, in-singles}
 
 -- between two lengths
@@ -31,9 +31,9 @@ whole : (a b : ℕ) (s : List ℕ) → Pieces ([] ∷ []) (Between a b) s → Be
 whole a b s (p, q, e, m, h) = subst (Between a b) (sym (e ∙ ap (λ (x : List ℕ). x ++ q) (List·Memᴰ·eq-of-singleton m))) h
 
 mutual
-  unfolding followed lengthOf sizeOf
+  unfolding followed lengthOf totalIn
 
-  followed-long : (t : Token) (ps : List (List ℕ)) (s : List ℕ) → List·Memᴰ s (followed t ps) → Pieces ps (Between (lengthOf t) (sizeOf t)) s
+  followed-long : (t : Token) (ps : List (List ℕ)) (s : List ℕ) → List·Memᴰ s (followed t ps) → Pieces ps (Between (lengthOf t) (totalIn t)) s
   followed-long (Byte v) ps s h = one-long (Byte v) ps s h
   followed-long (NotByte v) ps s h = one-long (NotByte v) ps s h
   followed-long (MaskedByte v m) ps s h = one-long (MaskedByte v m) ps s h
@@ -41,7 +41,7 @@ mutual
   followed-long (Jump from to) ps s h = one-long (Jump from to) ps s h
   followed-long (Alternatives ls) ps s h = let r = some-long ls ps s h in (r .0, r .1, r .2, r .3, (r .4 .0, let k = r .4 .1 in omega arith))
 
-  spelt-long : (ts : Tokens) (ps : List (List ℕ)) (s : List ℕ) → List·Memᴰ s (spelt ts ps) → Pieces ps (Between (lengthIn ts) (size ts)) s
+  spelt-long : (ts : Tokens) (ps : List (List ℕ)) (s : List ℕ) → List·Memᴰ s (spelt ts ps) → Pieces ps (Between (lengthIn ts) (total ts)) s
   spelt-long nothing ps s h = (s, [], sym (append-nil s), h, (omega arith, omega arith))
   spelt-long (t then ts) ps s h =
       let r = spelt-long ts (followed t ps) s h in
@@ -53,13 +53,13 @@ mutual
       let d = r .4 .1 in
       (u .0, u .1 ++ r .1, r .2 ∙ ap (λ (x : List ℕ). x ++ r .1) (u .2) ∙ append-assoc (u .0) (u .1) (r .1), u .3, (omega arith, omega arith))
 
-  some-long : (ls : Lists) (ps : List (List ℕ)) (s : List ℕ) → List·Memᴰ s (branched ls ps) → Pieces ps (Between (shortest ls) (sizeIn ls)) s
+  some-long : (ls : Lists) (ps : List (List ℕ)) (s : List ℕ) → List·Memᴰ s (branched ls ps) → Pieces ps (Between (shortest ls) (totals ls)) s
   some-long neither ps s h = absurd (List·Memᴰ·not-nil h)
   some-long (ts or ls) ps s h =
       ⊎-elim
       (λ (m : List·Memᴰ s (ps ⊗ spelt ts ([] ∷ []))).
       let r = in-joined ps (spelt ts ([] ∷ [])) s m in
-      let w = whole (lengthIn ts) (size ts) (r .1) (spelt-long ts ([] ∷ []) (r .1) (r .4)) in
+      let w = whole (lengthIn ts) (total ts) (r .1) (spelt-long ts ([] ∷ []) (r .1) (r .4)) in
       let a = w .0 in
       let b = w .1 in
       let c = shorter-le ls (lengthIn ts) in
@@ -71,13 +71,13 @@ mutual
       (r .0, r .1, r .2, r .3, (omega arith, omega arith)))
       (List·Memᴰ·append-cases (ps ⊗ spelt ts ([] ∷ [])) h)
 
-  any-long : (ls : Lists) (ps : List (List ℕ)) (s : List ℕ) (n : ℕ) → List·Memᴰ s (branched ls ps) → Pieces ps (Between (shorter ls n) (sizeIn ls)) s
+  any-long : (ls : Lists) (ps : List (List ℕ)) (s : List ℕ) (n : ℕ) → List·Memᴰ s (branched ls ps) → Pieces ps (Between (shorter ls n) (totals ls)) s
   any-long neither ps s n h = absurd (List·Memᴰ·not-nil h)
   any-long (ts or ls) ps s n h =
       ⊎-elim
       (λ (m : List·Memᴰ s (ps ⊗ spelt ts ([] ∷ []))).
       let r = in-joined ps (spelt ts ([] ∷ [])) s m in
-      let w = whole (lengthIn ts) (size ts) (r .1) (spelt-long ts ([] ∷ []) (r .1) (r .4)) in
+      let w = whole (lengthIn ts) (total ts) (r .1) (spelt-long ts ([] ∷ []) (r .1) (r .4)) in
       let a = w .0 in
       let b = w .1 in
       let c = shorter-le ls (min n (lengthIn ts)) in
@@ -90,5 +90,5 @@ mutual
       (List·Memᴰ·append-cases (ps ⊗ spelt ts ([] ∷ [])) h)
 
 -- a literal is at least as long as the shortest branches tell, and no longer than there are tokens
-pub literal-lengths : (ts : Tokens) (s : List ℕ) → List·Memᴰ s (literals ts) → (lengthIn ts ≤ length s) × (length s ≤ size ts)
-literal-lengths ts s h = whole (lengthIn ts) (size ts) s (spelt-long ts ([] ∷ []) s h)
+pub literal-lengths : (ts : Tokens) (s : List ℕ) → List·Memᴰ s (literals ts) → (lengthIn ts ≤ length s) × (length s ≤ total ts)
+literal-lengths ts s h = whole (lengthIn ts) (total ts) s (spelt-long ts ([] ∷ []) s h)

@@ -1,5 +1,5 @@
 -- The laws of the choice.
-pub mod Samples
+pub mod ChoiceSamples
 pub mod MatchLaws
 pub mod NumberLaws
 pub mod LengthLaws

@@ -1,15 +1,17 @@
 -- The literals of tokens are exactly the byte strings that the tokens match. Assumes nothing.
-use mathlib.Core.Path.{_≡_, refl, sym, ap, ap₂, _∙_, subst}
-use mathlib.Core.Bool.{Bool, true, false, not, _&&_}
+use mathlib.Core.Path.{_≡_, refl, sym, ap, _∙_, subst}
+use mathlib.Core.Bool.{Bool, true, false, not}
 use mathlib.Core.Logic.{_⊎_, inl, inr, ⊎-elim, _↔_}
 use mathlib.Core.List.{List, [], _∷_, _++_, append-nil, append-assoc, List·Memᴰ, List·Memᴰ·head, List·Memᴰ·tail, List·Memᴰ·not-nil, List·Memᴰ·cases-cons, List·Memᴰ·eq-of-singleton, Memᴰ·cast, Memᴰ·append-left, Memᴰ·append-right, List·Memᴰ·append-cases}
 use Prim.Native.Nat.{ℕ, zero, suc, _+_, _/_, _%_, _≤_, _<_}
 use native.Mathlib.Omega.{arith}
 use native.Mathlib.Nat.{eq-or-lt-of-le}
 use lib.Dec.{eqb}
-use borrow.Author.Tests.{eqb-true, eqb-false, eq-eqb, ne-eqb}
+use borrow.Author.Tests.{eqb-true, eqb-false, eq-eqb, ne-eqb, not-true}
 use Rattle.meaning.specs.Values.{Bytes}
-use Rattle.meaning.specs.Tokens.{Mask, left, right, all, Token, Tokens, Lists, Byte, NotByte, MaskedByte, NotMaskedByte, Jump, Alternatives, nothing, _then_, neither, _or_, Agrees, One, Matches, Spans, MatchesOne}
+use Rattle.meaning.specs.Tokens.{left, right, all, Token, Tokens, Lists, Byte, NotByte, MaskedByte, NotMaskedByte, Jump, Alternatives, nothing, _then_, neither, _or_, Agrees, Matches, Spans, MatchesOne}
+use Rattle.meaning.proofs.SoundLaws.{and-left, and-right}
+use Rattle.meaning.proofs.ValueLaws.{bytes-left, bytes-right}
 use Rattle.picking.specs.Literals.{kept, passing, bytesThat, taken, isPlain, before, _⊗_, singles, followed, spelt, branched, literals, listableOf, listable, listableIn}
 
 -- two pieces, the first of some literals and the second as asked
@@ -67,7 +69,7 @@ in-singles (x ∷ bs) s h = go (λ m. in-singles bs s m) (List·Memᴰ·cases-co
     go below (inl e) = (x, e, List·Memᴰ·head refl)
     go below (inr m) = let r = below m in (r .0, r .1, List·Memᴰ·tail (r .2))
 
-singles-in : (bs : List ℕ) (b : ℕ) → List·Memᴰ b bs → List·Memᴰ (b ∷ []) (singles bs)
+pub singles-in : (bs : List ℕ) (b : ℕ) → List·Memᴰ b bs → List·Memᴰ (b ∷ []) (singles bs)
 unfolding singles
 singles-in [] b h = absurd (List·Memᴰ·not-nil h)
 singles-in (x ∷ bs) b h = go (λ m. singles-in bs b m) (List·Memᴰ·cases-cons h)
@@ -102,10 +104,6 @@ passing-in p v (suc n) b l g e =
     past false m = m
 
 -- ---- what one token takes
-
-not-true : (t : Bool) → not t ≡ true → t ≡ false
-not-true true e = absurd (let z : _≡_ {A = ℕ} 0 1 = cc in omega arith)
-not-true false e = refl
 
 differs : (a b : ℕ) → not (eqb a b) ≡ true → a ≡ b → ⊥
 differs a b e = eqb-false a b (not-true (eqb a b) e)
@@ -194,24 +192,6 @@ mutual
       (List·Memᴰ·append-cases (ps ⊗ spelt ts ([] ∷ [])) h)
 
 -- ---- and everything matched is a literal
-
-and-left : (a b : Bool) → a && b ≡ true → a ≡ true
-and-left true b e = refl
-and-left false b e = absurd (let z : _≡_ {A = ℕ} 0 1 = cc in omega arith)
-
-and-right : (a b : Bool) → a && b ≡ true → b ≡ true
-and-right true b e = e
-and-right false b e = absurd (let z : _≡_ {A = ℕ} 0 1 = cc in omega arith)
-
-bytes-left : (s t : List ℕ) → Bytes (s ++ t) → Bytes s
-unfolding Bytes
-bytes-left [] t h = tt
-bytes-left (b ∷ s) t h = (h .0, bytes-left s t (h .1))
-
-bytes-right : (s t : List ℕ) → Bytes (s ++ t) → Bytes t
-unfolding Bytes
-bytes-right [] t h = h
-bytes-right (b ∷ s) t h = bytes-right s t (h .1)
 
 matches-one : (t : Token) (ps : List (List ℕ)) (p q : List ℕ) → isPlain t ≡ true → Bytes q → List·Memᴰ p ps → Matches t q → List·Memᴰ (p ++ q) (ps ⊗ singles (taken t))
 matches-one t ps p q k h m g =

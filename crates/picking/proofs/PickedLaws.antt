@@ -8,8 +8,8 @@ use native.Mathlib.Omega.{arith}
 use lib.ListN.{length}
 use Rattle.base.specs.declared.Refusal.the-variants.{NotPlain}
 use Rattle.meaning.specs.Values.{Bytes}
-use Rattle.meaning.specs.Tokens.{Token, Tokens, Byte, NotByte, MaskedByte, NotMaskedByte, Jump, Alternatives, nothing, _then_, Spans, _⊕_}
-use Rattle.picking.specs.Literals.{literals, lengthOf, lengthIn, size, listedOf, listed}
+use Rattle.meaning.specs.Tokens.{Token, Tokens, Byte, NotByte, MaskedByte, NotMaskedByte, Jump, Alternatives, nothing, _then_, Spans, _⊕_, total}
+use Rattle.picking.specs.Literals.{literals, lengthOf, lengthIn, listedOf, listed}
 use Rattle.picking.specs.Runs.{plain}
 use Rattle.picking.specs.Choice.{Choice, unranked, chosen, tooMany, choice, picked, unpicked, taking, pick}
 use Rattle.picking.proofs.MatchLaws.{literals-are-spans}
@@ -66,10 +66,10 @@ picked-are-spans ts n ls h = ⊎-elim (λ (z : (n ≡ 0) × (ls ≡ [])). inl (z
 
 -- ---- lengths
 
-size-join : (ts us : Tokens) → size (ts ⊕ us) ≡ size ts + size us
-unfolding size _⊕_
-size-join nothing us = omega arith
-size-join (t then ts) us = let e = size-join ts us in omega arith
+total-join : (ts us : Tokens) → total (ts ⊕ us) ≡ total ts + total us
+unfolding total _⊕_
+total-join nothing us = omega arith
+total-join (t then ts) us = let e = total-join ts us in omega arith
 
 listed-left : (ts us : Tokens) → listed (ts ⊕ us) → listed ts
 unfolding listed _⊕_
@@ -97,21 +97,21 @@ filled-long nothing f h = absurd f
 filled-long (t then ts) f h = let l = one-long t (h .0) in omega arith
 
 -- a literal is not empty, and no longer than the pattern has tokens
-pub picked-lengths : (ts : Tokens) → listed ts → (n : ℕ) (ls : List (List ℕ)) → pick ts ≡ picked n ls → (l : List ℕ) → List·Memᴰ l ls → (1 ≤ length l) × (length l ≤ size ts)
+pub picked-lengths : (ts : Tokens) → listed ts → (n : ℕ) (ls : List (List ℕ)) → pick ts ≡ picked n ls → (l : List ℕ) → List·Memᴰ l ls → (1 ≤ length l) × (length l ≤ total ts)
 picked-lengths ts g n ls h l m = ⊎-elim (λ (z : (n ≡ 0) × (ls ≡ [])). absurd (List·Memᴰ·not-nil (subst (λ (k : List (List ℕ)). List·Memᴰ l k) (z .1) m))) of (picked-from ts n ls h)
   where
-    of : (us : Tokens) × Source ts us n ls → (1 ≤ length l) × (length l ≤ size ts)
+    of : (us : Tokens) × Source ts us n ls → (1 ≤ length l) × (length l ≤ total ts)
     of (us, z) =
         let (a, b, e) = chosen-factor ts n us (z .given) in
         let k = literal-lengths us l (subst (λ (x : List (List ℕ)). List·Memᴰ l x) (z .theirs) m) in
         let low = k .0 in
         let high = k .1 in
         let long = filled-long us (chosen-filled ts n us (z .given)) (listed-left us b (listed-right a (us ⊕ b) (subst listed e g))) in
-        let wide : size ts ≡ size a + (size us + size b) = ap size e ∙ size-join a (us ⊕ b) ∙ ap (λ (x : ℕ). size a + x) (size-join us b) in
+        let wide : total ts ≡ total a + (total us + total b) = ap total e ∙ total-join a (us ⊕ b) ∙ ap (λ (x : ℕ). total a + x) (total-join us b) in
         (omega arith, omega arith)
 
 -- so 512 tokens bound it
-pub literal-bounds : (ts : Tokens) → listed ts → size ts ≤ 512 → (n : ℕ) (ls : List (List ℕ)) → pick ts ≡ picked n ls → (l : List ℕ) → List·Memᴰ l ls → (1 ≤ length l) × (length l ≤ 512)
+pub literal-bounds : (ts : Tokens) → listed ts → total ts ≤ 512 → (n : ℕ) (ls : List (List ℕ)) → pick ts ≡ picked n ls → (l : List ℕ) → List·Memᴰ l ls → (1 ≤ length l) × (length l ≤ 512)
 literal-bounds ts g s n ls h l m =
     let k = picked-lengths ts g n ls h l m in
     let high = k .1 in

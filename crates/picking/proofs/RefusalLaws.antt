@@ -1,5 +1,5 @@
 -- 19 and 17 are given exactly in their cases. Assumes nothing.
-use mathlib.Core.Path.{_≡_, refl, sym, ap, _∙_, subst}
+use mathlib.Core.Path.{_≡_, refl, sym, ap, _∙_}
 use mathlib.Core.Bool.{Bool, true, false, cond}
 use mathlib.Core.Logic.{_⊎_, inl, inr, ⊎-elim, _↔_}
 use mathlib.Core.Option.{Option, none, some}
@@ -12,8 +12,8 @@ use borrow.Author.Tests.{ltb-true, ltb-false, lt-ltb, le-ltb}
 use Rattle.base.specs.declared.Refusal.the-variants.{TooManyLiterals, NotPlain}
 use Rattle.meaning.specs.Tokens.{Tokens, nothing}
 use Rattle.picking.specs.Literals.{literals, combinations}
-use Rattle.picking.specs.Runs.{plain, runs, parts, Slice, slice, slices}
-use Rattle.picking.specs.Choice.{Ranked, ranked, skipped, excessive, counted, combined, rank, Choice, unranked, chosen, tooMany, widened, against, rankOf, best, strong, aloneOr, inRun, beats, between, among, choice, Picked, picked, unpicked, taking, pick}
+use Rattle.picking.specs.Runs.{plain, runs, parts, Slice, slices}
+use Rattle.picking.specs.Choice.{Ranked, ranked, skipped, excessive, counted, combined, rank, Choice, unranked, chosen, tooMany, widened, against, rankOf, best, strong, aloneOr, inRun, beats, between, among, choice, unpicked, taking, pick}
 
 -- a slice is not skipped, and its literals exceed 256
 pub excessive-is : (ts : Tokens) → (rank ts ≡ excessive) ↔ ((combinations ts ≤ 256) × (256 < length (literals ts)))
@@ -29,7 +29,7 @@ excessive-is ts = (to (ltb 256 (combinations ts)) (ltb 256 (length (literals ts)
 abbrev pub Excess : List Slice → Type 0
 Excess ss = (s : Slice) × List·Memᴰ s ss × (rankOf s ≡ excessive)
 
-best-full : (ss : List Slice) → best tooMany ss ≡ tooMany
+pub best-full : (ss : List Slice) → best tooMany ss ≡ tooMany
 unfolding best against
 best-full [] = refl
 best-full (s ∷ ss) = best-full ss

@@ -12,6 +12,7 @@ use borrow.Author.Tests.{leb-true, leb-false}
 use lib.ListN.{length, length-append}
 use Rattle.meaning.specs.Tokens.{left, right, all, Token, Tokens, Lists, Byte, NotByte, MaskedByte, NotMaskedByte, Jump, Alternatives, nothing, _then_, neither, _or_, _⊕_, Agrees, Matches, Spans, MatchesOne}
 use Rattle.meaning.specs.Values.{Bytes, SpelledOne, Spelled, SpelledFirst, SpelledMore}
+use Rattle.meaning.proofs.ValueLaws.{bytes-join}
 use Rattle.meaning.proofs.SoundLaws.{and-left, and-right, and-both, false-true}
 use Rattle.picking.specs.Literals.{isPlain, literals, listableOf, listable, listableIn, lengthOf, lengthIn, shortest, shorter}
 use Rattle.picking.specs.Runs.{closes, plainInside, plain, atFront, segmented, segments, filledOnes, firstLast, runs, parts, slices}
@@ -43,11 +44,6 @@ other-half : (v : ℕ) → v < 16 → (other v ≡ v → ⊥) × (other v < 16)
 unfolding other
 other-half v h = (λ e. omega arith, omega arith)
 
-joined : (a b : List ℕ) → Bytes a → Bytes b → Bytes (a ++ b)
-unfolding Bytes
-joined [] b h g = g
-joined (x ∷ a) b h g = (h .0, joined a b (h .1) g)
-
 reach-byte : (t : Token) → isPlain t ≡ true → SpelledOne t → Reached (Matches t) 1
 unfolding isPlain SpelledOne Matches Agrees
 reach-byte (Byte v) k w = one-byte (Matches (Byte v)) v w (v, refl, refl)
@@ -78,7 +74,7 @@ unfolding Spans
 spans-next t ts n m a b = record {
   bytes = a .bytes ++ b .bytes;
   matched = (a .bytes, b .bytes, refl, a .matched, b .matched);
-  proper = joined (a .bytes) (b .bytes) (a .proper) (b .proper);
+  proper = bytes-join (a .bytes) (b .bytes) (a .proper) (b .proper);
   long = length-append (a .bytes) (b .bytes) ∙ ap₂ (λ (x y : ℕ). x + y) (a .long) (b .long);
 }
 

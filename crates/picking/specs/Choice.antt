@@ -32,13 +32,13 @@ pub data Ranked : Type 0 where
   excessive : Ranked
 
 -- the rank is the least score less the penalty, not below 0
-unfoldable pub score : Tokens → ℕ
-score ts = least literalScore (literals ts) - penalty (combinations ts)
+unfoldable pub rankValue : Tokens → ℕ
+rankValue ts = least literalScore (literals ts) - penalty (combinations ts)
 
 -- literals that exceed 256 are refused with 17
 unfoldable pub counted : Bool → Tokens → Ranked
 counted true ts = excessive
-counted false ts = ranked (score ts)
+counted false ts = ranked (rankValue ts)
 
 -- above 256 combinations a slice is skipped
 unfoldable pub combined : Bool → Tokens → Ranked

@@ -1,10 +1,10 @@
 -- The literals of tokens, in 01's order, their combinations and their shortest length. Assumes nothing: these are definitions.
 use mathlib.Core.Bool.{Bool, true, false, not, _&&_}
 use mathlib.Core.List.{List, [], _∷_, _++_}
-use Prim.Native.Nat.{ℕ, zero, suc, _+_, _*_, _/_, _%_, _≤_, _<_, min}
+use Prim.Native.Nat.{ℕ, zero, suc, _+_, _*_, _/_, _%_, _≤_, min}
 use lib.Dec.{eqb}
 use lib.ListN.{length}
-use Rattle.meaning.specs.Tokens.{Mask, left, right, all, Token, Tokens, Lists, Byte, NotByte, MaskedByte, NotMaskedByte, Jump, Alternatives, nothing, _then_, neither, _or_}
+use Rattle.meaning.specs.Tokens.{left, right, all, Token, Tokens, Lists, Byte, NotByte, MaskedByte, NotMaskedByte, Jump, Alternatives, nothing, _then_, neither, _or_}
 
 -- a number at the front if it is to be kept
 unfoldable pub kept : Bool → ℕ → List ℕ → List ℕ
@@ -161,24 +161,6 @@ unfoldable mutual
   pub listableIn : Lists → Bool
   listableIn neither = true
   listableIn (ts or ls) = listable ts && listableIn ls
-
-unfoldable mutual
-  -- tokens at every depth
-  pub sizeOf : Token → ℕ
-  sizeOf (Byte v) = 1
-  sizeOf (NotByte v) = 1
-  sizeOf (MaskedByte v m) = 1
-  sizeOf (NotMaskedByte v m) = 1
-  sizeOf (Jump from to) = 1
-  sizeOf (Alternatives ls) = 1 + sizeIn ls
-
-  pub size : Tokens → ℕ
-  size nothing = 0
-  size (t then ts) = sizeOf t + size ts
-
-  pub sizeIn : Lists → ℕ
-  sizeIn neither = 0
-  sizeIn (ts or ls) = size ts + sizeIn ls
 
 unfoldable mutual
   -- alternatives have a list, and no list of them is empty, as everything that is read

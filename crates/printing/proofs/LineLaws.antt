@@ -12,7 +12,7 @@ use lib.Seq.{drop-cons, take-all, drop-drop}
 use Rattle.meaning.specs.Words.{fieldSize, kindOf, firstOf, secondOf, Shape, shapeBy, shape}
 use Rattle.nodes.specs.declared.Node.{Node}
 use Rattle.nodes.specs.Nodes.{shapeOf}
-use Rattle.printing.specs.Text.{ascii}
+use Rattle.base.specs.Text.{ascii}
 use Rattle.printing.specs.Laid.{each}
 use Rattle.printing.specs.Numbers.{hexOf, decimalOf}
 use Rattle.printing.specs.Lines.{blank, lineEnd, numberLine, numbersLine, byteLine, maskLine, shapeLine, nodeLine, literalLine, literalLines, cut}

@@ -1,7 +1,7 @@
 -- Laws of a whole listing: how long it can be, and the literals out of the picker's buffers. Assumes nothing.
 use mathlib.Core.Path.{_≡_, refl, ap, _∙_}
 use mathlib.Core.Bool.{Bool, true, false}
-use mathlib.Core.List.{List, [], _∷_, _++_, map, append-assoc}
+use mathlib.Core.List.{List, [], _∷_, _++_, map, append-assoc, flatten}
 use Prim.Native.Nat.{ℕ, suc, _+_, _*_, _^_, _≤_, _<_}
 use native.Mathlib.Omega.{arith}
 use lib.Dec.{leb}
@@ -11,21 +11,21 @@ use lib.Seq.{take-append-seam, drop-append-seam}
 use Rattle.printing.specs.declared.Listed.{Listed}
 use Rattle.printing.specs.declared.Listed.the-variants.{Wrote, NoRoom}
 use Rattle.printing.specs.Listed.{listedOf}
-use Rattle.printing.specs.Text.{ascii}
+use Rattle.base.specs.Text.{ascii}
 use Rattle.printing.specs.Laid.{each}
-use Rattle.printing.specs.Lines.{numberLine, nodeLine, numbersLine, programLines, literalLine, literalLines, literalsLines, joined, cut, Picked, picked, unpicked, pickedLines, literalsRefusedLine, refusedLine, programsLines, compiled, refused, listing}
+use Rattle.printing.specs.Lines.{numberLine, nodeLine, numbersLine, programLines, literalLine, literalLines, literalsLines, cut, Picked, picked, unpicked, pickedLines, literalsRefusedLine, refusedLine, programsLines, compiled, refused, listing}
 use Rattle.printing.proofs.LineLaws.{length-number, length-numbers, length-node, length-literal}
 
 -- cut by their lengths they are the literals again, whatever the buffers hold beyond
-pub cut-joined : (ls : List (List ℕ)) (rest : List ℕ) → cut (map length ls) (joined ls ++ rest) ≡ ls
-unfolding cut joined
-cut-joined [] rest = refl
-cut-joined (l ∷ ls) rest =
-    let e : (l ++ joined ls) ++ rest ≡ l ++ (joined ls ++ rest) = append-assoc l (joined ls) rest in
+pub cut-flatten : (ls : List (List ℕ)) (rest : List ℕ) → cut (map length ls) (flatten ls ++ rest) ≡ ls
+unfolding cut flatten
+cut-flatten [] rest = refl
+cut-flatten (l ∷ ls) rest =
+    let e : (l ++ flatten ls) ++ rest ≡ l ++ (flatten ls ++ rest) = append-assoc l (flatten ls) rest in
     ap (λ (x : List ℕ). take (length l) x ∷ cut (map length ls) (drop (length l) x)) e
-    ∙ ap (λ (x : List ℕ). x ∷ cut (map length ls) (drop (length l) (l ++ (joined ls ++ rest)))) (take-append-seam l (joined ls ++ rest))
-    ∙ ap (λ (x : List ℕ). l ∷ cut (map length ls) x) (drop-append-seam l (joined ls ++ rest))
-    ∙ ap (λ (x : List (List ℕ)). l ∷ x) (cut-joined ls rest)
+    ∙ ap (λ (x : List ℕ). x ∷ cut (map length ls) (drop (length l) (l ++ (flatten ls ++ rest)))) (take-append-seam l (flatten ls ++ rest))
+    ∙ ap (λ (x : List ℕ). l ∷ cut (map length ls) x) (drop-append-seam l (flatten ls ++ rest))
+    ∙ ap (λ (x : List (List ℕ)). l ∷ x) (cut-flatten ls rest)
 
 length-nodes : (ws : List ℕ) → length (each nodeLine ws) ≤ 14 * length ws
 unfolding each
@@ -42,21 +42,21 @@ length-program name ws k h =
     let b : length (each nodeLine ws) ≤ 14 * length ws = length-nodes ws in
     rw (length-append (numberLine name (length ws)) (each nodeLine ws)) (omega arith)
 
-length-lines : (ls : List (List ℕ)) → length (literalLines ls) ≡ 2 * length (joined ls) + length ls
-unfolding literalLines joined
+length-lines : (ls : List (List ℕ)) → length (literalLines ls) ≡ 2 * length (flatten ls) + length ls
+unfolding literalLines flatten
 length-lines [] = refl
-length-lines (l ∷ ls) = length-append (literalLine l) (literalLines ls) ∙ rw (length-literal l, length-lines ls, length-append l (joined ls)) (omega arith)
+length-lines (l ∷ ls) = length-append (literalLine l) (literalLines ls) ∙ rw (length-literal l, length-lines ls, length-append l (flatten ls)) (omega arith)
 
 -- what the picker gives with 32,768 bytes and 256 lengths lent
 abbrev pub Small : Picked → Type 0
-Small (picked rank ls) = (rank < 10 ^ 10) × (length ls ≤ 256) × (length (joined ls) ≤ 32768)
+Small (picked rank ls) = (rank < 10 ^ 10) × (length ls ≤ 256) × (length (flatten ls) ≤ 32768)
 Small (unpicked n) = n < 10 ^ 10
 
 length-picked : (p : Picked) → Small p → length (pickedLines p) ≤ 29 + 256 + 65536
 unfolding pickedLines literalsLines literalsRefusedLine
 length-picked (picked rank ls) (a, b, c) =
     let h : length (numbersLine (ascii "literals ") (length ls) (ascii " rank ") rank) ≤ 9 + 3 + 6 + 10 + 1 = length-numbers (ascii "literals ") (ascii " rank ") 2 9 (length ls) rank (omega arith) a in
-    let l : length (literalLines ls) ≡ 2 * length (joined ls) + length ls = length-lines ls in
+    let l : length (literalLines ls) ≡ 2 * length (flatten ls) + length ls = length-lines ls in
     rw (length-append (numbersLine (ascii "literals ") (length ls) (ascii " rank ") rank) (literalLines ls)) (omega arith)
 length-picked (unpicked n) h =
     let l : length (numberLine (ascii "literals refused ") n) ≤ 17 + 10 + 1 = length-number (ascii "literals refused ") 9 n h in

@@ -1,4 +1,3 @@
-pub mod Text
 pub mod Laid
 pub mod Numbers
 pub mod Lines

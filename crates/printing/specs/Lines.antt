@@ -4,7 +4,7 @@ use Prim.Native.Nat.{ℕ}
 use lib.ListN.{length, take, drop}
 use Rattle.meaning.specs.Programs.{Item, one, jump, range, alt, Test, byte, mask, negatedMask, any, dot}
 use Rattle.meaning.specs.Words.{Shape, item, opens, mark, wrong, shape}
-use Rattle.printing.specs.Text.{ascii}
+use Rattle.base.specs.Text.{ascii}
 use Rattle.printing.specs.Laid.{each}
 use Rattle.printing.specs.Numbers.{hexOf, decimalOf}
 
@@ -66,11 +66,7 @@ literalLines (l ∷ ls) = literalLine l ++ literalLines ls
 unfoldable pub literalsLines : ℕ → List (List ℕ) → List ℕ
 literalsLines rank ls = numbersLine (ascii "literals ") (length ls) (ascii " rank ") rank ++ literalLines ls
 
--- the bytes of all the literals, one after another; and the literals cut out of such bytes again, by their lengths (proofs/ListingLaws.antt, `cut-joined`)
-unfoldable pub joined : List (List ℕ) → List ℕ
-joined [] = []
-joined (l ∷ ls) = l ++ joined ls
-
+-- literals cut out of their bytes, which stand one after another, by their lengths (proofs/ListingLaws.antt, `cut-flatten`)
 unfoldable pub cut : List ℕ → List ℕ → List (List ℕ)
 cut [] bs = []
 cut (n ∷ ns) bs = take n bs ∷ cut ns (drop n bs)

@@ -2,7 +2,7 @@
 use mathlib.Core.Path.{_≡_, refl}
 use mathlib.Core.List.{[], _∷_, _++_}
 use Rattle.meaning.specs.Words.{shape, shapeBy, word}
-use Rattle.printing.specs.Text.{ascii}
+use Rattle.base.specs.Text.{ascii}
 use Rattle.printing.specs.Laid.{each, laid}
 use Rattle.printing.specs.Numbers.{digit, hexOf, digitsIn, decimalOf}
 use Rattle.printing.specs.Lines.{numberLine, numbersLine, byteLine, maskLine, nodeLine, programLines, literalLine, literalLines, literalsLines, refusedLine, literalsRefusedLine, picked, pickedLines, compiled, programsLines, listing}

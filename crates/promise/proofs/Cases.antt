@@ -9,9 +9,10 @@ use Rattle.meaning.specs.Tokens.{Token, Tokens, Lists, Byte, NotByte, MaskedByt
 use Rattle.meaning.specs.Programs.{Item, Prog, Branches, one, jump, range, alt, end, _▹_, stop, or as branch}
 use Rattle.compiling.specs.ProgramWords.{wordsFor, wordsOf, wordsIn, nodes}
 use Rattle.compiling.specs.Compiling as compiling
+use Rattle.compiling.specs.Compiling.{Either}
 use Rattle.compiling.specs.Compile.{refused, compile}
 use Rattle.compiling.proofs.GivenLaws.{not-simple-given, branch-too-long-given, too-many-nodes-given}
-use Rattle.promise.specs.Cases.{Far, unbounded, above, Unfit, a-jump, a-range, nested, Holds, OneHolds, this-list, other-list, Complex, far, inside, next, sizeOf, size, sizeIn, LongIn, this-branch, other-branch, Long, Large, Either}
+use Rattle.promise.specs.Cases.{Far, unbounded, above, Unfit, a-jump, a-range, nested, Holds, OneHolds, this-list, other-list, Complex, far, inside, next, sizeOf, size, sizeIn, LongIn, this-branch, other-branch, Long, Large}
 use Rattle.promise.specs.Cases as cases
 
 -- 12

@@ -17,11 +17,11 @@ use Rattle.checkdoors.specs.Doors as doors
 use Rattle.checkdoors.specs.Doors.{window, refusal, forwardSays, reverseSays, leftSays}
 use Rattle.checkdoors.proofs.DoorLaws as law
 use Rattle.checkdoors.proofs.Theorems.{forward-misses, reverse-misses, left-tail, left-nothing}
-use Rattle.promise.specs.NodeWords.{Nodes, SoundWords}
+use Rattle.promise.specs.NodeWords.{Nodes}
 use Rattle.promise.specs.Pattern.{FirstEnd, FirstStart}
 use Rattle.promise.specs.Checks.{Refuses, Forward, Reverse, Left}
 use Rattle.promise.specs.Checks as said
-use Rattle.promise.proofs.NodeWords.{sound-listed, program-listed, sound-says}
+use Rattle.promise.proofs.NodeWords.{sound-listed, not-sound, program-listed, sound-says}
 use Rattle.promise.proofs.Answers.{fine, to-first, of-first, back-fine, to-start, of-start}
 
 -- a door is asked about sound words and a window, or refuses
@@ -34,13 +34,6 @@ record Why (ws hay : List ℕ) (s e : ℕ) : Type 0 where
   number : ℕ
   listed : Refuses ws hay s e number
   tells : some number ≡ refusal ws (length hay) s e
-
-not-sound : (ws : List ℕ) → (SoundWords ws → ⊥) → false ≡ sound ws
-not-sound ws h = go (sound ws) refl
-  where
-    go : (b : Bool) → sound ws ≡ b → false ≡ sound ws
-    go true e = absurd (h (sound-listed ws .0 e))
-    go false e = sym e
 
 module _ (ws hay : List ℕ) (s e : ℕ) where
   asked : Asked ws hay s e ⊎ Why ws hay s e

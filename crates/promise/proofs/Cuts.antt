@@ -6,7 +6,7 @@ use native.Mathlib.Omega.{arith}
 use lib.ListN.{length, take, drop, length-take, length-drop, length-append, take-append-drop}
 use lib.Seq.{drop-drop, take-add, take-at, drop-at}
 use Rattle.meaning.specs.Values.{Bytes}
-use Rattle.compiling.proofs.TokenSpans.{bytes-left, bytes-right}
+use Rattle.meaning.proofs.ValueLaws.{bytes-left, bytes-right}
 use Rattle.checkdoors.specs.Doors.{window}
 
 pub part-length : (hay : List ℕ) (a b : ℕ) → a ≤ b → b ≤ length hay → length (window hay a b) ≡ b - a

@@ -8,12 +8,12 @@ use native.Mathlib.Omega.{arith}
 use native.Mathlib.Nat.{le-refl, le-trans, min-le-left, min-le-right, min-eq-left, min-eq-right}
 use lib.Dec.{leb}
 use borrow.Author.Tests.{leb-true, leb-false}
-use lib.ListN.{length}
-use Rattle.meaning.specs.Tokens.{Mask, left, right, all, Token, Tokens, Lists, Byte, NotByte, MaskedByte, NotMaskedByte, Jump, Alternatives, nothing, _then_, _or_, Matches, Spans}
+use Rattle.meaning.specs.Tokens.{Mask, left, right, all, Token, Tokens, Lists, Byte, NotByte, MaskedByte, NotMaskedByte, Jump, Alternatives, nothing, _then_, _or_, Matches}
 use Rattle.meaning.specs.Values.{Bytes, SpelledOne}
 use Rattle.meaning.proofs.SoundLaws.{and-both, false-true}
+use Rattle.meaning.proofs.TokenLaws.{one-span, span-one}
 use Rattle.picking.specs.Literals.{kept, passing, taken, isByte, isPlain, plainLists, before, _⊗_, singles, spelt, literals, listable}
-use Rattle.picking.proofs.MatchLaws.{in-singles, literals-are-spans}
+use Rattle.picking.proofs.MatchLaws.{in-singles, literals-are-spans, singles-in}
 use Rattle.picking.specs.Runs.{isAlternatives, plainInside}
 use Rattle.picking.specs.Choice.{lowest, least, byteOf, bytesOf}
 use Rattle.promise.specs.Literals.{Plain, Rising, Members, Least}
@@ -258,21 +258,9 @@ one-listable (NotMaskedByte v m) k = and-both k refl
 one-listable (Jump from to) k = false-true k
 one-listable (Alternatives ls) k = false-true k
 
-singles-in : (l : List ℕ) (b : ℕ) → List·Memᴰ b l → List·Memᴰ (b ∷ []) (singles l)
-unfolding singles
-singles-in [] b m = absurd (List·Memᴰ·not-nil m)
-singles-in (x ∷ l) b m = ⊎-elim (λ e. List·Memᴰ·head (ap (λ (y : ℕ). y ∷ []) e)) (λ q. List·Memᴰ·tail (singles-in l b q)) (List·Memᴰ·cases-cons m)
-
 one-byte : (b : ℕ) → b < 256 → Bytes (b ∷ [])
 unfolding Bytes
 one-byte b h = (h, tt)
-
-one-span : (t : Token) (b : ℕ) → Spans (t then nothing) (b ∷ []) ↔ Matches t (b ∷ [])
-unfolding Spans
-one-span t b = (
-  λ (a, c, e, m, z). subst (Matches t) (sym (e ∙ ap (λ (x : List ℕ). a ++ x) z ∙ append-nil a)) m,
-  λ m. (b ∷ [], [], refl, m, refl),
-)
 
 pub taken-members : (t : Token) → isPlain t ≡ true → SpelledOne t → Members t (taken t)
 taken-members t k w = record { rising = taken-rises t; matched = λ b. (to b, from b) }
@@ -281,11 +269,11 @@ taken-members t k w = record { rising = taken-rises t; matched = λ b. (to b, fr
     to b m =
         let h = taken-below t b w m in
         let q = subst (λ (x : List (List ℕ)). List·Memᴰ (b ∷ []) x) (sym (one-literals t k)) (singles-in (taken t) b m) in
-        (h, one-span t b .0 (literals-are-spans (t then nothing) (b ∷ []) (one-listable t k) (one-byte b h) .0 q))
+        (h, span-one t (b ∷ []) (literals-are-spans (t then nothing) (b ∷ []) (one-listable t k) (one-byte b h) .0 q))
 
     from : (b : ℕ) → (b < 256) × Matches t (b ∷ []) → List·Memᴰ b (taken t)
     from b (h, m) =
-        let q = literals-are-spans (t then nothing) (b ∷ []) (one-listable t k) (one-byte b h) .1 (one-span t b .1 m) in
+        let q = literals-are-spans (t then nothing) (b ∷ []) (one-listable t k) (one-byte b h) .1 (one-span t (b ∷ []) m) in
         let (c, e, i) = in-singles (taken t) (b ∷ []) (subst (λ (x : List (List ℕ)). List·Memᴰ (b ∷ []) x) (one-literals t k) q) in
         let g : c ≡ b = cc in
         subst (λ (x : ℕ). List·Memᴰ x (taken t)) g i

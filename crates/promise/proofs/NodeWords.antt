@@ -199,6 +199,13 @@ sound-listed ws = (
   λ s. program-sound ws (record { short-enough = s .few; program = s .program; says = nodes-say (s .nodes) }),
 )
 
+pub not-sound : (ws : List ℕ) → (SoundWords ws → ⊥) → false ≡ sound ws
+not-sound ws h = go (sound ws) refl
+  where
+    go : (b : Bool) → sound ws ≡ b → false ≡ sound ws
+    go true e = absurd (h (sound-listed ws .0 e))
+    go false e = sym e
+
 pub program-listed : {ws : List ℕ} {p : Prog} → Nodes ws p → prog ws ≡ p
 program-listed q = program-one (nodes-say q)
 

@@ -1,6 +1,6 @@
 -- The doors of reading, compiling and the mirror have the listed outcomes, and no others. Assumes nothing.
 use mathlib.Core.Path.{_≡_, refl, sym, ap, ap₂, _∙_, subst}
-use mathlib.Core.Bool.{Bool, true, false, cond, _&&_}
+use mathlib.Core.Bool.{Bool, true, false, cond, _&&_, and-false}
 use mathlib.Core.Logic.{_⊎_, inl, inr}
 use mathlib.Core.List.{List}
 use Prim.Native.Nat.{ℕ, _≤_, _<_}
@@ -19,10 +19,10 @@ use Rattle.readdoor.specs.Door as readdoor
 use Rattle.compiling.specs.Compile as tokens
 use Rattle.compiledoor.specs.Door as compiledoor
 use Rattle.mirror.specs.MirrorDoor as mirrordoor
-use Rattle.promise.specs.NodeWords.{Nodes, SoundWords}
+use Rattle.promise.specs.NodeWords.{Nodes}
 use Rattle.promise.specs.Outcomes.{Reads, Compiles, Mirrors}
 use Rattle.promise.specs.Outcomes as said
-use Rattle.promise.proofs.NodeWords.{sound-listed, program-listed, sound-says}
+use Rattle.promise.proofs.NodeWords.{sound-listed, not-sound, program-listed, sound-says}
 use Rattle.promise.proofs.OneWording.{one-wording, mirror-wording}
 
 -- reading
@@ -55,13 +55,9 @@ reads-one {t} {p} (said.Reads.accepted {reached = k} {ts = ts} h e) = read-so t 
 both-room : (p q : List ℕ) → 512 ≤ length p → 512 ≤ length q → true ≡ compiledoor.room p q
 both-room p q h g = ap₂ (λ (x y : Bool). x && y) (sym (le-leb 512 (length p) h)) (sym (le-leb 512 (length q) g))
 
-and-none : (b : Bool) → false ≡ (b && false)
-and-none true = refl
-and-none false = refl
-
 some-short : (p q : List ℕ) → (length p < 512) ⊎ (length q < 512) → false ≡ compiledoor.room p q
 some-short p q (inl h) = ap (λ (x : Bool). x && leb 512 (length q)) (sym (lt-leb 512 (length p) h))
-some-short p q (inr h) = and-none (leb 512 (length p)) ∙ ap (λ (x : Bool). leb 512 (length p) && x) (sym (lt-leb 512 (length q) h))
+some-short p q (inr h) = sym (and-false (leb 512 (length p))) ∙ ap (λ (x : Bool). leb 512 (length p) && x) (sym (lt-leb 512 (length q) h))
 
 short-some : (p q : List ℕ) (a b : Bool) → leb 512 (length p) ≡ a → leb 512 (length q) ≡ b → (a && b) ≡ false → (length p < 512) ⊎ (length q < 512)
 short-some p q false b h g e = inl (leb-false 512 (length p) h)
@@ -132,13 +128,6 @@ Mirrored ws p s u = (s ≡ mirrordoor.mirrorSays ws p) × (u ≡ mirrordoor.mirr
 by-tests : (ws p : List ℕ) (a b c : Bool) → a ≡ ltb (length p) 512 → b ≡ ltb 512 (length ws) → c ≡ sound ws → Mirrored ws p (cond a (mirrordoor.refused 18 0) (cond b (mirrordoor.refused 13 0) (cond c (mirrordoor.mirrored (length (mirrorWords ws))) (mirrordoor.refused 15 0)))) (cond a p (cond b (cleared 512 p) (cond c (filled 512 (mirrorWords ws) p) (cleared 512 p))))
 unfolding mirrordoor.mirrorSays mirrordoor.mirrorLeaves
 by-tests ws p a b c h g e = (rw (h, g, e), rw (h, g, e))
-
-not-sound : (ws : List ℕ) → (SoundWords ws → ⊥) → false ≡ sound ws
-not-sound ws h = go (sound ws) refl
-  where
-    go : (b : Bool) → sound ws ≡ b → false ≡ sound ws
-    go true e = absurd (h (sound-listed ws .0 e))
-    go false e = sym e
 
 pub mirrors-one : {ws p : List ℕ} {s : mirrordoor.Said} {u : List ℕ} → Mirrors ws p s u → (s ≡ mirrordoor.mirrorSays ws p) × (u ≡ mirrordoor.mirrorLeaves ws p)
 mirrors-one {ws} {p} (said.Mirrors.no-room h) = by-tests ws p true (ltb 512 (length ws)) (sound ws) (sym (lt-ltb (length p) 512 h)) refl refl

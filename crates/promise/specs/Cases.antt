@@ -1,10 +1,8 @@
 -- When compiling refuses, by 12, by 14 and by 13. Assumes nothing: these are definitions.
-use mathlib.Core.Logic.{_⊎_}
 use mathlib.Core.Option.{none, some}
 use Prim.Native.Nat.{ℕ, suc, _+_, _<_}
 use Rattle.meaning.specs.Tokens.{Token, Tokens, Lists, Jump, Alternatives, _then_, _or_}
 use Rattle.meaning.specs.Programs.{Item, Prog, Branches, one, jump, range, alt, end, _▹_, stop, or as branch}
-use Rattle.compiling.specs.Compiling.{forwardProgram, reverseProgram}
 
 -- 12: a jump unbounded or above 255
 pub data Far : Token → Type 0 where
@@ -60,7 +58,3 @@ pub data Long : Prog → Type 0 where
 -- 13: more than 512 nodes
 abbrev pub Large : Prog → Type 0
 Large p = 512 < size p
-
--- either program breaks the limit
-abbrev pub Either : (Prog → Type 0) → Tokens → Type 0
-Either P ts = P (forwardProgram ts) ⊎ P (reverseProgram ts)

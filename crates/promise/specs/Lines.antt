@@ -1,7 +1,7 @@
 -- The line of each node in a listing, kind by kind. Assumes nothing: these are definitions.
 use mathlib.Core.List.{List}
 use Prim.Native.Nat.{ℕ, _+_, _*_, _<_}
-use Rattle.printing.specs.Text.{ascii}
+use Rattle.base.specs.Text.{ascii}
 use Rattle.printing.specs.Lines.{blank, numberLine, numbersLine, byteLine, maskLine}
 use Rattle.promise.specs.NodeWords.{word}
 

@@ -9,6 +9,7 @@ use Rattle.base.specs.declared.Refusal.{Refusal}
 use Rattle.base.specs.declared.Refusal.the-variants.{Unexpected}
 use Rattle.meaning.specs.Tokens.{Tokens, Lists, Alternatives, neither, _or_}
 use Rattle.meaning.specs.Entries.{entry, entriesIn, entriesOf, entries, listEntries, tokenCount, listCount}
+use Rattle.meaning.proofs.TokenLaws.{count-few}
 use Rattle.reading.specs.Blanks.{skip}
 use Rattle.reading.specs.Lists.{read, stopped, isJump, asToken, beside, list, lists}
 use Rattle.reading.proofs.PieceLaws.{here-at, skip-from, skip-in}
@@ -20,7 +21,7 @@ use Rattle.reader.specs.Written.{written}
 use Rattle.reader.specs.Says.{TokenSays, ListSays, alternatives}
 use Rattle.reader.proofs.WrittenLaws.{written-none, written-append, headed}
 use Rattle.reader.proofs.SaysLaws.{list-read, list-absent, list-refused, says-read, says-refused, bracket-open}
-use Rattle.reader.proofs.Joined.{_with_, besides, besides-with, besides-read, besides-stopped, entries-with, count-with, count-le}
+use Rattle.reader.proofs.Joined.{_with_, besides, besides-with, besides-read, besides-stopped, entries-with, count-with}
 
 -- the lists ls have been read; the alternatives are these and what is read from x on
 pub record Listed (t : List ℕ) (l count at n : ℕ) (p pool : List ℕ) (x miss m c k : ℕ) : Type 0 where
@@ -70,7 +71,7 @@ module _ (t : List ℕ) (l count at n : ℕ) (p : List ℕ) where
         let w = list-gone t (l + 1) c x (z .1) in
         let y = z .2 in
         let o = z .3 in
-        let b = count-le (z .0) in
+        let b = count-few (z .0) in
         let r = inv .room in
         record { moved = w .moved; inside = w .inside; counted = w .counted; within = w .within; room = omega arith; more = omega arith; few = omega arith }
 

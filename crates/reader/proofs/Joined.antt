@@ -1,17 +1,15 @@
 -- Tokens and lists read so far, with one more at their end. Assumes nothing.
-use Prim.Native.Nat.{ℕ, suc, _+_, _≤_}
+use Prim.Native.Nat.{ℕ, suc, _+_}
 use mathlib.Core.Path.{_≡_, refl, sym, ap, _∙_}
 use mathlib.Core.Bool.{Bool, true, false, _||_, _&&_}
 use mathlib.Core.List.{List, _++_, append-assoc, append-nil}
 use native.Mathlib.Omega.{arith}
 use borrow.Author.Tests.{le-leb}
 use lib.Dec.{leb, eqb·suc-zero}
-use lib.ListN.{length, length-append}
 use Rattle.base.specs.declared.Refusal.{Refusal}
 use Rattle.meaning.specs.Tokens.{Token, Tokens, Lists, nothing, _then_, neither, _or_}
 use Rattle.meaning.specs.Entries.{entry, entriesIn, entriesOf, entries, listEntries, tokenCount, listCount}
 use Rattle.reading.specs.Lists.{Parsed, read, stopped, before, beside, isJump, begins, endsIn, ends, atBound}
-use Rattle.reading.proofs.Decoded.{words-of}
 use Rattle.reader.specs.Says.{firstOf}
 
 infixl 55 _and_
@@ -73,11 +71,6 @@ at-bound (t then nothing) = go (isJump t)
     go true = refl
     go false = refl
 at-bound (t then (u then ts)) = rw (le-leb 2 (suc (suc (tokenCount ts))) (omega arith))
-
-pub count-le : (ts : Tokens) → tokenCount ts ≤ length (entries ts)
-unfolding tokenCount entries
-count-le nothing = omega arith
-count-le (t then ts) = omega (arith, count-le ts, words-of t, length-append (entriesOf t) (entries ts))
 
 -- lists
 infixl 55 _with_

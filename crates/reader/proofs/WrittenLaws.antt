@@ -3,7 +3,7 @@ use Prim.Native.Nat.{ℕ, suc, _+_, _-_, _≤_}
 use mathlib.Core.Path.{_≡_, sym, ap, ap₂, _∙_}
 use mathlib.Core.List.{List, [], _∷_, _++_, append-assoc}
 use native.Mathlib.Omega.{arith}
-use lib.ListN.{length, take, drop, set, length-drop, length-append, take-append-drop}
+use lib.ListN.{length, take, drop, set, length-append, take-append-drop}
 use lib.Seq.{length-take-le, take-at, drop-at, drop-append-add, drop-drop, take-append-le, take-take, sets-eq}
 use Rattle.reader.specs.Written.{written}
 
@@ -21,10 +21,6 @@ written-four p n k a b c h =
     ∙ ap₂ (λ (i j : ℕ). set (set (set (set p n k) (suc n) a) i b) j c) e2 e3
     ∙ sets-eq (k ∷ a ∷ b ∷ c ∷ []) p n h
     ∙ append-assoc (take n p) (k ∷ a ∷ b ∷ c ∷ []) (drop (n + 4) p)
-
-pub length-written : (p : List ℕ) (n : ℕ) (ws : List ℕ) → n + length ws ≤ length p → length (written p n ws) ≡ length p
-unfolding written
-length-written p n ws h = simp (length-append, length-drop, length-take-le n p (omega arith)) (omega arith)
 
 pub written-append : (p : List ℕ) (n : ℕ) (ws vs : List ℕ) → n ≤ length p → written (written p n ws) (n + length ws) vs ≡ written p n (ws ++ vs)
 unfolding written

@@ -10,6 +10,7 @@ use lib.ListN.{length, take, drop, getD, length-append}
 use lib.Seq.{take-at, drop-at}
 use Rattle.meaning.specs.Tokens.{Mask, left, right, all, Token, Tokens, Lists, Byte, NotByte, MaskedByte, NotMaskedByte, Jump, Alternatives, nothing, _then_, neither, _or_}
 use Rattle.meaning.specs.Entries.{entriesOf, entries, listEntries}
+use Rattle.meaning.proofs.TokenLaws.{some-entry, fours, fours-in}
 
 maskOf : ℕ → Mask
 maskOf b = cond (eqb b 0) left (cond (eqb b 1) right all)
@@ -36,43 +37,9 @@ mutual
 pub decode : List ℕ → Tokens
 decode ws = tokensF (suc (length ws)) ws
 
--- entries are of four words
-mutual
-  unfolding entriesOf entries listEntries
-
-  fours-of : (t : Token) → (k : ℕ) × (length (entriesOf t) ≡ 4 * k)
-  fours-of (Byte v) = (1, refl)
-  fours-of (NotByte v) = (1, refl)
-  fours-of (MaskedByte v m) = (1, refl)
-  fours-of (NotMaskedByte v m) = (1, refl)
-  fours-of (Jump from none) = (1, refl)
-  fours-of (Jump from (some to)) = (1, refl)
-  fours-of (Alternatives ls) = let h = fours-in ls in let e = h .1 in (h .0 + 1, omega arith)
-
-  fours : (ts : Tokens) → (k : ℕ) × (length (entries ts) ≡ 4 * k)
-  fours nothing = (0, refl)
-  fours (t then ts) = let h = fours-of t in let g = fours ts in let e = h .1 in let d = g .1 in (h .0 + g .0, omega (arith, length-append (entriesOf t) (entries ts)))
-
-  fours-in : (ls : Lists) → (k : ℕ) × (length (listEntries ls) ≡ 4 * k)
-  fours-in neither = (0, refl)
-  fours-in (ts or ls) = let h = fours ts in let g = fours-in ls in let e = h .1 in let d = g .1 in (h .0 + g .0 + 1, omega (arith, length-append (entries ts) (listEntries ls)))
-
--- a token has an entry at least
-pub words-of : (t : Token) → 4 ≤ length (entriesOf t)
-unfolding entriesOf
-words-of (Byte v) = omega arith
-words-of (NotByte v) = omega arith
-words-of (MaskedByte v m) = omega arith
-words-of (NotMaskedByte v m) = omega arith
-words-of (Jump from none) = omega arith
-words-of (Jump from (some to)) = omega arith
-words-of (Alternatives ls) = omega arith
-
 -- the words of a part whose entries are counted, and what follows it
-part : (xs ys : List ℕ) (k : ℕ) → length xs ≡ 4 * k → (take (4 * (length xs / 4)) (xs ++ ys) ≡ xs) × (drop (4 * (length xs / 4)) (xs ++ ys) ≡ ys)
-part xs ys k e =
-    let h : length xs ≡ 4 * (length xs / 4) = omega arith in
-    (take-at xs ys (4 * (length xs / 4)) h, drop-at xs ys (4 * (length xs / 4)) h)
+part : (xs ys : List ℕ) → 4 * (length xs / 4) ≡ length xs → (take (4 * (length xs / 4)) (xs ++ ys) ≡ xs) × (drop (4 * (length xs / 4)) (xs ++ ys) ≡ ys)
+part xs ys e = (take-at xs ys (4 * (length xs / 4)) (sym e), drop-at xs ys (4 * (length xs / 4)) (sym e))
 
 mutual
   unfolding tokensF listsF flat maskOf entriesOf entries listEntries
@@ -89,8 +56,7 @@ mutual
   token-back (Jump from none) ws f h = refl
   token-back (Jump from (some to)) ws f h = refl
   token-back (Alternatives ls) ws f h =
-      let w = fours-in ls in
-      let p = part (listEntries ls) ws (w .0) (w .1) in
+      let p = part (listEntries ls) ws (fours-in ls) in
       ap₂ (λ (x y : List ℕ). Alternatives (listsF f x) then tokensF f y) (p .0) (p .1)
       ∙ ap (λ (x : Lists). Alternatives x then tokensF f ws) (lists-back ls f (omega arith))
 
@@ -100,7 +66,7 @@ mutual
   tokens-back (t then ts) zero h = absurd (omega arith)
   tokens-back (t then ts) (suc f) h =
       let l = length-append (entriesOf t) (entries ts) in
-      let g = words-of t in
+      let g = some-entry t in
       token-back t (entries ts) f (omega arith) ∙ ap (λ (x : Tokens). t then x) (tokens-back ts f (omega arith))
 
   lists-back : (ls : Lists) (f : ℕ) → length (listEntries ls) < f → listsF f (listEntries ls) ≡ ls
@@ -108,8 +74,7 @@ mutual
   lists-back neither (suc f) h = refl
   lists-back (ts or ls) zero h = absurd (omega arith)
   lists-back (ts or ls) (suc f) h =
-      let w = fours ts in
-      let p = part (entries ts) (listEntries ls) (w .0) (w .1) in
+      let p = part (entries ts) (listEntries ls) (fours ts) in
       let l = length-append (entries ts) (listEntries ls) in
       ap₂ (λ (x y : List ℕ). tokensF f x or listsF f y) (p .0) (p .1)
       ∙ ap₂ (λ (x : Tokens) (y : Lists). x or y) (tokens-back ts f (omega arith)) (lists-back ls f (omega arith))

@@ -1,6 +1,6 @@
 -- The soundness test, a word at a time: the answer for some words is the answer for what is left. Assumes nothing.
 use mathlib.Core.Path.{_≡_, refl, sym, ap, _∙_}
-use mathlib.Core.Bool.{Bool, true, false, cond, _&&_}
+use mathlib.Core.Bool.{Bool, true, false, cond, _&&_, and-false}
 use mathlib.Core.Logic.{_⊎_, inl, inr}
 use mathlib.Core.List.{List, [], _∷_}
 use Prim.Native.Nat.{ℕ, _≤_, _<_}
@@ -54,10 +54,6 @@ module _ {test part : List ℕ → Bool} {inside : ℕ → Inside} (s : Steps te
 
       pub turn-next : k ≤ length (from 1 L) → part (take k (from 1 L)) ≡ true → test (from k (from 1 L)) ≡ test L
       turn-next l g = sym (ap test cons ∙ s .fit w k (from 1 L) i ∙ rw (le-leb k (length (from 1 L)) l, g) (ap test (sym (to-end k (from 1 L)))))
-
-and-false : (a : Bool) → (a && false) ≡ false
-and-false true = refl
-and-false false = refl
 
 -- items: one that is a single word has no words inside, and no branches fill them
 module _ (w : ℕ) (ws : List ℕ) where

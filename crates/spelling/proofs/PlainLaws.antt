@@ -1,15 +1,15 @@
 -- Plain entries, lists and patterns. Assumes nothing.
-use mathlib.Core.Path.{_≡_, refl, sym, ap, ap₂, _∙_, subst}
-use mathlib.Core.Bool.{Bool, true, false, cond, not, _&&_}
+use mathlib.Core.Path.{_≡_, refl, sym, ap, ap₂, _∙_}
+use mathlib.Core.Bool.{Bool, true, false, cond, _&&_}
 use mathlib.Core.Logic.{_⊎_, inl, inr, ⊎-elim}
 use mathlib.Core.Option.{none}
-use mathlib.Core.List.{List, [], _∷_}
-use Prim.Native.Nat.{ℕ, zero, suc, _+_, _-_, _/_, _%_, _≤_, _<_}
+use mathlib.Core.List.{List, []}
+use Prim.Native.Nat.{ℕ, zero, suc, _+_, _-_, _%_, _≤_, _<_}
 use native.Mathlib.Omega.{arith}
 use lib.Dec.{eqb, ltb}
-use lib.ListN.{length, getD, take, drop}
-use borrow.Author.Tests.{eqb-true, eqb-false, eq-eqb, ne-eqb, lt-ltb, le-ltb}
-use Rattle.meaning.specs.Tokens.{Mask, left, right, all, Token, Tokens, Lists, Byte, NotByte, MaskedByte, NotMaskedByte, Jump, Alternatives, nothing, _then_, neither, _or_}
+use lib.ListN.{length, getD, drop}
+use borrow.Author.Tests.{eqb-true, eqb-false, eq-eqb, ne-eqb, le-ltb}
+use Rattle.meaning.specs.Tokens.{left, right, all, Token, Byte, NotByte, MaskedByte, NotMaskedByte, Jump, Alternatives, _or_}
 use Rattle.picking.specs.Literals.{isPlain, plainList, plainLists}
 use Rattle.picking.specs.Runs.{plainInside, plain}
 use Rattle.spelling.specs.Words.{maskIn, entryToken, firstEntry, flatIn, ends, inside, listsIn, tokenIn, width, tokensIn}
@@ -139,7 +139,7 @@ pub token-entry : (ws : List ℕ) → (getD ws 0 0 ≡ 5 → ⊥) → tokenIn ws
 unfolding tokenIn
 token-entry ws f = rw (ne-eqb (getD ws 0 0) 5 f)
 
-entry-inside : (k v m : ℕ) → plainInside (entryToken k v m) ≡ true
+pub entry-inside : (k v m : ℕ) → plainInside (entryToken k v m) ≡ true
 unfolding plainInside entryToken
 entry-inside k v m = go (eqb k 0) (eqb k 1) (eqb k 2) (eqb k 3)
   where

@@ -1,29 +1,27 @@
 -- Tokens are no more than the entries they stand in. Assumes nothing.
-use mathlib.Core.Path.{_≡_, refl, sym, ap, _∙_}
+use mathlib.Core.Path.{_≡_, refl, ap, _∙_}
 use mathlib.Core.Bool.{Bool, true, false}
-use mathlib.Core.Option.{none}
-use mathlib.Core.List.{List, [], _∷_}
+use mathlib.Core.List.{List, []}
 use Prim.Native.Nat.{ℕ, zero, suc, _+_, _-_, _*_, _≤_, _<_}
 use native.Mathlib.Omega.{arith}
 use native.Mathlib.Nat.{le-refl}
 use lib.Dec.{eqb, ltb}
-use lib.ListN.{length, getD, take, drop, length-drop, length-take}
+use lib.ListN.{length, getD, drop, length-drop}
 use borrow.Author.Tests.{eqb-true, eqb-false, ltb-true, ltb-false}
-use Rattle.meaning.specs.Tokens.{Token, Tokens, Lists, Alternatives, nothing, _then_, neither, _or_}
-use Rattle.picking.specs.Literals.{sizeOf, size, sizeIn}
-use Rattle.spelling.specs.Words.{entryToken, firstEntry, flatIn, ends, inside, listsIn, tokenIn, width, tokensIn}
+use Rattle.meaning.specs.Tokens.{totalIn, total, totals}
+use Rattle.spelling.specs.Words.{entryToken, flatIn, ends, inside, listsIn, tokenIn, width, tokensIn}
 use Rattle.spelling.proofs.StepLaws.{flat-end, flat-step, lists-end, lists-step, tokens-end, tokens-step, ends-le, ends-long, width-long, width-le, width-inside, by-entries}
 use Rattle.spelling.proofs.PlainLaws.{token-alternatives, token-entry}
 use Rattle.spelling.proofs.TallyLaws.{entry-cases, length-inside}
 
-entry-size : (k v m : ℕ) → sizeOf (entryToken k v m) ≡ 1
-unfolding sizeOf
-entry-size = entry-cases (λ t. sizeOf t ≡ 1) (λ v. refl) (λ v. refl) (λ v m. refl) (λ v m. refl) refl
+entry-size : (k v m : ℕ) → totalIn (entryToken k v m) ≡ 1
+unfolding totalIn
+entry-size = entry-cases (λ t. totalIn t ≡ 1) (λ v. refl) (λ v. refl) (λ v m. refl) (λ v m. refl) refl
 
-flat-size : (ws : List ℕ) → 4 * size (flatIn ws) ≤ length ws
-unfolding size
+flat-size : (ws : List ℕ) → 4 * total (flatIn ws) ≤ length ws
+unfolding total
 flat-size =
-    by-entries (λ ws. 4 * size (flatIn ws) ≤ length ws) (λ ws h. rw (flat-end ws h) (omega arith))
+    by-entries (λ ws. 4 * total (flatIn ws) ≤ length ws) (λ ws h. rw (flat-end ws h) (omega arith))
     (λ ws h e. rw (flat-step ws h) (let l = entry-size (getD ws 0 0) (getD ws 1 0) (getD ws 2 0) in let d = length-drop 4 ws in omega arith))
 
 -- what holds of fewer than four words, and of more where it holds of what follows a step of at least four, holds of all
@@ -39,34 +37,34 @@ by-steps step far P stop more ws = go (length ws) ws (le-refl (length ws))
         at true e f = stop w (ltb-true (length w) 4 e)
         at false e f = more w (ltb-false (length w) 4 e) (f (ltb-false (length w) 4 e))
 
-lists-size : (ws : List ℕ) → 4 * sizeIn (listsIn ws) ≤ length ws
-unfolding size
+lists-size : (ws : List ℕ) → 4 * totals (listsIn ws) ≤ length ws
+unfolding total
 lists-size =
-    by-steps ends ends-long (λ ws. 4 * sizeIn (listsIn ws) ≤ length ws) (λ ws h. rw (lists-end ws h) (omega arith))
+    by-steps ends ends-long (λ ws. 4 * totals (listsIn ws) ≤ length ws) (λ ws h. rw (lists-end ws h) (omega arith))
     (λ ws h e.
     rw (lists-step ws h)
     (let a = flat-size (inside ws) in let b = length-inside ws h in let c = ends-le ws in let f = ends-long ws h in let d = length-drop (ends ws) ws in omega arith))
 
-token-size : (ws : List ℕ) → 4 ≤ length ws → 4 * sizeOf (tokenIn ws) ≤ width ws
-unfolding sizeOf
+token-size : (ws : List ℕ) → 4 ≤ length ws → 4 * totalIn (tokenIn ws) ≤ width ws
+unfolding totalIn
 token-size ws h = go (eqb (getD ws 0 0) 5) refl
   where
-    go : (t : Bool) → eqb (getD ws 0 0) 5 ≡ t → 4 * sizeOf (tokenIn ws) ≤ width ws
+    go : (t : Bool) → eqb (getD ws 0 0) 5 ≡ t → 4 * totalIn (tokenIn ws) ≤ width ws
     go true e =
         let k = eqb-true (getD ws 0 0) 5 e in
-        let s : sizeOf (tokenIn ws) ≡ 1 + sizeIn (listsIn (inside ws)) = ap sizeOf (token-alternatives ws k) in
+        let s : totalIn (tokenIn ws) ≡ suc (totals (listsIn (inside ws))) = ap totalIn (token-alternatives ws k) in
         let a = lists-size (inside ws) in
         let b = length-inside ws h in
         let c = ends-long ws h in
         let w = width-inside ws k in
         omega arith
     go false e =
-        let s : sizeOf (tokenIn ws) ≡ 1 = ap sizeOf (token-entry ws (eqb-false (getD ws 0 0) 5 e)) ∙ entry-size (getD ws 0 0) (getD ws 1 0) (getD ws 2 0) in
+        let s : totalIn (tokenIn ws) ≡ 1 = ap totalIn (token-entry ws (eqb-false (getD ws 0 0) 5 e)) ∙ entry-size (getD ws 0 0) (getD ws 1 0) (getD ws 2 0) in
         let w = width-long ws h in
         omega arith
 
-pub tokens-size : (ws : List ℕ) → 4 * size (tokensIn ws) ≤ length ws
-unfolding size
+pub tokens-size : (ws : List ℕ) → 4 * total (tokensIn ws) ≤ length ws
+unfolding total
 tokens-size =
-    by-steps width width-long (λ ws. 4 * size (tokensIn ws) ≤ length ws) (λ ws h. rw (tokens-end ws h) (omega arith))
+    by-steps width width-long (λ ws. 4 * total (tokensIn ws) ≤ length ws) (λ ws h. rw (tokens-end ws h) (omega arith))
     (λ ws h e. rw (tokens-step ws h) (let a = token-size ws h in let b = width-le ws h in let d = length-drop (width ws) ws in omega arith))

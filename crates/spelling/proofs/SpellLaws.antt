@@ -1,25 +1,21 @@
 -- Literal number k, from the entries. Assumes nothing.
 use mathlib.Core.Path.{_≡_, refl, sym, ap, ap₂, _∙_, subst}
-use mathlib.Core.Bool.{Bool, true, false, cond}
-use mathlib.Core.Option.{none}
-use mathlib.Core.List.{List, [], _∷_, _++_, append-nil, append-assoc}
+use mathlib.Core.List.{List, [], _∷_, _++_}
 use Prim.Native.Nat.{ℕ, zero, suc, _+_, _-_, _*_, _/_, _%_, _≤_, _<_, min}
 use native.Mathlib.Omega.{arith}
-use native.Mathlib.Nat.{mul-zero, mul-one, one-mul, mul-comm, mul-assoc, le-mul-of-pos-right, mul-le-mul, zero-add, div-one, div-zero, div-div-eq-div-mul, mul-div-cancel-left, mod-lt, mod-one, le-refl}
-use lib.Dec.{eqb, ltb}
-use lib.ListN.{length, getD, take, drop, replicate, length-append, length-drop, length-replicate}
-use lib.Seq.{take-all, take-at, drop-at, drop-drop, take-suc, drop-cons}
+use native.Mathlib.Nat.{mul-zero, mul-one, one-mul, mul-comm, mul-assoc, le-mul-of-pos-right, div-one, div-div-eq-div-mul, mul-div-cancel-left, mod-lt, mod-one}
+use lib.ListN.{length, getD, take, drop, replicate, length-drop, length-replicate}
 use borrow.Author.Tests.{lt-ltb, le-ltb}
-use Rattle.meaning.specs.Tokens.{Mask, Token, Tokens, Lists, Byte, NotByte, MaskedByte, NotMaskedByte, Jump, Alternatives, nothing, _then_, neither, _or_}
+use Rattle.meaning.specs.Tokens.{Token, Tokens, Lists, Byte, NotByte, MaskedByte, NotMaskedByte, Jump, Alternatives, neither, _or_}
 use Rattle.picking.specs.Literals.{taken}
 use Rattle.picking.specs.Numbers.{countOf, count, countIn, prefixIn, prefixOf, prefixed, pieceOf, ending, pieceIn, literalAt}
 use Rattle.picking.proofs.NumberLaws.{pos-right, spelt-numbered}
-use Rattle.spelling.specs.Words.{maskIn, entryToken, firstEntry, flatIn, ends, inside, listsIn, tokenIn, width, tokensIn}
+use Rattle.spelling.specs.Words.{entryToken, firstEntry, flatIn, ends, inside, listsIn, tokenIn, width, tokensIn}
 use Rattle.spelling.proofs.StepLaws.{flat-end, flat-step, lists-end, lists-step, tokens-end, tokens-step, width-entry, by-entries}
 use Rattle.spelling.proofs.PlainLaws.{token-alternatives, token-entry}
 use Rattle.spelling.specs.Tallies.{Numerable, Past}
 use Rattle.spelling.proofs.ClassLaws.{byte-taken}
-use Rattle.spelling.proofs.TallyLaws.{entry-cases, entry-count, flat-length, token-count-entry, token-count-inside}
+use Rattle.spelling.proofs.TallyLaws.{entry-cases, entry-count, token-count-entry, token-count-inside}
 
 -- ---- lists
 
@@ -396,9 +392,6 @@ module _ (ws : List ℕ) (h : 4 ≤ length ws) (e : getD ws 0 0 ≡ 0) where
       ∙ ap (λ (x : ℕ). prefixed (tokensIn (drop (width ws) ws)) (p * countOf (tokenIn ws)) k / x) one-taken
       ∙ div-one (prefixed (tokensIn (drop (width ws) ws)) (p * countOf (tokenIn ws)) k)
       ∙ ap₂ (λ (x : ℕ) (l : List ℕ). prefixed (tokensIn l) (p * x) k) one-literal four-words ∙ ap (λ (x : ℕ). prefixed (tokensIn (drop 4 ws)) x k) (mul-one p)
-
-pub past-none : (ws : List ℕ) → Past ws ws
-past-none ws = record { short = le-refl (length ws); counted = refl; numbered = λ p k. refl }
 
 pub past-more : (ws rest : List ℕ) → Past ws rest → 4 ≤ length rest → getD rest 0 0 ≡ 0 → Past ws (drop 4 rest)
 past-more ws rest g h e =

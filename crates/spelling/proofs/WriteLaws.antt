@@ -1,12 +1,12 @@
 -- A literal that is written piece by piece. Assumes nothing.
 use mathlib.Core.Path.{_≡_, refl, sym, ap, ap₂, _∙_, subst}
-use mathlib.Core.List.{List, [], _∷_, _++_, append-nil, append-assoc}
-use Prim.Native.Nat.{ℕ, zero, suc, _+_, _-_, _≤_, _<_}
+use mathlib.Core.List.{List, [], _∷_, _++_, append-assoc}
+use Prim.Native.Nat.{ℕ, suc, _+_, _-_, _≤_, _<_}
 use native.Mathlib.Omega.{arith}
-use native.Mathlib.Nat.{add-zero}
-use lib.ListN.{length, take, drop, set, take-append-drop, length-drop, length-append, drop-of-length-le}
-use lib.Seq.{length-take-le, take-all, take-at, drop-at, drop-drop, set-at, drop-cons}
+use lib.ListN.{length, take, drop, set, take-append-drop, length-drop, length-append}
+use lib.Seq.{length-take-le, take-all, take-at, drop-at, set-at, drop-cons}
 use borrow.Rule.Slice.PartMut.{putMid}
+use Rattle.base.proofs.LentLaws.{lent-rest}
 use Rattle.spelling.specs.Tallies.{Written}
 
 -- the first i bytes of a literal are written over the first of what was there, and `left` is to come
@@ -48,17 +48,6 @@ module _ (literal piece left : List ℕ) (i : ℕ) (was is : List ℕ) (h : Half
             (sym (ap (take (i + length piece)) whole ∙ take-at (take i literal ++ piece) left (i + length piece) front));
       }
 
--- s is written so far, of what was b; a piece is written into the rest, which is lent for it
-pub lent : (s b piece buf ys : List ℕ) (k : ℕ) → length s ≡ k → buf ≡ s ++ drop k b → ys ≡ piece ++ drop (length piece) (take (length buf - k) (drop k buf)) → putMid k (length buf - k) buf ys ≡ (s ++ piece) ++ drop (k + length piece) b
-lent s b piece buf ys k ls eb ey =
-    let t : take k buf ≡ s = ap (take k) eb ∙ take-at s (drop k b) k ls in
-    let d : drop k buf ≡ drop k b = ap (drop k) eb ∙ drop-at s (drop k b) k ls in
-    let h : length (drop k buf) ≤ length buf - k = rw length-drop (omega arith) in
-    let a : take (length buf - k) (drop k buf) ≡ drop k b = take-all (length buf - k) (drop k buf) h ∙ d in
-    let z : drop (length buf - k) (drop k buf) ≡ [] = drop-of-length-le (drop k buf) h in
-    let y : ys ≡ piece ++ drop (k + length piece) b = ey ∙ ap (λ (x : List ℕ). piece ++ drop (length piece) x) a ∙ ap (λ (x : List ℕ). piece ++ x) (drop-drop (length piece) k b) in
-    ap₂ (λ (x w : List ℕ). x ++ w) t (ap₂ (λ (x w : List ℕ). x ++ w) y z ∙ append-nil _) ∙ sym (append-assoc s piece _)
-
 -- what is there has its length still
 pub half-length : (literal left : List ℕ) (i : ℕ) (was is : List ℕ) → Halfway literal left i was is → length literal ≤ length was → length is ≡ length was
 half-length literal left i was is h l =
@@ -87,7 +76,7 @@ pub piece-more : (literal piece left : List ℕ) (r i : ℕ) (was is ys : List �
 piece-more literal piece left r i was is ys h w =
     subst (λ (x : ℕ). Halfway literal left (i + x) was (putMid i (length is - i) is ys)) (sym (w .long))
     (moved literal piece left i was is h (putMid i (length is - i) is ys)
-    (lent (take i literal) was piece is ys i (length-take-le i literal (h .inside)) (h .so-far) (w .content)))
+    (lent-rest (take i literal) was piece is ys i (length-take-le i literal (h .inside)) (h .so-far) (w .content)))
 
 -- there is room for a next byte
 pub room-one : (literal left : List ℕ) (b i : ℕ) (was is : List ℕ) → Halfway literal (b ∷ left) i was is → length literal ≤ length was → i < length is

@@ -1,9 +1,9 @@
+use mathlib.Core.List.{flatten}
 use Prim.Native.Nat.{_+_, _-_, _*_, _≤_}
 use mathlib.Core.Path.{_≡_}
 use lib.ListN.{length, drop}
 use Rattle.picking.specs.Literals.{literals}
 use Rattle.spelling.specs.Words.{tokensIn}
-use Rattle.generator.specs.Output.{joined}
 use Rattle.generator.proofs.OutputLaws as law
 use native.Mathlib.Omega.{arith}
 use borrow.Author.Needs.{needs}
@@ -14,7 +14,7 @@ use Rattle.generator.proofs.total_of.Lts as lts
 use Rattle.generator.proofs.length_at.Reads as length-at-reads
 
 abbrev Inv-loop : tie.InvT-loop
-Inv-loop ws n total₀ k₀ total k = (k ≤ n) × (total ≤ 1024 * k) × (total + length (joined (drop k (literals (tokensIn ws)))) ≡ length (joined (literals (tokensIn ws))))
+Inv-loop ws n total₀ k₀ total k = (k ≤ n) × (total ≤ 1024 * k) × (total + length (flatten (drop k (literals (tokensIn ws)))) ≡ length (flatten (literals (tokensIn ws))))
 
 abbrev μ-loop : tie.MeasureT-loop
 μ-loop ws n total₀ k₀ total k = n - k

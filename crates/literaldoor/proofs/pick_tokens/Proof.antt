@@ -1,10 +1,10 @@
 use native.Mathlib.Omega.{arith}
 use borrow.Author.Needs.{needs}
+use borrow.Author.Tests.{not-true, not-false}
 use Rattle.literaldoor.proofs.DoorLaws as law
 use Rattle.literaldoor.specs.Door.{said}
 use Rattle.readdoor.proofs.Got as into
 use Rattle.chooser.proofs.BetweenLaws.{part-few}
-use Rattle.spelling.proofs.PartLaws.{not-true, not-false}
 use Rattle.literals.specs.Ranks.{choiceSays}
 use Rattle.chooser.specs.Kept.{Kept}
 use Rattle.picking.specs.Literals.{literals as literalsOf}

@@ -3,7 +3,7 @@ use mathlib.Core.Path.{sym, ap}
 use mathlib.Core.List.{_++_}
 use Prim.Native.Nat.{ℕ}
 use lib.ListN.{length}
-use Rattle.printing.specs.Text.{ascii}
+use Rattle.base.specs.Text.{ascii}
 use Rattle.printing.specs.Lines.{numbersLine, literalLines, literalsLines, cut}
 use Rattle.printing.proofs.LaidLaws.{put-then, put-same}
 use Rattle.printing.proofs.LineLaws.{length-numbers, length-cut}

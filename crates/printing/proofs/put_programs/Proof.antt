@@ -1,5 +1,5 @@
 -- One program, and then the other. Assumes nothing.
-use Rattle.printing.specs.Text.{ascii}
+use Rattle.base.specs.Text.{ascii}
 use Rattle.printing.specs.Lines.{programsLines}
 use Rattle.printing.proofs.LaidLaws.{put-then}
 use Rattle.printing.proofs.ListingLaws.{length-program}

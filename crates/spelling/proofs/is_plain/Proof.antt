@@ -11,6 +11,7 @@ use mathlib.Core.Path.{_≡_, refl, sym, ap, _∙_, subst}
 use Rattle.spelling.proofs.PlainLaws as law
 use native.Mathlib.Omega.{arith}
 use borrow.Author.Needs.{needs}
+use borrow.Author.Tests.{not-true, not-false}
 use Rattle.spelling.proofs.is_plain.Statement.{statement}
 use Rattle.spelling.proofs.is_plain.Tie as tie
 use Rattle.spelling.proofs.is_plain.Reads as reads
@@ -54,7 +55,7 @@ plain-lists-requires c κs = search needs
 
 -- src/lib.rt:154:17
 returns : tie.Need-returns Inv-loop μ-loop
-returns c = sym (c .before .before .before .before .before .before .before .loop .inv .1 ∙ law.tokens-stop (c .before .before .before .before .before .before .before .loop .rest .now) (c .before .before .before .before .before .before .loop-test .taken) (c .before .before .before .if1 .taken) ((ap (λ (x : ℕ). plainLists (listsIn (take (x - 4) (drop 4 (c .before .before .before .before .before .before .before .loop .rest .now))))) (sym (step.width-inside (c .before .before .before .before .before .before .before .loop .rest .now) (c .before .before .before .if1 .taken)) ∙ sym (c .before .before .before .before .before .width-of .ensures)) ∙ sym (c .before .plain-lists .ensures) ∙ part.not-true _ (c .if2 .taken))))
+returns c = sym (c .before .before .before .before .before .before .before .loop .inv .1 ∙ law.tokens-stop (c .before .before .before .before .before .before .before .loop .rest .now) (c .before .before .before .before .before .before .loop-test .taken) (c .before .before .before .if1 .taken) ((ap (λ (x : ℕ). plainLists (listsIn (take (x - 4) (drop 4 (c .before .before .before .before .before .before .before .loop .rest .now))))) (sym (step.width-inside (c .before .before .before .before .before .before .before .loop .rest .now) (c .before .before .before .if1 .taken)) ∙ sym (c .before .before .before .before .before .width-of .ensures)) ∙ sym (c .before .plain-lists .ensures) ∙ not-true _ (c .if2 .taken))))
 
 -- src/lib.rt:157:16
 mul-rest : tie.Need-mul-rest Inv-loop μ-loop
@@ -78,7 +79,7 @@ loop-less c = part.part-less _ (c .before .before .before .before .before .loop 
 
 -- src/lib.rt:150:5
 loop-again : tie.Need-loop-again Inv-loop μ-loop
-loop-again c = (omega (arith, part.part-le (c .before .before .before .width-of .result) (c .before .before .before .before .before .loop .rest .now)), c .before .before .before .before .before .loop .inv .1 ∙ ⊎-elim (λ w. law.tokens-inside (c .before .before .before .before .before .loop .rest .now) (c .before .before .before .before .loop-test .taken) (w .0 .taken) (ap (λ (x : ℕ). plainLists (listsIn (take (x - 4) (drop 4 (c .before .before .before .before .before .loop .rest .now))))) (sym (step.width-inside (c .before .before .before .before .before .loop .rest .now) (w .0 .taken)) ∙ sym (c .before .before .before .width-of .ensures)) ∙ sym (w .2 .ensures) ∙ part.not-false _ (w .3 .left))) (λ w. law.tokens-other (c .before .before .before .before .before .loop .rest .now) (c .before .before .before .before .loop-test .taken) (w .left)) (c .before .if1 .came) ∙ ap (λ (l : List ℕ). plain (tokensIn l)) (ap (λ (x : ℕ). drop x (c .before .before .before .before .before .loop .rest .now)) (sym (c .before .before .before .width-of .ensures)) ∙ sym (part.part-all (c .before .before .before .width-of .result) (c .before .before .before .before .before .loop .rest .now))))
+loop-again c = (omega (arith, part.part-le (c .before .before .before .width-of .result) (c .before .before .before .before .before .loop .rest .now)), c .before .before .before .before .before .loop .inv .1 ∙ ⊎-elim (λ w. law.tokens-inside (c .before .before .before .before .before .loop .rest .now) (c .before .before .before .before .loop-test .taken) (w .0 .taken) (ap (λ (x : ℕ). plainLists (listsIn (take (x - 4) (drop 4 (c .before .before .before .before .before .loop .rest .now))))) (sym (step.width-inside (c .before .before .before .before .before .loop .rest .now) (w .0 .taken)) ∙ sym (c .before .before .before .width-of .ensures)) ∙ sym (w .2 .ensures) ∙ not-false _ (w .3 .left))) (λ w. law.tokens-other (c .before .before .before .before .before .loop .rest .now) (c .before .before .before .before .loop-test .taken) (w .left)) (c .before .if1 .came) ∙ ap (λ (l : List ℕ). plain (tokensIn l)) (ap (λ (x : ℕ). drop x (c .before .before .before .before .before .loop .rest .now)) (sym (c .before .before .before .width-of .ensures)) ∙ sym (part.part-all (c .before .before .before .width-of .result) (c .before .before .before .before .before .loop .rest .now))))
 
 -- src/lib.rt:146:1
 returns-2 : tie.Need-returns-2 Inv-loop μ-loop

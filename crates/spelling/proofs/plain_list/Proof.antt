@@ -8,6 +8,7 @@ use mathlib.Core.Path.{_≡_, refl, sym, ap, _∙_, subst}
 use Rattle.spelling.proofs.PlainLaws as law
 use native.Mathlib.Omega.{arith}
 use borrow.Author.Needs.{needs}
+use borrow.Author.Tests.{not-true, not-false}
 use Rattle.spelling.proofs.plain_list.Statement.{statement}
 use Rattle.spelling.proofs.plain_list.Tie as tie
 use Rattle.spelling.proofs.plain_list.Reads as reads
@@ -38,7 +39,7 @@ plain-entry-requires c κs = search needs
 
 -- src/lib.rt:124:13
 returns : tie.Need-returns Inv-loop μ-loop
-returns c = sym (c .before .before .before .before .before .loop .inv ∙ law.list-stop (c .before .before .before .before .before .loop .rest .now) (c .before .before .before .before .loop-test .taken) (sym (c .before .plain-entry .ensures) ∙ part.not-true _ (c .if1 .taken)))
+returns c = sym (c .before .before .before .before .before .loop .inv ∙ law.list-stop (c .before .before .before .before .before .loop .rest .now) (c .before .before .before .before .loop-test .taken) (sym (c .before .plain-entry .ensures) ∙ not-true _ (c .if1 .taken)))
 
 -- src/lib.rt:126:16
 sub-rest : tie.Need-sub-rest Inv-loop μ-loop
@@ -58,7 +59,7 @@ loop-less c = part.part-less 4 (c .before .before .before .before .before .befor
 
 -- src/lib.rt:122:5
 loop-again : tie.Need-loop-again Inv-loop μ-loop
-loop-again c = c .before .before .before .before .before .before .loop .inv ∙ law.list-more (c .before .before .before .before .before .before .loop .rest .now) (c .before .before .before .before .before .loop-test .taken) (sym (c .before .before .plain-entry .ensures) ∙ part.not-false _ (c .before .if1 .left)) ∙ ap (λ (l : List ℕ). plainList (flatIn l)) (sym (part.part-all 4 (c .before .before .before .before .before .before .loop .rest .now)))
+loop-again c = c .before .before .before .before .before .before .loop .inv ∙ law.list-more (c .before .before .before .before .before .before .loop .rest .now) (c .before .before .before .before .before .loop-test .taken) (sym (c .before .before .plain-entry .ensures) ∙ not-false _ (c .before .if1 .left)) ∙ ap (λ (l : List ℕ). plainList (flatIn l)) (sym (part.part-all 4 (c .before .before .before .before .before .before .loop .rest .now)))
 
 -- src/lib.rt:118:1
 returns-2 : tie.Need-returns-2 Inv-loop μ-loop

@@ -9,6 +9,7 @@ use mathlib.Core.Path.{_≡_, refl, sym, ap, _∙_, subst}
 use Rattle.spelling.proofs.PlainLaws as law
 use native.Mathlib.Omega.{arith}
 use borrow.Author.Needs.{needs}
+use borrow.Author.Tests.{not-true, not-false}
 use Rattle.spelling.proofs.plain_lists.Statement.{statement}
 use Rattle.spelling.proofs.plain_lists.Tie as tie
 use Rattle.spelling.proofs.plain_lists.Reads as reads
@@ -48,7 +49,7 @@ plain-list-requires c κs = search needs
 
 -- src/lib.rt:138:13
 returns : tie.Need-returns Inv-loop μ-loop
-returns c = sym (c .before .before .before .before .before .loop .inv .1 ∙ law.lists-stop (c .before .before .before .before .before .loop .rest .now) (c .before .before .before .before .loop-test .taken) (ap (λ (x : ℕ). plainList (flatIn (take (x - 4) (drop 4 (c .before .before .before .before .before .loop .rest .now))))) (sym (c .before .before .before .end-of .ensures)) ∙ sym (c .before .plain-list .ensures) ∙ part.not-true _ (c .if1 .taken)))
+returns c = sym (c .before .before .before .before .before .loop .inv .1 ∙ law.lists-stop (c .before .before .before .before .before .loop .rest .now) (c .before .before .before .before .loop-test .taken) (ap (λ (x : ℕ). plainList (flatIn (take (x - 4) (drop 4 (c .before .before .before .before .before .loop .rest .now))))) (sym (c .before .before .before .end-of .ensures)) ∙ sym (c .before .plain-list .ensures) ∙ not-true _ (c .if1 .taken)))
 
 -- src/lib.rt:140:16
 mul-rest : tie.Need-mul-rest Inv-loop μ-loop
@@ -72,7 +73,7 @@ loop-less c = part.part-less _ (c .before .before .before .before .before .befor
 
 -- src/lib.rt:135:5
 loop-again : tie.Need-loop-again Inv-loop μ-loop
-loop-again c = (omega (arith, part.part-le (c .before .before .before .before .end-of .result) (c .before .before .before .before .before .before .loop .rest .now)), c .before .before .before .before .before .before .loop .inv .1 ∙ law.lists-more (c .before .before .before .before .before .before .loop .rest .now) (c .before .before .before .before .before .loop-test .taken) (ap (λ (x : ℕ). plainList (flatIn (take (x - 4) (drop 4 (c .before .before .before .before .before .before .loop .rest .now))))) (sym (c .before .before .before .before .end-of .ensures)) ∙ sym (c .before .before .plain-list .ensures) ∙ part.not-false _ (c .before .if1 .left)) ∙ ap (λ (l : List ℕ). plainLists (listsIn l)) (ap (λ (x : ℕ). drop x (c .before .before .before .before .before .before .loop .rest .now)) (sym (c .before .before .before .before .end-of .ensures)) ∙ sym (part.part-all (c .before .before .before .before .end-of .result) (c .before .before .before .before .before .before .loop .rest .now))))
+loop-again c = (omega (arith, part.part-le (c .before .before .before .before .end-of .result) (c .before .before .before .before .before .before .loop .rest .now)), c .before .before .before .before .before .before .loop .inv .1 ∙ law.lists-more (c .before .before .before .before .before .before .loop .rest .now) (c .before .before .before .before .before .loop-test .taken) (ap (λ (x : ℕ). plainList (flatIn (take (x - 4) (drop 4 (c .before .before .before .before .before .before .loop .rest .now))))) (sym (c .before .before .before .before .end-of .ensures)) ∙ sym (c .before .before .plain-list .ensures) ∙ not-false _ (c .before .if1 .left)) ∙ ap (λ (l : List ℕ). plainLists (listsIn l)) (ap (λ (x : ℕ). drop x (c .before .before .before .before .before .before .loop .rest .now)) (sym (c .before .before .before .before .end-of .ensures)) ∙ sym (part.part-all (c .before .before .before .before .end-of .result) (c .before .before .before .before .before .before .loop .rest .now))))
 
 -- src/lib.rt:131:1
 returns-2 : tie.Need-returns-2 Inv-loop μ-loop

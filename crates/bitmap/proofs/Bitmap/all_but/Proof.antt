@@ -1,7 +1,6 @@
 use lib.Dec.{eqb}
-use Rattle.bitmap.proofs.Table.{or-false}
 use mathlib.Core.Path.{_∙_, ap}
-use mathlib.Core.Bool.{Bool, not, _||_}
+use mathlib.Core.Bool.{Bool, not, _||_, or-false}
 use borrow.Author.Needs.{needs}
 use Rattle.bitmap.proofs.Bitmap.all_but.Statement.{statement}
 use Rattle.bitmap.proofs.Bitmap.all_but.Tie as tie

@@ -70,5 +70,5 @@ pub samples-hold :
     × (pick (Byte 0x41 then Byte 0x42 then Alternatives ((Byte 0x11 then Byte 0 then Byte 0 then Byte 0 then nothing) or (Byte 0 then Byte 0 then Byte 0 then Byte 0x12 then nothing) or neither)
     then Byte 0x43 then Byte 0x44 then nothing)
     ≡ picked 60 ((0x41 ∷ 0x42 ∷ 0x11 ∷ 0 ∷ 0 ∷ 0 ∷ 0x43 ∷ 0x44 ∷ []) ∷ (0x41 ∷ 0x42 ∷ 0 ∷ 0 ∷ 0 ∷ 0x12 ∷ 0x43 ∷ 0x44 ∷ []) ∷ []))
-unfolding Choice.pick Choice.taking Choice.choice Choice.among Choice.between Choice.beats Choice.least Choice.lowest Choice.inRun Choice.aloneOr Choice.strong Choice.bytesOf Choice.byteOf Choice.best Choice.rankOf Choice.against Choice.widened Choice.rank Choice.combined Choice.counted Choice.score Choice.penalty Runs.slices Runs.longer Runs.literalOnly Runs.parts Runs.partBefore Runs.joins Runs.isLiteral Runs.runs Runs.firstLast Runs.filledOnes Runs.segments Runs.segmented Runs.atFront Runs.plain Runs.plainInside Runs.isAlternatives Literals.taken Literals.passing Literals.kept Literals.isByte Literals.isPlain Literals.plainList Literals.plainLists Literals.before Literals._⊗_ Literals.singles Literals.spelt Literals.combinations Literals.lengthIn _⊕_ isAmong common byteScore windowScore highest literalScore
+unfolding Choice.pick Choice.taking Choice.choice Choice.among Choice.between Choice.beats Choice.least Choice.lowest Choice.inRun Choice.aloneOr Choice.strong Choice.bytesOf Choice.byteOf Choice.best Choice.rankOf Choice.against Choice.widened Choice.rank Choice.combined Choice.counted Choice.rankValue Choice.penalty Runs.slices Runs.longer Runs.literalOnly Runs.parts Runs.partBefore Runs.joins Runs.isLiteral Runs.runs Runs.firstLast Runs.filledOnes Runs.segments Runs.segmented Runs.atFront Runs.plain Runs.plainInside Runs.isAlternatives Literals.taken Literals.passing Literals.kept Literals.isByte Literals.isPlain Literals.plainList Literals.plainLists Literals.before Literals._⊗_ Literals.singles Literals.spelt Literals.combinations Literals.lengthIn _⊕_ isAmong common byteScore windowScore highest literalScore
 samples-hold = (refl, refl, refl, refl, refl, refl, refl, refl, refl, refl, refl, refl, refl, refl, refl, refl, refl, refl)
