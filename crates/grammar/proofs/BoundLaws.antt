@@ -20,7 +20,7 @@ no-jump (NotMaskedByte v m) h = tt
 no-jump (Jump from to) h = never (cc)
 no-jump (Alternatives ls) h = tt
 
-is-no-jump : (tok : Token) → NoJump tok → isJump tok ≡ false
+pub is-no-jump : (tok : Token) → NoJump tok → isJump tok ≡ false
 unfolding isJump NoJump
 is-no-jump (Byte v) h = refl
 is-no-jump (NotByte v) h = refl

@@ -1,22 +1,22 @@
 -- The reader accepts exactly what the grammar derives, with the same tokens and the same offset; a text has one meaning at most; and one that has
--- none is refused as crate reading says. Assumes nothing.
+-- none has a fault. Assumes nothing.
 use mathlib.Core.Path.{_≡_, refl, sym, subst, subst₂}
-use mathlib.Core.Logic.{_↔_}
-use mathlib.Core.List.{List, [], _∷_, _++_}
+use mathlib.Core.Logic.{_↔_, _⊎_, inl, inr}
+use mathlib.Core.List.{List, _++_}
 use Prim.Native.Nat.{ℕ, _≤_}
 use lib.ListN.{length}
 use Rattle.base.specs.declared.Refusal.{Refusal}
 use Rattle.meaning.specs.Tokens.{Tokens}
-use Rattle.reading.specs.Given.{Given}
-use Rattle.reading.specs.Lists.{accepted, rejected, reading}
-use Rattle.reading.proofs.GivenLaws.{given-exactly}
+use Rattle.reading.specs.Lists.{Outcome, accepted, rejected, reading}
 use Rattle.grammar.specs.Grammar as rule
 use Rattle.grammar.specs.Grammar.{Derives}
-use Rattle.grammar.proofs.Spelling.{_⨾_, NoBlank, SpellsString, SpellsText, Spelled, depth}
-use Rattle.grammar.proofs.RulesSpell.{blank-spells, mark-spells, outer-spells}
-use Rattle.grammar.proofs.SpellingDerived.{parts, blank-derived, mark-derived, outer-derived}
-use Rattle.grammar.proofs.TextRead.{reading-spells, rejected-unspelled, unspelled-rejected}
+use Rattle.grammar.specs.Faults.{Fault}
+use Rattle.grammar.proofs.Spelling.{_⨾_, SpellsString, SpellsText, Spelled, depth}
+use Rattle.grammar.proofs.RulesSpell.{mark-spells, outer-spells}
+use Rattle.grammar.proofs.SpellingDerived.{parts, clear-spells, clear-derived, mark-derived, outer-derived}
+use Rattle.grammar.proofs.TextRead.{reading-spells, rejected-unspelled}
 use Rattle.grammar.proofs.OneSpelling.{spelled-once}
+use Rattle.grammar.proofs.FaultLaws.{fault-exactly}
 
 pattern-spells : {ts : Tokens} {s : List ℕ} → rule.Pattern ts s → SpellsString ts s × (depth ts ≤ 8)
 unfolding SpellsString _⨾_
@@ -27,17 +27,6 @@ unfolding SpellsString _⨾_
 pattern-derived ts s p d =
     let q = p .4 in
     subst (rule.Pattern ts) (sym (parts (p .0) (p .2) (q .2))) (rule.pattern (mark-derived "{" (p .0) (p .3)) (outer-derived ts (q .0) (q .3) d) (mark-derived "}" (q .1) (q .4)))
-
--- no blank follows
-clear-spells : {r : List ℕ} → rule.Clear r → NoBlank r
-unfolding NoBlank
-clear-spells rule.end = tt
-clear-spells (rule.other {c = c} h) = λ b. h (blank-derived c b)
-
-clear-derived : (r : List ℕ) → NoBlank r → rule.Clear r
-unfolding NoBlank
-clear-derived [] n = rule.end
-clear-derived (c ∷ r) n = rule.other (λ b. n (blank-spells b))
 
 derives-spelled : {t : List ℕ} {e : ℕ} {ts : Tokens} → Derives t e ts → Spelled t e ts
 unfolding SpellsText
@@ -68,12 +57,14 @@ derived-once t e e′ ts ts′ d d′ = spelled-once t e e′ ts ts′ (derives-
 pub rejected-underivable : (t : List ℕ) (r : Refusal) (p : ℕ) → reading t ≡ rejected r p → (e : ℕ) (ts : Tokens) → Derives t e ts → ⊥
 rejected-underivable t r p h e ts d = rejected-unspelled t r p e ts h (derives-spelled d)
 
--- one that is not derivable is refused, and the refusal is in its case
-pub underivable-given : (t : List ℕ) → ((e : ℕ) (ts : Tokens) → Derives t e ts → ⊥) → (r : Refusal) × (p : ℕ) × (reading t ≡ rejected r p) × Given t r p
-underivable-given t k =
-    let x = unspelled-rejected t (λ e ts s. k e ts (spelled-derives t e ts s)) in
-    (x .0, x .1, x .2, given-exactly t (x .0) (x .1) .0 (x .2))
+-- each text is derivable, or has a fault
+pub derived-or-fault : (t : List ℕ) → ((e : ℕ) × (ts : Tokens) × Derives t e ts) ⊎ ((r : Refusal) × (p : ℕ) × Fault t r p)
+derived-or-fault t = go (reading t) refl
+  where
+    go : (o : Outcome) → reading t ≡ o → ((e : ℕ) × (ts : Tokens) × Derives t e ts) ⊎ ((r : Refusal) × (p : ℕ) × Fault t r p)
+    go (accepted e ts) h = inl (e, ts, accepted-derived t e ts h)
+    go (rejected r p) h = inr (r, p, fault-exactly t r p .0 h)
 
--- and where a refusal is in its case, nothing is derivable
-pub given-underivable : (t : List ℕ) (r : Refusal) (p : ℕ) → Given t r p → (e : ℕ) (ts : Tokens) → Derives t e ts → ⊥
-given-underivable t r p g = rejected-underivable t r p (given-exactly t r p .1 g)
+-- and not both
+pub fault-underivable : (t : List ℕ) (r : Refusal) (p : ℕ) → Fault t r p → (e : ℕ) (ts : Tokens) → Derives t e ts → ⊥
+fault-underivable t r p f = rejected-underivable t r p (fault-exactly t r p .1 f)

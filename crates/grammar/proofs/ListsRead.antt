@@ -15,7 +15,7 @@ use Rattle.reading.specs.Pieces.{found, absent, within, digit, plainAt}
 use Rattle.reading.specs.Lists.{Parsed, read, missing, tokenOr, asToken, bracketed, before, listOf, beside, token, more, list, lists}
 use Rattle.reading.proofs.ListSteps.{token-step, more-read, more-none, list-of, lists-closed, lists-barred}
 use Rattle.grammar.proofs.Spelling.{_⨾_, NoBlank, Bounded, SpellsToken, SpellsTokens, SpellsLists, SpellsRest, SpellsList, Marked, depthIn, depth, depths}
-use Rattle.grammar.proofs.Standing.{cut, here-is}
+use Rattle.grammar.proofs.Standing.{after, cut, here-is}
 use Rattle.grammar.proofs.Fronts.{Opens, opens-clear, opens-seq, cons-clear, mark-opens, token-opens, tokens-clear, marked-form, mark-seen}
 use Rattle.grammar.proofs.PiecesSpelled.{Plain}
 use Rattle.grammar.proofs.PiecesRead.{plain-found, plain-absent}
@@ -54,7 +54,7 @@ token-missing t level count at c h k =
     ∙ rw (none-at t (ltb 1 level) at c h k) (no-bracket t at count c (lists t (level + 1) (count + 1) (skip t (at + 1)) (skip t (at + 1))) h k)
 
 -- a token other than alternatives
-token-found : (t : List ℕ) (level count at : ℕ) (tok : Token) (s e : ℕ) → plainAt t (ltb 1 level) at ≡ found tok s e → count < 512 → token t level count at ≡ read tok e (count + 1)
+pub token-found : (t : List ℕ) (level count at : ℕ) (tok : Token) (s e : ℕ) → plainAt t (ltb 1 level) at ≡ found tok s e → count < 512 → token t level count at ≡ read tok e (count + 1)
 unfolding tokenOr
 token-found t level count at tok s e h l = token-step t level count at ∙ rw (h, lt-ltb count 512 l) refl
 
@@ -67,7 +67,7 @@ token-bracketed t level count at x ls e c h s l k =
     ∙ rw (plain-absent t (ltb 1 level) at 40 h (no-digits .3) (omega arith) (omega arith) (omega arith), h, s, lt-ltb count 512 l, k) refl
 
 -- a list
-list-bounded : (t : List ℕ) (level count at : ℕ) (ts : Tokens) (e c : ℕ) → level ≤ 8 → Bounded ts → more t level count at ≡ read ts e c → list t level count at ≡ read ts e c
+pub list-bounded : (t : List ℕ) (level count at : ℕ) (ts : Tokens) (e c : ℕ) → level ≤ 8 → Bounded ts → more t level count at ≡ read ts e c → list t level count at ≡ read ts e c
 unfolding listOf Bounded
 list-bounded t level count at nothing e c l b h = absurd b
 list-bounded t level count at (tok then ts) e c l b h = list-of t level count at l ∙ rw (h, is-bounded tok ts b) refl
@@ -89,7 +89,7 @@ rest-form (ts or ls) w p =
 pub rest-opens : (ls : Lists) (w : List ℕ) → SpellsRest ls w → Opens w
 rest-opens ls w p = let f = rest-form ls w p in (f .0, f .1, f .2, closer-high (f .0) (f .3))
 
--- what is to be shown of a token, of tokens before what ends them, of lists, and of what follows a list in brackets:
+-- what is to be shown of a token, of tokens that no token follows, of lists, and of what follows a list in brackets:
 -- with levels left and tokens to spare, it is read whole
 abbrev pub TokenRead : Token → Type 0
 TokenRead tok =
@@ -98,8 +98,8 @@ TokenRead tok =
 
 abbrev pub MoreRead : Tokens → Type 0
 MoreRead ts =
-    (t : List ℕ) (level count at : ℕ) (w : List ℕ) (c : ℕ) (r : List ℕ) → drop at t ≡ w ++ (c ∷ r) → Closer c → SpellsTokens (ltb 1 level) ts w → 1 ≤ level
-    → level + depth ts ≤ 9 → count + total ts ≤ 512 → more t level count at ≡ read ts (at + length w) (count + total ts)
+    (t : List ℕ) (level count at : ℕ) (w r : List ℕ) → drop at t ≡ w ++ r → NoBlank r → token t level (count + total ts) (at + length w) ≡ missing → SpellsTokens (ltb 1 level) ts w
+    → 1 ≤ level → level + depth ts ≤ 9 → count + total ts ≤ 512 → more t level count at ≡ read ts (at + length w) (count + total ts)
 
 abbrev pub ListsRead : Lists → Type 0
 ListsRead ls =
@@ -143,25 +143,25 @@ alternatives-read ls k t level count at w r h q p l d n =
 
 end-read : MoreRead nothing
 unfolding SpellsTokens total
-end-read t level count at w c r h k p l d n =
-    let i : drop at t ≡ c ∷ r = h ∙ ap (λ (s : List ℕ). s ++ (c ∷ r)) p in
+end-read t level count at w r h q k p l d n =
     let j : length w ≡ 0 = ap (λ (s : List ℕ). length s) p in
     let e : at ≡ at + length w = omega arith in
     let y : count ≡ count + 0 = omega arith in
-    more-none t level count at (token-missing t level count at c (here-is t at c r i) k) ∙ ap₂ (λ (x z : ℕ). read nothing x z) e y
+    more-none t level count at (ap₂ (λ (c x : ℕ). token t level c x) y e ∙ k) ∙ ap₂ (λ (x z : ℕ). read nothing x z) e y
 
 then-read : (tok : Token) (ts : Tokens) → TokenRead tok → MoreRead ts → MoreRead (tok then ts)
 unfolding SpellsTokens _⨾_ total depth before
-then-read tok ts x y t level count at w c r h k p l d n =
+then-read tok ts x y t level count at w r h q k p l d n =
     let a = p .0 in
     let b = p .1 in
-    let s = cut t at w a b (c ∷ r) h (p .2) in
+    let s = cut t at w a b r h (p .2) in
     let v : length w ≡ length a + length b = s .2 in
     let e : at + length a + length b ≡ at + length w = omega arith in
     let z : count + totalIn tok + total ts ≡ count + (totalIn tok + total ts) = omega arith in
-    let clear : NoBlank (b ++ (c ∷ r)) = tokens-clear (ltb 1 level) ts b (c ∷ r) (p .4) (cons-clear c r (closer-high c k)) in
-    more-read t level count at (x t level count at a (b ++ (c ∷ r)) (s .0) clear (p .3) l (omega arith) (omega arith))
-    ∙ ap (before tok) (y t level (count + totalIn tok) (at + length a) b c r (s .1) k (p .4) l (omega arith) (omega arith))
+    let clear : NoBlank (b ++ r) = tokens-clear (ltb 1 level) ts b r (p .4) q in
+    more-read t level count at (x t level count at a (b ++ r) (s .0) clear (p .3) l (omega arith) (omega arith))
+    ∙ ap (before tok)
+    (y t level (count + totalIn tok) (at + length a) b r (s .1) q (ap₂ (λ (c u : ℕ). token t level c u) z e ∙ k) (p .4) l (omega arith) (omega arith))
     ∙ ap₂ (λ (u q : ℕ). read (tok then ts) u q) e z
 
 -- a list before what ends it
@@ -169,7 +169,9 @@ list-read : (ts : Tokens) → MoreRead ts → (t : List ℕ) (level count at : �
     → Bounded ts → 1 ≤ level → level + depth ts ≤ 9 → count + total ts ≤ 512 → list t level count at ≡ read ts (at + length w) (count + total ts)
 list-read ts x t level count at w c r h k p b l d n =
     let i : 1 ≤ depth ts = depth-some ts in
-    list-bounded t level count at ts (at + length w) (count + total ts) (omega arith) b (x t level count at w c r h k p l d n)
+    let m : token t level (count + total ts) (at + length w) ≡ missing =
+    token-missing t level (count + total ts) (at + length w) c (here-is t (at + length w) c r (after t at w (c ∷ r) h)) k in
+    list-bounded t level count at ts (at + length w) (count + total ts) (omega arith) b (x t level count at w (c ∷ r) h (cons-clear c r (closer-high c k)) m p l d n)
 
 -- a list in brackets and what follows it
 both-read : (ts : Tokens) (ls : Lists) → MoreRead ts → RestRead ls → (t : List ℕ) (level count at miss : ℕ) (w r : List ℕ) → drop at t ≡ w ++ r → NoBlank r → Bounded ts
@@ -222,7 +224,7 @@ lists-read ts ls x y t level count at miss w r h q p l d n = both-read ts ls x y
 mutual
   unfolding Plain
 
-  token-is-read : (tok : Token) → TokenRead tok
+  pub token-is-read : (tok : Token) → TokenRead tok
   token-is-read (Byte v) = plain-read (Byte v) tt
   token-is-read (NotByte v) = plain-read (NotByte v) tt
   token-is-read (MaskedByte v m) = plain-read (MaskedByte v m) tt

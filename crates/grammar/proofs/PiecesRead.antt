@@ -78,12 +78,12 @@ unfolding Blanks
 blanks-front [] c r p h = (c, r, refl, h)
 blanks-front (x ∷ b) c r p h = (x, b ++ (c ∷ r), refl, below-within 48 57 x (blank-low x (p .0)))
 
-numeral-front : (n : ℕ) (d : List ℕ) → Numeral n d → (c : ℕ) × (u : List ℕ) × (d ≡ c ∷ u) × (within 48 57 c ≡ true)
-unfolding Numeral Decimals
-numeral-front n [] p = let z : 0 < 0 = p .1 in absurd (omega arith)
-numeral-front n (c ∷ u) p = (c, u, refl, in-within 48 57 c (p .0 .0) (p .0 .1))
+pub digits-front : (d : List ℕ) → Decimals d → 0 < length d → (c : ℕ) × (u : List ℕ) × (d ≡ c ∷ u) × (within 48 57 c ≡ true)
+unfolding Decimals
+digits-front [] p h = let z : 0 < 0 = h in absurd (omega arith)
+digits-front (c ∷ u) p h = (c, u, refl, in-within 48 57 c (p .0) (p .1))
 
-number-seen : (t : List ℕ) (at n : ℕ) (w : List ℕ) (c : ℕ) (r : List ℕ) → drop at t ≡ w ++ (c ∷ r) → Number n w → within 48 57 c ≡ false → 33 ≤ c
+pub number-seen : (t : List ℕ) (at n : ℕ) (w : List ℕ) (c : ℕ) (r : List ℕ) → drop at t ≡ w ++ (c ∷ r) → Number n w → within 48 57 c ≡ false → 33 ≤ c
     → (s : ℕ) × (numberAt t at ≡ found n s (at + length w))
 unfolding Number Spaced _⨾_ Numeral
 number-seen t at n w c r h p z y =
@@ -93,7 +93,7 @@ number-seen t at n w c r h p z y =
     let g = cut t at w d b (c ∷ r) h (p .2) in
     let x = blanks-front b c r (p .4) z in
     let i : drop at t ≡ d ++ (x .0 ∷ x .1) = g .0 ∙ ap (λ (s : List ℕ). d ++ s) (x .2) in
-    let f = numeral-front n d m in
+    let f = digits-front d (m .0) (m .1) in
     let k : decimals (drop at t) ≡ length d = ap decimals i ∙ digits-count d (x .1) (x .0) (x .3) (m .0) in
     let v : numeral 0 (drop at t) ≡ 0 * 10 ^ length d + value d = ap (numeral 0) i ∙ digits-value 0 d (x .1) (x .0) (x .3) (m .0) in
     let u : n ≡ value d = m .2 in
@@ -105,11 +105,11 @@ number-seen t at n w c r h p z y =
     (at + length d, number-found t at (ap (within 48 57) a ∙ f .3) o (ap (λ (q : ℕ). at + q) k) (m .3) ∙ ap (λ (q : ℕ). found n (at + length d) q) e)
 
 -- jumps: the number before the dash, or none
-no-digit-45 : within 48 57 45 ≡ false
+pub no-digit-45 : within 48 57 45 ≡ false
 unfolding within
 no-digit-45 = refl
 
-no-digit-93 : within 48 57 93 ≡ false
+pub no-digit-93 : within 48 57 93 ≡ false
 unfolding within
 no-digit-93 = refl
 

@@ -87,7 +87,7 @@ decimals-some : (c : ℕ) (s : List ℕ) → within 48 57 c ≡ true → 0 < dec
 unfolding decimals
 decimals-some c s h = rw h (omega arith)
 
-decimals-here : (t : List ℕ) (at : ℕ) → within 48 57 (here t at) ≡ true → 0 < decimals (drop at t)
+pub decimals-here : (t : List ℕ) (at : ℕ) → within 48 57 (here t at) ≡ true → 0 < decimals (drop at t)
 decimals-here t at h =
     let w = within-true 48 57 (here t at) h in
     let p : 0 < here t at = omega arith in
@@ -105,7 +105,7 @@ numeral-stands t at h l =
     let v : numeral 0 (drop at t) ≡ 0 * 10 ^ length (p .0) + value (p .0) = p .5 in
     stands (Numeral (numeral 0 (drop at t))) t at (at + decimals (drop at t)) (p .0) (p .1) (p .2) (omega arith) (p .3, omega arith, omega arith, l)
 
-number-sound : (t : List ℕ) (at : ℕ) → Sound Number t at (numberAt t at)
+pub number-sound : (t : List ℕ) (at : ℕ) → Sound Number t at (numberAt t at)
 unfolding Sound numberAt Number
 number-sound t at = go (within 48 57 (here t at)) (leb (numeral 0 (drop at t)) 4294967295) refl refl
   where

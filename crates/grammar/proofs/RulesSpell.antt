@@ -64,7 +64,7 @@ digit-after (c ∷ s) v h p =
     let q : 10 ^ suc (length s) ≡ 10 ^ length s * 10 = pow-suc 10 (length s) in
     ((p .0, p .1, i .0), rw (l, q, e) (omega arith))
 
-numeral-spells : {n : ℕ} {s : List ℕ} → rule.Numeral n s → Decimals s × (0 < length s) × (n ≡ value s)
+pub numeral-spells : {n : ℕ} {s : List ℕ} → rule.Numeral n s → Decimals s × (0 < length s) × (n ≡ value s)
 unfolding Decimals value
 numeral-spells (rule.digit {v = v} h) = ((omega arith, omega arith, tt), omega arith, omega arith)
 numeral-spells (rule.digits {n = n} {v = v} {s = s} p h) =
@@ -75,7 +75,7 @@ numeral-spells (rule.digits {n = n} {v = v} {s = s} p h) =
     let f : value (s ++ ((48 + v) ∷ [])) ≡ 10 * value s + v = j .1 in
     (j .0, omega arith, omega arith)
 
-number-spells : {n : ℕ} {s : List ℕ} → rule.Number n s → Number n s
+pub number-spells : {n : ℕ} {s : List ℕ} → rule.Number n s → Number n s
 unfolding Number Numeral Spaced _⨾_
 number-spells (rule.number {a = a} {b = b} p q h) = let i = numeral-spells p in (a, b, refl, (i .0, i .1, i .2, h), blanks-spell q)
 
@@ -103,7 +103,7 @@ allowed-none : (level : ℕ) → level ≡ 1 → Allowed (ltb 1 level) none
 unfolding Allowed
 allowed-none level h = let e : ltb 1 level ≡ false = le-ltb 1 level (omega arith) in subst (λ (b : Bool). Allowed b none) (sym e) tt
 
-jump-spells : {level : ℕ} {tok : Token} {s : List ℕ} → rule.Gap level tok s → SpellsToken (ltb 1 level) tok s × (depthIn tok ≡ 0)
+pub jump-spells : {level : ℕ} {tok : Token} {s : List ℕ} → rule.Gap level tok s → SpellsToken (ltb 1 level) tok s × (depthIn tok ≡ 0)
 unfolding SpellsToken NotOne depthIn
 jump-spells {level} (rule.bounded {n = n} p h k) = ((range-spells p, h, allowed-some level n k), refl)
 jump-spells {level} (rule.unbounded p h) = ((range-spells p, tt, allowed-none level h), refl)
@@ -143,7 +143,7 @@ then-spells level tok ts s a b e h p d q f = ((a, b, e, p, q), omega arith)
 mutual
   unfolding SpellsToken AsJump SpellsLists SpellsRest Bounded EndsWell NoJump depthIn depths _⨾_ Sign
 
-  solid-spells : {level : ℕ} {tok : Token} {s : List ℕ} → 1 ≤ level → level ≤ 8 → rule.Solid level tok s → SolidSpells level tok s
+  pub solid-spells : {level : ℕ} {tok : Token} {s : List ℕ} → 1 ≤ level → level ≤ 8 → rule.Solid level tok s → SolidSpells level tok s
   solid-spells l h (rule.byte p) = (whole-spells p, tt, omega arith)
   solid-spells l h (rule.not-byte {s = s} p) = ((126 ∷ [], s, refl, refl, whole-spells p), tt, omega arith)
   solid-spells l h (rule.half p) = (inl (half-spells p .0), tt, omega arith)
@@ -157,7 +157,7 @@ mutual
       let f : depths ls ≤ 9 - suc level = j .1 in
       ((a, b ++ c, e, mark-spells p, (i .1, (b, c, refl, inner (suc level) ts b (omega arith) (i .0), j .0))), tt, omega arith)
 
-  list-spells : {level : ℕ} {ts : Tokens} {s : List ℕ} → 1 ≤ level → level ≤ 8 → rule.TokenList level ts s → ListSpells level ts s
+  pub list-spells : {level : ℕ} {ts : Tokens} {s : List ℕ} → 1 ≤ level → level ≤ 8 → rule.TokenList level ts s → ListSpells level ts s
   list-spells l h (rule.only {level = level} {tok = tok} {s = s} p) = only-spells level tok s h (solid-spells l h p)
   list-spells l h (rule.more {level = level} {tok = tok} {ts = ts} {s = s} {a = a} {b = b} e p q) =
       let i = solid-spells l h p in

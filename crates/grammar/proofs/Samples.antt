@@ -1,11 +1,12 @@
 -- 01's P samples that are read or refused, from the grammar, as one claim over the list, and three more of 01's rules: no blank inside a byte, no `|`
--- last, no number above 4,294,967,295. What is read is derived by the rules. Assumes nothing.
+-- last, no number above 4,294,967,295. What is read is derived by the rules, and what is refused has its fault. Assumes nothing.
 use mathlib.Core.Path.{refl}
 use mathlib.Core.Option.{some}
 use mathlib.Core.List.{List, [], _∷_}
 use Prim.Native.Nat.{ℕ}
 use native.Mathlib.Omega.{arith}
 use Rattle.base.specs.Text.{ascii}
+use Rattle.base.specs.declared.Refusal.{Refusal}
 use Rattle.base.specs.declared.Refusal.the-variants.{Unexpected, NumberTooBig, JumpEmpty, JumpAtBound, JumpTooBigInAlternation, CannotNegateMaskAll}
 use Rattle.meaning.specs.Entries.{tokenCount}
 use Rattle.meaning.specs.Tokens.{Tokens, Byte, Jump, Alternatives, nothing, _then_, neither, _or_, total, totalIn, totals}
@@ -14,18 +15,19 @@ use Rattle.reading.specs.Pieces.{within, digit, twoDigits, byteAt, oneDigit, ma
 use Rattle.reading.specs.Lists.{tokenOr, asToken, bracketed, before, thenMore, isJump, begins, endsIn, ends, atBound, listOf, beside, thenLists, tokenF, moreF, listF, listsF, closing, reading}
 use Rattle.grammar.specs.Grammar as rule
 use Rattle.grammar.specs.Grammar.{Text, Derives}
+use Rattle.grammar.specs.Faults.{Fault}
 use Rattle.grammar.proofs.Fronts.{past-blanks}
 use Rattle.grammar.proofs.RulesSpell.{blank-spells}
-use Rattle.grammar.proofs.Derivable.{rejected-underivable}
+use Rattle.grammar.proofs.FaultLaws.{fault-exactly}
 
--- a text is derivable with these tokens, up to this offset; or it is not derivable
+-- a text is derivable with these tokens, up to this offset; or it has this fault there
 pub data Sample : Type 0 where
   reads : Text → ℕ → Tokens → Sample
-  refused : Text → Sample
+  refused : Text → Refusal → ℕ → Sample
 
 unfoldable pub Right : Sample → Type 0
 Right (reads t e ts) = Derives t e ts
-Right (refused t) = (e : ℕ) (ts : Tokens) → Derives t e ts → ⊥
+Right (refused t r p) = Fault t r p
 
 infixr 30 _also_
 pub data Every : List Sample → Type 0 where
@@ -34,29 +36,29 @@ pub data Every : List Sample → Type 0 where
 
 unfoldable pub samples : List Sample
 samples =
-    refused (ascii "{ AB [0] CD }")
-    ∷ refused (ascii "{ [5] AB }")
+    refused (ascii "{ AB [0] CD }") JumpEmpty 5
+    ∷ refused (ascii "{ [5] AB }") JumpAtBound 2
     ∷ reads (ascii "{ AB (CD [200] EF) }") 20 (Byte 0xAB then Alternatives ((Byte 0xCD then Jump 200 (some 200) then Byte 0xEF then nothing) or neither) then nothing)
-    ∷ refused (ascii "{ AB (CD [201] EF) }")
-    ∷ refused (ascii "{ ~?? }")
-    ∷ refused (ascii "{ ??? }")
-    ∷ refused (ascii "{ AB [2-3] [x }")
+    ∷ refused (ascii "{ AB (CD [201] EF) }") JumpTooBigInAlternation 9
+    ∷ refused (ascii "{ ~?? }") CannotNegateMaskAll 2
+    ∷ refused (ascii "{ ??? }") Unexpected 4
+    ∷ refused (ascii "{ AB [2-3] [x }") JumpAtBound 2
     ∷ reads (ascii "{ AB } zz") 7 (Byte 0xAB then nothing)
-    ∷ refused (ascii "{ A B }")
-    ∷ refused (ascii "{ (AB|) }")
-    ∷ refused (ascii "{ AB [4294967296] CD }")
+    ∷ refused (ascii "{ A B }") Unexpected 2
+    ∷ refused (ascii "{ (AB|) }") Unexpected 5
+    ∷ refused (ascii "{ AB [4294967296] CD }") NumberTooBig 6
     ∷ []
 
-none : rule.Blanks []
+pub none : rule.Blanks []
 none = rule.no-blank
 
-one : rule.Blanks (ascii " ")
+pub one : rule.Blanks (ascii " ")
 one = rule.a-blank rule.space none
 
-ab : {level : ℕ} → rule.Solid level (Byte 0xAB) (ascii "AB ")
+pub ab : {level : ℕ} → rule.Solid level (Byte 0xAB) (ascii "AB ")
 ab = rule.byte (rule.whole {a = ascii "A"} {b = ascii "B"} (rule.upper {v = 0} (omega arith)) (rule.upper {v = 1} (omega arith)) one)
 
-cd : {level : ℕ} → rule.Solid level (Byte 0xCD) (ascii "CD ")
+pub cd : {level : ℕ} → rule.Solid level (Byte 0xCD) (ascii "CD ")
 cd = rule.byte (rule.whole {a = ascii "C"} {b = ascii "D"} (rule.upper {v = 2} (omega arith)) (rule.upper {v = 3} (omega arith)) one)
 
 ef : {level : ℕ} → rule.Solid level (Byte 0xEF) (ascii "EF")
@@ -90,15 +92,15 @@ with-rest =
 pub samples-hold : Every samples
 unfolding samples Right blank blanks skip within digit twoDigits byteAt oneDigit maskedAt hexAt plainly negated notAt decimals numeral numberAt checked closedAt upperAt dashAt lowerAt rangeAt jumpToken jumped plainAt _else_ tokenOr asToken bracketed before thenMore isJump begins endsIn ends atBound listOf beside thenLists tokenF moreF listF listsF closing reading tokenCount
 samples-hold =
-    rejected-underivable (ascii "{ AB [0] CD }") JumpEmpty 5 refl
-    also rejected-underivable (ascii "{ [5] AB }") JumpAtBound 2 refl
+    fault-exactly (ascii "{ AB [0] CD }") JumpEmpty 5 .0 refl
+    also fault-exactly (ascii "{ [5] AB }") JumpAtBound 2 .0 refl
     also with-brackets
-    also rejected-underivable (ascii "{ AB (CD [201] EF) }") JumpTooBigInAlternation 9 refl
-    also rejected-underivable (ascii "{ ~?? }") CannotNegateMaskAll 2 refl
-    also rejected-underivable (ascii "{ ??? }") Unexpected 4 refl
-    also rejected-underivable (ascii "{ AB [2-3] [x }") JumpAtBound 2 refl
+    also fault-exactly (ascii "{ AB (CD [201] EF) }") JumpTooBigInAlternation 9 .0 refl
+    also fault-exactly (ascii "{ ~?? }") CannotNegateMaskAll 2 .0 refl
+    also fault-exactly (ascii "{ ??? }") Unexpected 4 .0 refl
+    also fault-exactly (ascii "{ AB [2-3] [x }") JumpAtBound 2 .0 refl
     also with-rest
-    also rejected-underivable (ascii "{ A B }") Unexpected 2 refl
-    also rejected-underivable (ascii "{ (AB|) }") Unexpected 5 refl
-    also rejected-underivable (ascii "{ AB [4294967296] CD }") NumberTooBig 6 refl
+    also fault-exactly (ascii "{ A B }") Unexpected 2 .0 refl
+    also fault-exactly (ascii "{ (AB|) }") Unexpected 5 .0 refl
+    also fault-exactly (ascii "{ AB [4294967296] CD }") NumberTooBig 6 .0 refl
     also no-more

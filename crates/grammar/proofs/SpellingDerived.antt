@@ -13,8 +13,9 @@ use lib.Dec.{ltb}
 use lib.ListN.{length}
 use Rattle.meaning.specs.Tokens.{Mask, left, right, all, Token, Tokens, Lists, Byte, NotByte, MaskedByte, NotMaskedByte, Jump, Alternatives, nothing, _then_, neither, _or_}
 use Rattle.grammar.specs.Grammar as rule
-use Rattle.grammar.proofs.Spelling.{_⨾_, Blank, Blanks, Spaced, Sign, Marked, Digit, decimal, upper, lower, HexDigit, Whole, Masked, Decimals, value, Numeral, Number, From, To, Single, Dashed, Ordered, Bracketed, Bounds, Allowed, NotOne, AsJump, Negatable, NoJump, EndsWell, Bounded, SpellsToken, SpellsTokens, SpellsLists, SpellsRest, SpellsList, depthIn, depth, depths}
+use Rattle.grammar.proofs.Spelling.{_⨾_, Blank, Blanks, NoBlank, Spaced, Sign, Marked, Digit, decimal, upper, lower, HexDigit, Whole, Masked, Decimals, value, Numeral, Number, From, To, Single, Dashed, Ordered, Bracketed, Bounds, Allowed, NotOne, AsJump, Negatable, NoJump, EndsWell, Bounded, SpellsToken, SpellsTokens, SpellsLists, SpellsRest, SpellsList, depthIn, depth, depths}
 use Rattle.grammar.proofs.Fronts.{marked-form}
+use Rattle.grammar.proofs.RulesSpell.{blank-spells}
 use Rattle.grammar.proofs.ListsRead.{depth-some}
 
 pub blank-derived : (c : ℕ) → Blank c → rule.Blank c
@@ -23,6 +24,17 @@ blank-derived c (inl e) = subst rule.Blank (sym e) rule.space
 blank-derived c (inr (inl e)) = subst rule.Blank (sym e) rule.tab
 blank-derived c (inr (inr (inl e))) = subst rule.Blank (sym e) rule.return
 blank-derived c (inr (inr (inr e))) = subst rule.Blank (sym e) rule.feed
+
+-- no blank in front
+pub clear-spells : {r : List ℕ} → rule.Clear r → NoBlank r
+unfolding NoBlank
+clear-spells rule.end = tt
+clear-spells (rule.other {c = c} h) = λ b. h (blank-derived c b)
+
+pub clear-derived : (r : List ℕ) → NoBlank r → rule.Clear r
+unfolding NoBlank
+clear-derived [] n = rule.end
+clear-derived (c ∷ r) n = rule.other (λ b. n (blank-spells b))
 
 blanks-derived : (s : List ℕ) → Blanks s → rule.Blanks s
 unfolding Blanks
@@ -87,7 +99,7 @@ digits-after n a (c ∷ s) p q =
     let e : (10 * n + (c - 48)) * 10 ^ length s + value s ≡ n * 10 ^ suc (length s) + ((c - 48) * 10 ^ length s + value s) = rw k (omega arith) in
     subst₂ rule.Numeral e (append-assoc a (c ∷ []) s) i
 
-numeral-derived : (s : List ℕ) → Decimals s → 0 < length s → rule.Numeral (value s) s
+pub numeral-derived : (s : List ℕ) → Decimals s → 0 < length s → rule.Numeral (value s) s
 unfolding Decimals value
 numeral-derived [] p h = let z : 0 < 0 = h in absurd (omega arith)
 numeral-derived (c ∷ s) p h =
@@ -96,7 +108,7 @@ numeral-derived (c ∷ s) p h =
     let y : 48 + (c - 48) ≡ c = omega arith in
     digits-after (c - 48) (c ∷ []) s (subst (λ (x : ℕ). rule.Numeral (c - 48) (x ∷ [])) y (rule.digit (omega arith))) (p .2)
 
-number-derived : (n : ℕ) (s : List ℕ) → Number n s → rule.Number n s
+pub number-derived : (n : ℕ) (s : List ℕ) → Number n s → rule.Number n s
 unfolding Number Numeral Spaced _⨾_
 number-derived n s p =
     let q = p .3 in
@@ -159,7 +171,7 @@ masked-derived level v all s (inr p) = subst (λ (n : ℕ). rule.Solid level (Ma
 tilde : (s a b : List ℕ) → s ≡ a ++ b → a ≡ 126 ∷ [] → s ≡ 126 ∷ b
 tilde s a b h k = h ∙ ap (λ (x : List ℕ). x ++ b) k
 
-jump-derived : (level from : ℕ) (to : Option ℕ) (s : List ℕ) → 1 ≤ level → SpellsToken (ltb 1 level) (Jump from to) s → rule.Gap level (Jump from to) s
+pub jump-derived : (level from : ℕ) (to : Option ℕ) (s : List ℕ) → 1 ≤ level → SpellsToken (ltb 1 level) (Jump from to) s → rule.Gap level (Jump from to) s
 unfolding SpellsToken NotOne Allowed
 jump-derived level from none s l p = rule.unbounded (range-derived from none s (p .0)) (go (ltb 1 level) refl (p .2))
   where
@@ -170,7 +182,7 @@ jump-derived level from (some to) s l p =
     rule.bounded (range-derived from (some to) s (p .0)) (p .1) (λ h. subst (λ (b : Bool). Allowed b (some to)) (lt-ltb 1 level h) (p .2))
 
 -- a token is a jump or none
-jump-or : (tok : Token) → NoJump tok ⊎ ((from : ℕ) × (to : Option ℕ) × (tok ≡ Jump from to))
+pub jump-or : (tok : Token) → NoJump tok ⊎ ((from : ℕ) × (to : Option ℕ) × (tok ≡ Jump from to))
 unfolding NoJump
 jump-or (Byte v) = inl tt
 jump-or (NotByte v) = inl tt
@@ -208,7 +220,7 @@ outer level ts s h = subst (λ (b : Bool). SpellsTokens b ts s) (sym (lt-ltb 1 l
 mutual
   unfolding SpellsToken SpellsTokens SpellsLists SpellsRest Bounded EndsWell NoJump depthIn depth depths _⨾_ Sign
 
-  solid-derived : (tok : Token) (level : ℕ) (s : List ℕ) → 1 ≤ level → NoJump tok → depthIn tok ≤ 8 - level → SpellsToken (ltb 1 level) tok s → rule.Solid level tok s
+  pub solid-derived : (tok : Token) (level : ℕ) (s : List ℕ) → 1 ≤ level → NoJump tok → depthIn tok ≤ 8 - level → SpellsToken (ltb 1 level) tok s → rule.Solid level tok s
   solid-derived (Byte v) level s l n d p = rule.byte (whole-derived v s p)
   solid-derived (NotByte v) level s l n d p = subst (rule.Solid level (NotByte v)) (sym (tilde s (p .0) (p .1) (p .2) (p .3))) (rule.not-byte (whole-derived v (p .1) (p .4)))
   solid-derived (MaskedByte v m) level s l n d p = masked-derived level v m s p
@@ -226,7 +238,7 @@ mutual
       rule.alternatives (parts a e (q .2)) m (list-derived ts (suc level) (q .0) (omega arith) (omega arith) (p .0) (outer (suc level) ts (q .0) (omega arith) (q .3)))
       (rest-derived ls (suc level) (q .1) (omega arith) (omega arith) (q .4)) (omega arith)
 
-  list-derived : (ts : Tokens) (level : ℕ) (s : List ℕ) → 1 ≤ level → depth ts ≤ 9 - level → Bounded ts → SpellsTokens (ltb 1 level) ts s → rule.TokenList level ts s
+  pub list-derived : (ts : Tokens) (level : ℕ) (s : List ℕ) → 1 ≤ level → depth ts ≤ 9 - level → Bounded ts → SpellsTokens (ltb 1 level) ts s → rule.TokenList level ts s
   list-derived nothing level s l d w p = absurd w
   list-derived (tok then ts) level s l d w p =
       listed-then level tok ts s (p .0) (p .1) (p .2) (solid-derived tok level (p .0) l (w .0) (omega arith) (p .3)) (w .1) (p .4)

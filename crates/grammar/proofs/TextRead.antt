@@ -8,7 +8,7 @@ use borrow.Author.Tests.{le-leb}
 use lib.ListN.{length, drop}
 use Rattle.meaning.specs.Tokens.{Tokens, total}
 use Rattle.reading.specs.Blanks.{here, skip}
-use Rattle.reading.specs.Lists.{read, list, Outcome, accepted, rejected, closing, reading}
+use Rattle.reading.specs.Lists.{read, list, accepted, rejected, closing, reading}
 use Rattle.base.specs.declared.Refusal.{Refusal}
 use Rattle.reading.proofs.PieceLaws.{never}
 use Rattle.grammar.proofs.Spelling.{_⨾_, NoBlank, SpellsString, SpellsText, Spelled, depth}
@@ -53,11 +53,3 @@ reading-spells t e ts = (accepted-spelled t e ts, λ p. spelled-accepted t e ts 
 -- and a text that is refused spells nothing within them
 pub rejected-unspelled : (t : List ℕ) (x : Refusal) (p e : ℕ) (ts : Tokens) → reading t ≡ rejected x p → Spelled t e ts → ⊥
 rejected-unspelled t x p e ts h s = never (cc (h, reading-spells t e ts .1 s))
-
--- as one that spells nothing within them is refused
-pub unspelled-rejected : (t : List ℕ) → ((e : ℕ) (ts : Tokens) → Spelled t e ts → ⊥) → (x : Refusal) × (p : ℕ) × (reading t ≡ rejected x p)
-unspelled-rejected t k = go (reading t) refl
-  where
-    go : (o : Outcome) → reading t ≡ o → (x : Refusal) × (p : ℕ) × (reading t ≡ rejected x p)
-    go (accepted e ts) h = absurd (k e ts (accepted-spelled t e ts h))
-    go (rejected x p) h = (x, p, h)

@@ -13,6 +13,8 @@ use Rattle.meaning.specs.Programs.{Prog, mirror}
 use Rattle.meaning.specs.Words.{sound, mirrorWords}
 use Rattle.meaning.proofs.SoundLaws.{and-left, and-right}
 use Rattle.reading.specs.Lists as text
+use Rattle.grammar.proofs.Derivable.{accepted-derived, derived-accepted}
+use Rattle.grammar.proofs.FaultLaws.{fault-exactly}
 use Rattle.readdoor.specs.Door as readdoor
 use Rattle.compiling.specs.Compile as tokens
 use Rattle.compiledoor.specs.Door as compiledoor
@@ -29,8 +31,8 @@ unfolding readdoor.readSays readdoor.readLeaves readdoor.outcomeSays readdoor.ou
 reads t p = go (leb 4096 (length p)) refl (text.reading t) refl
   where
     go : (b : Bool) → leb 4096 (length p) ≡ b → (o : text.Outcome) → text.reading t ≡ o → Reads t p (cond b (readdoor.outcomeSays o) (readdoor.refuses 18 0)) (cond b (readdoor.outcomeLeaves o p) p)
-    go true h (text.accepted e ts) g = said.Reads.accepted (leb-true 4096 (length p) h) g
-    go true h (text.rejected x k) g = said.Reads.rejected (leb-true 4096 (length p) h) g
+    go true h (text.accepted e ts) g = said.Reads.accepted (leb-true 4096 (length p) h) (accepted-derived t e ts g)
+    go true h (text.rejected x k) g = said.Reads.rejected (leb-true 4096 (length p) h) (fault-exactly t x k .0 g)
     go false h o g = said.Reads.no-room (leb-false 4096 (length p) h)
 
 read-so : (t p : List ℕ) (o : text.Outcome) → 4096 ≤ length p → text.reading t ≡ o → (readdoor.outcomeSays o ≡ readdoor.readSays t p) × (readdoor.outcomeLeaves o p ≡ readdoor.readLeaves t p)
@@ -46,8 +48,8 @@ reads-one {t} {p} (said.Reads.no-room h) = (
   ap (λ (b : Bool). cond b (readdoor.outcomeSays (text.reading t)) (readdoor.refuses 18 0)) (sym (lt-leb 4096 (length p) h)),
   ap (λ (b : Bool). cond b (readdoor.outcomeLeaves (text.reading t) p) p) (sym (lt-leb 4096 (length p) h)),
 )
-reads-one {t} {p} (said.Reads.rejected {x = x} {place = k} h e) = read-so t p (text.rejected x k) h e
-reads-one {t} {p} (said.Reads.accepted {reached = k} {ts = ts} h e) = read-so t p (text.accepted k ts) h e
+reads-one {t} {p} (said.Reads.rejected {x = x} {place = k} h e) = read-so t p (text.rejected x k) h (fault-exactly t x k .1 e)
+reads-one {t} {p} (said.Reads.accepted {reached = k} {ts = ts} h e) = read-so t p (text.accepted k ts) h (derived-accepted t k ts e)
 
 -- compiling
 both-room : (p q : List ℕ) → 512 ≤ length p → 512 ≤ length q → true ≡ compiledoor.room p q
@@ -67,8 +69,8 @@ unfolding compiledoor.compileSays compiledoor.forwardLeaves compiledoor.reverseL
 compiles t p q = go (compiledoor.room p q) refl (text.reading t) refl
   where
     made : (e : ℕ) (ts : _) → text.reading t ≡ text.accepted e ts → 512 ≤ length p → 512 ≤ length q → (c : tokens.Compiled) → tokens.compile ts ≡ c → Compiles t p q (compiledoor.compiledSays c) (compiledoor.compiledForward c p) (compiledoor.compiledReverse c q)
-    made e ts g h i (tokens.compiled f r) j = said.Compiles.compiled h i g j
-    made e ts g h i (tokens.refused x) j = said.Compiles.refused h i g j
+    made e ts g h i (tokens.compiled f r) j = said.Compiles.compiled h i (accepted-derived t e ts g) j
+    made e ts g h i (tokens.refused x) j = said.Compiles.refused h i (accepted-derived t e ts g) j
 
     go : (b : Bool) → compiledoor.room p q ≡ b → (o : text.Outcome) → text.reading t ≡ o → Compiles t p q (cond b (compiledoor.outcomeSays o) (compiledoor.refuses 18 0)) (cond b (compiledoor.outcomeForward o p) p) (cond b (compiledoor.outcomeReverse o q) q)
     go true h (text.accepted e ts) g =
@@ -78,7 +80,7 @@ compiles t p q = go (compiledoor.room p q) refl (text.reading t) refl
     go true h (text.rejected x k) g =
         let a = leb-true 512 (length p) (and-left (leb 512 (length p)) (leb 512 (length q)) h) in
         let b = leb-true 512 (length q) (and-right (leb 512 (length p)) (leb 512 (length q)) h) in
-        said.Compiles.rejected a b g
+        said.Compiles.rejected a b (fault-exactly t x k .0 g)
     go false h o g = said.Compiles.no-room (short-some p q (leb 512 (length p)) (leb 512 (length q)) refl refl h)
 
 abbrev As : List ℕ → List ℕ → List ℕ → compiledoor.Said → List ℕ → List ℕ → Type 0
@@ -103,9 +105,9 @@ by-tokens t p q k ts c h g e f = subst (λ (x : tokens.Compiled). As t p q (comp
 pub compiles-one : {t p q : List ℕ} {s : compiledoor.Said} {u v : List ℕ} → Compiles t p q s u v → (s ≡ compiledoor.compileSays t p q) × (u ≡ compiledoor.forwardLeaves t p q) × (v ≡ compiledoor.reverseLeaves t p q)
 unfolding compiledoor.outcomeSays compiledoor.outcomeForward compiledoor.outcomeReverse compiledoor.compiledSays compiledoor.compiledForward compiledoor.compiledReverse
 compiles-one {t} {p} {q} (said.Compiles.no-room h) = by-room t p q false (some-short p q h)
-compiles-one {t} {p} {q} (said.Compiles.rejected {x = x} {place = k} h g e) = by-outcome t p q (text.rejected x k) h g e
-compiles-one {t} {p} {q} (said.Compiles.refused {x = x} {reached = k} {ts = ts} h g e f) = by-tokens t p q k ts (tokens.refused x) h g e f
-compiles-one {t} {p} {q} (said.Compiles.compiled {reached = k} {ts = ts} {f = a} {r = b} h g e f) = by-tokens t p q k ts (tokens.compiled a b) h g e f
+compiles-one {t} {p} {q} (said.Compiles.rejected {x = x} {place = k} h g e) = by-outcome t p q (text.rejected x k) h g (fault-exactly t x k .1 e)
+compiles-one {t} {p} {q} (said.Compiles.refused {x = x} {reached = k} {ts = ts} h g e f) = by-tokens t p q k ts (tokens.refused x) h g (derived-accepted t k ts e) f
+compiles-one {t} {p} {q} (said.Compiles.compiled {reached = k} {ts = ts} {f = a} {r = b} h g e f) = by-tokens t p q k ts (tokens.compiled a b) h g (derived-accepted t k ts e) f
 
 -- the mirror
 pub mirrors : (ws p : List ℕ) → Mirrors ws p (mirrordoor.mirrorSays ws p) (mirrordoor.mirrorLeaves ws p)

@@ -10,6 +10,7 @@ use Rattle.meaning.specs.Tokens.{Tokens}
 use Rattle.meaning.specs.Values.{Bytes}
 use Rattle.reading.specs.Lists.{Outcome, accepted, rejected, reading}
 use Rattle.reading.proofs.PieceLaws.{never}
+use Rattle.grammar.proofs.Derivable.{accepted-derived}
 use Rattle.compiling.specs.Compile.{Compiled, compiled, refused, compile}
 use Rattle.compiledoor.specs.Door.{gives, refuses, room, compiledSays, outcomeSays, compiledForward, compiledReverse, outcomeForward, outcomeReverse, compileSays, forwardLeaves, reverseLeaves}
 use Rattle.compiledoor.proofs.Promises as promised
@@ -66,16 +67,16 @@ module _ (t p q : List ℕ) (n m : ℕ) where
 
   -- The text t compiles to n forward and m reverse words, which the pools then hold in front; hay is any bytes, and s to e a window of it.
   module _ (g : compileSays t p q ≡ gives n m) (hay : List ℕ) (y : Bytes hay) (s e : ℕ) (d : s ≤ e) (l : e ≤ length hay) where
-    -- Then t is accepted, and the forward door, asked with the forward words, answers for its pattern;
+    -- Then t is a pattern, and the forward door, asked with the forward words, answers for its pattern;
     pub pattern-forward : (ts : Tokens) × ReadAs t ts × AnswersForward ts (take n (forwardLeaves t p q)) hay s e
     pattern-forward =
         let c = compiles g in
         let f = answers-forward (c .tokens) (c .forward) hay s e (promised.forward-sound t (c .reached) (c .tokens) (c .forward) (c .reverse) (c .read) (c .done)) y d l (promised.forward-exact t (c .reached) (c .tokens) (c .forward) (c .reverse) (c .read) (c .done)) in
-        (c .tokens, (c .reached, c .read), subst (λ (ws : List ℕ). AnswersForward (c .tokens) ws hay s e) (sym (c .forward-words)) f)
+        (c .tokens, (c .reached, accepted-derived t (c .reached) (c .tokens) (c .read)), subst (λ (ws : List ℕ). AnswersForward (c .tokens) ws hay s e) (sym (c .forward-words)) f)
 
     -- and the reverse door, asked with the reverse words, likewise.
     pub pattern-reverse : (ts : Tokens) × ReadAs t ts × AnswersReverse ts (take m (reverseLeaves t p q)) hay s e
     pattern-reverse =
         let c = compiles g in
         let r = answers-reverse (c .tokens) (c .reverse) hay s e (promised.reverse-sound t (c .reached) (c .tokens) (c .forward) (c .reverse) (c .read) (c .done)) y d l (promised.reverse-exact t (c .reached) (c .tokens) (c .forward) (c .reverse) (c .read) (c .done)) in
-        (c .tokens, (c .reached, c .read), subst (λ (ws : List ℕ). AnswersReverse (c .tokens) ws hay s e) (sym (c .reverse-words)) r)
+        (c .tokens, (c .reached, accepted-derived t (c .reached) (c .tokens) (c .read)), subst (λ (ws : List ℕ). AnswersReverse (c .tokens) ws hay s e) (sym (c .reverse-words)) r)

@@ -10,7 +10,8 @@ use Rattle.base.specs.Pools.{filled, cleared}
 use Rattle.meaning.specs.Tokens.{Tokens}
 use Rattle.meaning.specs.Entries.{entries}
 use Rattle.meaning.specs.Programs.{Prog, mirror}
-use Rattle.reading.specs.Lists as text
+use Rattle.grammar.specs.Grammar.{Derives}
+use Rattle.grammar.specs.Faults.{Fault}
 use Rattle.readdoor.specs.Door as readdoor
 use Rattle.compiling.specs.Compile as tokens
 use Rattle.compiledoor.specs.Door as compiledoor
@@ -20,15 +21,15 @@ use Rattle.promise.specs.NodeWords.{Nodes, SoundWords}
 -- reading the text t into the pool p
 pub data Reads (t p : List ℕ) : readdoor.Said → List ℕ → Type 0 where
   no-room : length p < 4096 → Reads t p (readdoor.refuses 18 0) p
-  rejected : {x : Refusal} {place : ℕ} → 4096 ≤ length p → text.reading t ≡ text.rejected x place → Reads t p (readdoor.refuses (numberOf x) place) (cleared 4096 p)
-  accepted : {reached : ℕ} {ts : Tokens} → 4096 ≤ length p → text.reading t ≡ text.accepted reached ts → Reads t p (readdoor.gives reached (length (entries ts))) (filled 4096 (entries ts) p)
+  rejected : {x : Refusal} {place : ℕ} → 4096 ≤ length p → Fault t x place → Reads t p (readdoor.refuses (numberOf x) place) (cleared 4096 p)
+  accepted : {reached : ℕ} {ts : Tokens} → 4096 ≤ length p → Derives t reached ts → Reads t p (readdoor.gives reached (length (entries ts))) (filled 4096 (entries ts) p)
 
 -- compiling the text t into the pools p and q
 pub data Compiles (t p q : List ℕ) : compiledoor.Said → List ℕ → List ℕ → Type 0 where
   no-room : (length p < 512) ⊎ (length q < 512) → Compiles t p q (compiledoor.refuses 18 0) p q
-  rejected : {x : Refusal} {place : ℕ} → 512 ≤ length p → 512 ≤ length q → text.reading t ≡ text.rejected x place → Compiles t p q (compiledoor.refuses (numberOf x) place) (cleared 512 p) (cleared 512 q)
-  refused : {x : Refusal} {reached : ℕ} {ts : Tokens} → 512 ≤ length p → 512 ≤ length q → text.reading t ≡ text.accepted reached ts → tokens.compile ts ≡ tokens.refused x → Compiles t p q (compiledoor.refuses (numberOf x) 0) (cleared 512 p) (cleared 512 q)
-  compiled : {reached : ℕ} {ts : Tokens} {f r : List ℕ} → 512 ≤ length p → 512 ≤ length q → text.reading t ≡ text.accepted reached ts → tokens.compile ts ≡ tokens.compiled f r → Compiles t p q (compiledoor.gives (length f) (length r)) (filled 512 f p) (filled 512 r q)
+  rejected : {x : Refusal} {place : ℕ} → 512 ≤ length p → 512 ≤ length q → Fault t x place → Compiles t p q (compiledoor.refuses (numberOf x) place) (cleared 512 p) (cleared 512 q)
+  refused : {x : Refusal} {reached : ℕ} {ts : Tokens} → 512 ≤ length p → 512 ≤ length q → Derives t reached ts → tokens.compile ts ≡ tokens.refused x → Compiles t p q (compiledoor.refuses (numberOf x) 0) (cleared 512 p) (cleared 512 q)
+  compiled : {reached : ℕ} {ts : Tokens} {f r : List ℕ} → 512 ≤ length p → 512 ≤ length q → Derives t reached ts → tokens.compile ts ≡ tokens.compiled f r → Compiles t p q (compiledoor.gives (length f) (length r)) (filled 512 f p) (filled 512 r q)
 
 -- the mirror of the words ws in the pool p
 pub data Mirrors (ws p : List ℕ) : mirrordoor.Said → List ℕ → Type 0 where

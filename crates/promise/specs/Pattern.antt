@@ -7,13 +7,13 @@ use lib.ListN.{length}
 use Rattle.meaning.specs.Tokens.{Tokens, Spans}
 use Rattle.meaning.specs.Programs.{Prog}
 use Rattle.meaning.specs.Choices.{FirstForward, FirstReverse}
-use Rattle.reading.specs.Lists.{accepted, reading}
+use Rattle.grammar.specs.Grammar.{Derives}
 use Rattle.checkdoors.specs.Doors.{found, noMatch, refused, window, forwardSays, reverseSays}
 use Rattle.promise.specs.NodeWords.{SoundWords}
 
--- the text t is accepted, and its pattern is ts
+-- the text t is a pattern, with the tokens ts
 abbrev pub ReadAs : List ℕ → Tokens → Type 0
-ReadAs t ts = (reached : ℕ) × (reading t ≡ accepted reached ts)
+ReadAs t ts = (reached : ℕ) × Derives t reached ts
 
 -- the bytes of the haystack from a to b are a span of the pattern
 abbrev pub SpanAt : Tokens → List ℕ → ℕ → ℕ → Type 0

@@ -38,7 +38,7 @@ unfolding lowerAt
 from-lower t at from x h (given.number {s = s} q) d = range-at t at (skip t (at + 1)) h refl q ∙ lower-dash t at (skip t (at + 1)) from s x (λ z. let w : 45 ≡ 93 = sym d ∙ z in omega arith)
 from-lower t at from x h (given.nothing q) d = range-at t at (skip t (at + 1)) h refl q
 
-opens : {t : List ℕ} {at from stop : ℕ} {to : Option ℕ} → given.Jumps t at from to stop → getD t at 0 ≡ 91
+pub opens : {t : List ℕ} {at from stop : ℕ} {to : Option ℕ} → given.Jumps t at from to stop → getD t at 0 ≡ 91
 opens (given.single h q k) = h
 opens (given.bounded h f d q k) = h
 opens (given.unbounded h f d q k) = h

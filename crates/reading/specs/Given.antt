@@ -1,4 +1,5 @@
--- When each refusal is given: 01's table, by the places to which the readers come. Assumes nothing: these are definitions.
+-- When each refusal is given, by what the readers read and the places to which they come: a tool for the proofs. 01's table is said over the
+-- grammar, in crate grammar, and is the same. Assumes nothing: these are definitions.
 use mathlib.Core.Path.{_≡_}
 use mathlib.Core.Bool.{Bool, true}
 use mathlib.Core.Option.{Option, none, some}

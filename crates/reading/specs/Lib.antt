@@ -1,4 +1,4 @@
--- 01's 'Reading the text', sentence by sentence. A reader who holds it beside 01 reads these files, in this order.
+-- 01's 'Reading the text', in its order of trial, as functions; crate grammar says the same by rules.
 pub mod Blanks
 pub mod Pieces
 pub mod Lists

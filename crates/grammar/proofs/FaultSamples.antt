@@ -1,0 +1,64 @@
+-- Two texts whose list no closing sign follows, and their faults by the rules: the place of 2 is where the list has ended, and 6 comes before it. Assumes nothing.
+use mathlib.Core.Path.{refl}
+use mathlib.Core.Option.{some}
+use mathlib.Core.Logic.{inl}
+use mathlib.Core.List.{[], _∷_}
+use Prim.Native.Nat.{ℕ, _+_, _≤_, _<_}
+use native.Mathlib.Omega.{arith}
+use Rattle.base.specs.Text.{ascii}
+use Rattle.base.specs.declared.Refusal.the-variants.{Unexpected, JumpAtBound}
+use Rattle.meaning.specs.Tokens.{Jump, total, totalIn, totals}
+use Rattle.reading.specs.Blanks.{blank, blanks, skip}
+use Rattle.reading.specs.Pieces.{within, digit, twoDigits, byteAt, oneDigit, maskedAt, hexAt, plainly, negated, notAt, decimals, numeral, numberAt, dashAt, lowerAt, rangeAt, jumped, plainAt, _else_}
+use Rattle.reading.specs.Lists.{tokenOr, bracketed, tokenF}
+use Rattle.grammar.specs.Grammar as rule
+use Rattle.grammar.specs.Grammar.{Text, Clear, Gap}
+use Rattle.grammar.specs.Faults as fault
+use Rattle.grammar.specs.Faults.{Missing, Fault}
+use Rattle.grammar.proofs.Fronts.{past-blanks}
+use Rattle.grammar.proofs.RulesSpell.{blank-spells}
+use Rattle.grammar.proofs.FaultPieces.{mark-here}
+use Rattle.grammar.proofs.FaultTokens.{missing-there}
+use Rattle.grammar.proofs.Samples.{none, one, ab, cd}
+
+clear : (c : ℕ) {s : Text} → 33 ≤ c → Clear (c ∷ s)
+clear c h = rule.other (λ b. past-blanks c h (blank-spells b))
+
+-- `AB CD ` ends at 8, where no `}` stands
+abbrev two-bytes : Text
+two-bytes = ascii "{ AB CD x }"
+
+third : Missing two-bytes 1 8
+unfolding within digit twoDigits byteAt oneDigit maskedAt hexAt plainly negated notAt rangeAt jumped plainAt _else_ tokenOr bracketed tokenF
+third = missing-there two-bytes 1 2 8 (omega arith, omega arith) refl
+
+pub not-closed : Fault (ascii "{ AB CD x }") Unexpected 8
+unfolding total totalIn totals
+not-closed =
+    fault.not-closed (fault.outermost (omega arith) (fault.stands {s = ascii "{ "} {r = ascii "AB CD x }"} refl (rule.mark one) (clear 65 (omega arith))))
+    (fault.listed (omega arith) (fault.stands {s = ascii "AB CD "} {r = ascii "x }"} refl (rule.more {a = ascii "AB "} refl ab (rule.list (rule.only cd))) (clear 120 (omega arith))) refl (omega arith) third)
+    (λ e m. let h = mark-here m .0 in omega arith)
+
+-- `AB [2-3] ` ends at 11 with a jump, at 2 it begins
+abbrev then-jump : Text
+then-jump = ascii "{ AB [2-3] [x }"
+
+figure : (v : ℕ) → v < 10 → rule.Number v ((48 + v) ∷ [])
+figure v h = rule.number {a = (48 + v) ∷ []} {b = []} (rule.digit {v = v} h) none (omega arith)
+
+jump : Gap 1 (Jump 2 (some 3)) (ascii "[2-3] ")
+jump =
+    rule.bounded (rule.between {a = ascii "["} {b = ascii "2"} {c = ascii "-"} {d = ascii "3"} {e = ascii "] "} (rule.mark none) (figure 2 (omega arith)) (rule.mark none) (figure 3 (omega arith)) (rule.mark one) (omega arith) (omega arith))
+    (λ h k. omega arith) (λ h. omega arith)
+
+after-jump : Missing then-jump 1 11
+unfolding blank blanks skip within digit twoDigits byteAt oneDigit maskedAt hexAt plainly negated notAt decimals numeral numberAt dashAt lowerAt rangeAt jumped plainAt _else_ tokenOr bracketed tokenF
+after-jump = missing-there then-jump 1 2 11 (omega arith, omega arith) refl
+
+pub ends-with-jump : Fault (ascii "{ AB [2-3] [x }") JumpAtBound 2
+unfolding totalIn
+ends-with-jump =
+    fault.jump-last
+    (fault.next (fault.first (fault.outermost (omega arith) (fault.stands {s = ascii "{ "} {r = ascii "AB [2-3] [x }"} refl (rule.mark one) (clear 65 (omega arith)))) (omega arith))
+    (fault.stands {s = ascii "AB "} {r = ascii "[2-3] [x }"} refl (inl ab) (clear 91 (omega arith))) refl (omega arith))
+    (fault.stands {s = ascii "[2-3] "} {r = ascii "[x }"} refl jump (clear 91 (omega arith))) (omega arith) after-jump
