@@ -1,7 +1,6 @@
 // What every door shares: the numbered refusals, and the zeroing of a pool.
 ghost use mathlib.Core.Path.{_≡_};
-ghost use mathlib.Core.List.{_++_};
-ghost use Prim.Native.Nat.{ℕ, _-_, _≤_};
+ghost use Prim.Native.Nat.{_-_, _≤_};
 ghost use lib.ListN.{length};
 ghost use Rattle.base.specs.Refusals.{numberOf};
 ghost use Rattle.base.specs.Pools.{zeroed};

@@ -1,21 +1,21 @@
 -- The runs of a pattern, one after another, and the first segment last. Assumes nothing.
 use mathlib.Core.Path.{_≡_, refl, sym, ap, ap₂, _∙_, subst}
 use mathlib.Core.List.{List, [], _∷_, _++_}
-use Prim.Native.Nat.{ℕ, zero, suc, _+_, _-_, _≤_, _<_}
+use Prim.Native.Nat.{ℕ, _+_, _-_, _≤_, _<_}
 use native.Mathlib.Omega.{arith}
 use lib.ListN.{length, take, drop, length-drop}
 use lib.Seq.{drop-drop}
 use Rattle.meaning.specs.Tokens.{Tokens, nothing, _then_}
 use Rattle.picking.specs.Runs.{segments, filledOnes, firstLast, runs}
 use Rattle.picking.specs.Choice.{Choice, unranked, inRun, between, among, choice}
-use Rattle.spelling.specs.Words.{tokenIn, width, tokensIn}
+use Rattle.spelling.specs.Words.{width, tokensIn}
 use Rattle.spelling.proofs.StepLaws.{tokens-end, tokens-step, width-le, width-long}
 use Rattle.spelling.proofs.PartLaws.{part-all}
 use Rattle.literals.specs.declared.Pick.{Pick}
-use Rattle.literals.specs.declared.Pick.the-variants.{Nothing, Taken, TooMany}
+use Rattle.literals.specs.declared.Pick.the-variants.{Nothing}
 use Rattle.literals.specs.Ranks.{choiceSays}
-use Rattle.literals.specs.Whole.{Entire, Whole, none, more, runEnd, afterward}
-use Rattle.literals.proofs.WholeLaws.{whole-first, whole-short}
+use Rattle.literals.specs.Whole.{Whole, runEnd, afterward}
+use Rattle.literals.proofs.WholeLaws.{whole-first}
 use Rattle.literals.proofs.SegmentLaws.{Segment, first-segment}
 use Rattle.chooser.specs.Kept.{Kept, Told, AllTold, Stretch, laterRuns}
 

@@ -21,7 +21,6 @@ use Rattle.readdoor.specs.Door as read
 use Rattle.readdoor.proofs.Got as into
 use Rattle.compiling.specs.Compile.{Compiled, compiled, refused, compile}
 use Rattle.compiler.specs.declared.Made.{Made}
-use Rattle.compiler.specs.declared.Made.the-variants as made
 use Rattle.compiler.specs.Made.{Makes}
 use Rattle.compiler.specs.Walks.{Entered}
 use Rattle.compiledoor.specs.Door.{Said, refuses, said, madeSays, compiledSays, outcomeSays, compiledForward, compiledReverse, outcomeForward, outcomeReverse, room, compileSays, forwardLeaves, reverseLeaves, TextMakes}

@@ -6,7 +6,7 @@ use compiler::compile_tokens;
 use readdoor::ReadAnswer;
 use readdoor::read;
 ghost use mathlib.Core.Path.{_≡_};
-ghost use Prim.Native.Nat.{ℕ, _≤_};
+ghost use Prim.Native.Nat.{_≤_};
 ghost use lib.ListN.{length};
 ghost use Rattle.reading.specs.Lists.{reading};
 ghost use Rattle.compiledoor.specs.Door.{said, madeSays, TextMakes, compileSays, forwardLeaves, reverseLeaves};

@@ -11,7 +11,7 @@ use lib.ListN.{length}
 use borrow.Author.Tests.{ltb-false}
 use Rattle.meaning.specs.Tokens.{left, right, all, Token, Tokens, Lists, Byte, NotByte, MaskedByte, NotMaskedByte, Jump, Alternatives, nothing, _then_, neither, _or_, Agrees, One, Within, Matches, Spans, MatchesOne}
 use Rattle.meaning.proofs.ValueLaws.{any-spelled, bytes-left, bytes-right}
-use Rattle.meaning.specs.Values.{Bytes, SpelledOne, Spelled, SpelledFirst, SpelledMore}
+use Rattle.meaning.specs.Values.{Bytes, SpelledOne, Spelled, SpelledMore}
 use Rattle.meaning.specs.Programs.{Test, byte, mask, negatedMask, pass, Prog, one, end, SpanOf, Span, SpanIn}
 use Rattle.compiling.specs.Compiling.{itemOf, added, branchesFor, add, forwardProgram}
 use Rattle.compiling.proofs.AddLaws.{add-span, span-add}

@@ -2,9 +2,9 @@
 // The small readers. Each one answers where it stopped, and where the blanks after that end.
 use base::Refusal;
 ghost use mathlib.Core.Path.{_≡_};
-ghost use mathlib.Core.Bool.{Bool, _&&_};
-ghost use Prim.Native.Nat.{ℕ, _+_, _<_, _≤_};
-ghost use lib.ListN.{length, getD};
+ghost use mathlib.Core.Bool.{_&&_};
+ghost use Prim.Native.Nat.{_+_, _<_};
+ghost use lib.ListN.{getD};
 ghost use lib.Dec.{eqb, ltb};
 ghost use Rattle.reading.specs.Blanks.{blank, skip};
 ghost use Rattle.reading.specs.Pieces.{within, digit, byteAt, maskedAt, hexAt, notAt, numberAt, checked, closedAt, dashAt, rangeAt, jumpToken, jumped, plainly, plainAt, _else_};

@@ -1,6 +1,6 @@
 -- The literals `a` and `bc` in buffers that are large enough, and in such as are not. Assumes nothing.
-use mathlib.Core.Path.{_≡_, refl}
-use mathlib.Core.List.{List, [], _∷_, _++_, flatten}
+use mathlib.Core.Path.{refl}
+use mathlib.Core.List.{List, [], _∷_, flatten}
 use Prim.Native.Nat.{ℕ}
 use Rattle.generator.specs.declared.Wrote.the-variants.{All, NoRoom}
 use Rattle.generator.specs.Output.{fits, answered, bytesLeft, lengthsLeft, Generated}

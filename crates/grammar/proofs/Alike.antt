@@ -1,12 +1,12 @@
 -- What follows the offset reached does not matter, so long as no blank stands there. Assumes nothing.
-use mathlib.Core.Path.{_≡_, refl, sym, ap, _∙_, subst}
-use mathlib.Core.Bool.{Bool, true, false}
+use mathlib.Core.Path.{_≡_, sym, ap, _∙_, subst}
+use mathlib.Core.Bool.{false}
 use mathlib.Core.Logic.{_⊎_, ⊎-elim}
-use mathlib.Core.List.{List, [], _∷_, _++_}
-use Prim.Native.Nat.{ℕ, _+_, _≤_, _<_}
+use mathlib.Core.List.{List, [], _∷_}
+use Prim.Native.Nat.{ℕ, _≤_, _<_}
 use native.Mathlib.Omega.{arith}
 use lib.ListN.{length, take, drop, getD, take-append-drop, List·getD-append}
-use lib.Seq.{ext-getD, getD-take, length-take-le, getD-drop}
+use lib.Seq.{ext-getD, getD-take, length-take-le}
 use Rattle.meaning.specs.Tokens.{Tokens}
 use Rattle.reading.specs.Blanks.{blank}
 use Rattle.reading.specs.Lists.{accepted, reading}

@@ -1,12 +1,12 @@
 -- One place more. Assumes nothing.
-use mathlib.Core.Path.{_≡_, refl, sym, ap, _∙_}
-use mathlib.Core.Bool.{Bool, true, false, cond, _&&_}
-use mathlib.Core.Option.{Option, none, some}
+use mathlib.Core.Path.{_≡_, sym, ap, _∙_}
+use mathlib.Core.Bool.{true, false}
+use mathlib.Core.Option.{Option}
 use mathlib.Core.List.{List}
 use Prim.Native.Nat.{ℕ, suc, _+_, _≤_}
 use native.Mathlib.Numerals.{add-one}
 use native.Mathlib.Omega.{arith}
-use lib.ListN.{length, take, drop}
+use lib.ListN.{take, drop}
 use Rattle.meaning.specs.Rows.{forward, backward}
 use Rattle.meaning.specs.Words.{prog, sound}
 use Rattle.steps.specs.declared.Found.the-variants.{Left, Nothing}

@@ -23,7 +23,7 @@ use Rattle.printing.specs.declared.Listed.{Listed}
 use Rattle.printing.specs.declared.Listed.the-variants.{Wrote, NoRoom as Short}
 use Rattle.printing.specs.Laid.{laid}
 use Rattle.printing.specs.Listed.{listedOf}
-use Rattle.printing.specs.Lines.{Picked, picked, unpicked, compiled, listing}
+use Rattle.printing.specs.Lines.{picked, unpicked, listing}
 use Rattle.printing.proofs.LaidLaws.{laid-fits}
 use Rattle.printing.proofs.ListingLaws.{Small, listing-fits, refused-fits}
 use Rattle.lister.specs.Listings.{withRoom, withPrograms, outcome, listingOf}

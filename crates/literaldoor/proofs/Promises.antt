@@ -13,7 +13,7 @@ use Rattle.base.specs.Refusals.{numberOf}
 use Rattle.base.proofs.RefusalLaws.{number-one}
 use Rattle.meaning.specs.Tokens.{Tokens, Spans}
 use Rattle.meaning.specs.Values.{Bytes}
-use Rattle.reading.specs.Lists.{Outcome, accepted, rejected, reading}
+use Rattle.reading.specs.Lists.{Outcome, accepted, reading}
 use Rattle.reading.proofs.PieceLaws.{never}
 use Rattle.picking.specs.Runs.{plain, runs}
 use Rattle.picking.specs.Choice.{Choice, unranked, chosen, tooMany, choice, Picked, picked, unpicked, taking, pick}
@@ -24,7 +24,7 @@ use Rattle.generator.specs.Output as output
 use Rattle.literals.proofs.ReadLaws.{read-literal-bounds}
 use Rattle.literaldoor.specs.declared.LiteralsAnswer.{LiteralsAnswer}
 use Rattle.literaldoor.specs.declared.LiteralsAnswer.the-variants as answer
-use Rattle.literaldoor.specs.Door.{Said, gives, refuses, said, pickedSays, pickedBytes, pickedLengths, outcomeSays, outcomeBytes, outcomeLengths, literalsSays, bytesLeft, lengthsLeft}
+use Rattle.literaldoor.specs.Door.{gives, refuses, said, pickedSays, pickedBytes, pickedLengths, outcomeSays, outcomeBytes, outcomeLengths, literalsSays, bytesLeft, lengthsLeft}
 
 -- ---- what a pick says
 

@@ -1,15 +1,14 @@
 -- The loop over the slices with one first part. Assumes nothing.
-use mathlib.Core.Path.{_≡_, refl, sym, ap, ap₂, _∙_, subst}
-use mathlib.Core.Bool.{Bool, true, false}
-use mathlib.Core.List.{List, [], _∷_, _++_}
+use mathlib.Core.Path.{_≡_, sym, ap, ap₂, _∙_, subst}
+use mathlib.Core.List.{List, _∷_}
 use Prim.Native.Nat.{ℕ, _+_, _-_, _≤_, _<_}
 use native.Mathlib.Omega.{arith}
 use lib.Dec.{eqb}
 use lib.ListN.{length, getD, take, drop, length-drop}
-use Rattle.meaning.specs.Tokens.{Tokens, nothing, _⊕_}
+use Rattle.meaning.specs.Tokens.{Tokens, _⊕_}
 use Rattle.picking.specs.Literals.{lengthIn}
-use Rattle.picking.specs.Runs.{parts, Slice, slice, longer}
-use Rattle.picking.specs.Choice.{Choice, rank, Ranked, widened, against, best}
+use Rattle.picking.specs.Runs.{parts, slice, longer}
+use Rattle.picking.specs.Choice.{Choice, rank, widened, best}
 use Rattle.spelling.specs.Words.{tokensIn}
 use Rattle.spelling.proofs.PartLaws.{part-all, part-long}
 use Rattle.literals.specs.declared.Pick.{Pick}
@@ -18,7 +17,7 @@ use Rattle.literals.specs.Ranks.{rankSays, choiceSays, Settles}
 use Rattle.literals.specs.Whole.{Whole, byteEnd, partEnd, Placed}
 use Rattle.literals.proofs.PartLaws.{Part, first-part}
 use Rattle.literals.proofs.PickLaws.{Stands}
-use Rattle.literals.proofs.SliceLaws.{nextLiteral, further, turn, further-long, further-none, further-more, Next, next-of, widened-words, grown-words, grown-whole, later-words}
+use Rattle.literals.proofs.SliceLaws.{nextLiteral, further, turn, further-more, Next, next-of, widened-words, grown-words, grown-whole, later-words}
 
 -- the tokens of the words from a to b
 abbrev pub words : List ℕ → ℕ → ℕ → Tokens

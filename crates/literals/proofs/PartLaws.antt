@@ -3,21 +3,21 @@ use mathlib.Core.Path.{_≡_, refl, sym, ap, ap₂, _∙_, subst}
 use mathlib.Core.Bool.{Bool, true, false, cond, _&&_}
 use mathlib.Core.Option.{none as nowhere}
 use mathlib.Core.List.{List, [], _∷_, _++_}
-use Prim.Native.Nat.{ℕ, zero, suc, _+_, _-_, _*_, _≤_, _<_, _%_}
+use Prim.Native.Nat.{ℕ, zero, suc, _+_, _-_, _≤_, _<_, _%_}
 use native.Mathlib.Omega.{arith}
 use native.Mathlib.Nat.{le-refl}
 use lib.Dec.{eqb, ltb}
-use lib.ListN.{length, getD, take, drop, length-append, length-take, length-drop, take-append-drop}
-use lib.Seq.{length-take-le, drop-drop, take-add}
+use lib.ListN.{length, getD, take, drop, length-drop}
+use lib.Seq.{drop-drop, take-add}
 use borrow.Author.Tests.{eqb-true, eqb-false, eq-eqb, ne-eqb, ltb-true, ltb-false}
-use Rattle.meaning.specs.Tokens.{Mask, Token, Tokens, Lists, Byte, NotByte, MaskedByte, NotMaskedByte, Jump, Alternatives, nothing, _then_, _⊕_}
+use Rattle.meaning.specs.Tokens.{Token, Tokens, NotByte, MaskedByte, NotMaskedByte, Jump, nothing, _then_, _⊕_}
 use Rattle.picking.specs.Literals.{isByte}
-use Rattle.picking.specs.Runs.{isLiteral, joins, partBefore, parts, literalOnly}
-use Rattle.spelling.specs.Words.{entryToken, firstEntry, tokenIn, width, tokensIn}
+use Rattle.picking.specs.Runs.{isLiteral, joins, partBefore, parts}
+use Rattle.spelling.specs.Words.{entryToken, tokenIn, width, tokensIn}
 use Rattle.spelling.proofs.StepLaws.{tokens-end, tokens-step, width-le, width-long, walk-end, walk-step}
 use Rattle.spelling.proofs.PlainLaws.{token-alternatives, token-entry}
-use Rattle.literals.specs.Whole.{Entire, Whole, none, more, byteEnd, partEnd}
-use Rattle.literals.proofs.WholeLaws.{split, both-whole, whole-first, whole-short, front-whole, front-token}
+use Rattle.literals.specs.Whole.{Whole, byteEnd, partEnd}
+use Rattle.literals.proofs.WholeLaws.{split, both-whole, whole-first, front-whole, front-token}
 
 -- ---- the token at the front is a byte exactly if its kind is 0
 

@@ -1,20 +1,18 @@
 -- A slice against the best so far. Assumes nothing.
-use mathlib.Core.Path.{_≡_, refl, sym, ap, ap₂, _∙_, subst}
-use mathlib.Core.Bool.{Bool, true, false, cond}
+use mathlib.Core.Path.{_≡_, refl, sym, ap, _∙_, subst}
+use mathlib.Core.Bool.{Bool, true, cond}
 use mathlib.Core.List.{List}
 use Prim.Native.Nat.{ℕ, _-_, _≤_, _<_}
 use native.Mathlib.Omega.{arith}
-use lib.Dec.{leb, ltb}
-use lib.ListN.{length, take, drop}
+use lib.Dec.{leb}
+use lib.ListN.{take, drop}
 use borrow.Author.Tests.{lt-ltb, le-ltb, leb-true}
-use Rattle.meaning.specs.Tokens.{Tokens}
 use Rattle.picking.specs.Runs.{Slice}
-use Rattle.picking.specs.Choice.{Ranked, ranked, skipped, excessive, Choice, unranked, chosen, tooMany, widened, against}
+use Rattle.picking.specs.Choice.{Ranked, ranked, skipped, excessive, chosen, widened, against}
 use Rattle.spelling.specs.Words.{tokensIn}
 use Rattle.literals.specs.declared.Pick.{Pick}
 use Rattle.literals.specs.declared.Pick.the-variants.{Nothing, Taken, TooMany}
 use Rattle.literals.specs.declared.Rank.{Rank}
-use Rattle.literals.specs.declared.Rank.the-variants.{Of, Skipped, TooMany as Excess}
 use Rattle.literals.specs.Ranks.{rankSays, choiceSays, Settles, Beaten}
 
 -- against which choices a pick stands

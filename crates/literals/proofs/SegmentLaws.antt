@@ -2,12 +2,11 @@
 use mathlib.Core.Path.{_≡_, refl, sym, ap, ap₂, _∙_, subst}
 use mathlib.Core.Bool.{Bool, true, false, cond, not, _||_}
 use mathlib.Core.List.{List, [], _∷_, _++_}
-use Prim.Native.Nat.{ℕ, zero, suc, _+_, _-_, _≤_, _<_}
+use Prim.Native.Nat.{ℕ, _+_, _-_, _≤_, _<_}
 use native.Mathlib.Omega.{arith}
-use lib.Dec.{eqb}
 use lib.ListN.{length, getD, take, drop, length-drop}
 use lib.Seq.{drop-drop, take-add}
-use Rattle.meaning.specs.Tokens.{Token, Tokens, Alternatives, nothing, _then_, _⊕_}
+use Rattle.meaning.specs.Tokens.{Tokens, _then_, _⊕_}
 use Rattle.picking.specs.Literals.{isPlain}
 use Rattle.picking.specs.Runs.{closes, isAlternatives, segmented, atFront, segments}
 use Rattle.spelling.specs.Words.{entryToken, tokenIn, width, tokensIn}

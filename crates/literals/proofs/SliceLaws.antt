@@ -1,22 +1,22 @@
 -- Slices of a run as words from one place to another. Assumes nothing.
-use mathlib.Core.Path.{_≡_, refl, sym, ap, ap₂, _∙_, subst}
+use mathlib.Core.Path.{_≡_, refl, sym, ap, _∙_, subst}
 use mathlib.Core.Bool.{Bool, true, false, cond}
-use mathlib.Core.List.{List, [], _∷_, _++_, append-assoc}
-use Prim.Native.Nat.{ℕ, zero, suc, _+_, _-_, _*_, _≤_, _<_}
+use mathlib.Core.List.{List, [], _∷_, _++_}
+use Prim.Native.Nat.{ℕ, _+_, _-_, _≤_, _<_}
 use native.Mathlib.Omega.{arith}
 use lib.Dec.{eqb, leb, ltb}
-use lib.ListN.{length, getD, take, drop, length-drop}
+use lib.ListN.{length, getD, take, drop}
 use lib.Seq.{drop-drop, take-add}
 use borrow.Author.Tests.{eqb-true, eqb-false, le-leb, lt-leb, ltb-true, ltb-false}
 use Rattle.meaning.specs.Tokens.{Tokens, nothing, _⊕_}
 use Rattle.picking.specs.Literals.{lengthIn}
 use Rattle.picking.specs.Runs.{isLiteral, parts, Slice, slice, literalOnly, longer}
-use Rattle.picking.specs.Choice.{Choice, rank, Ranked, widened, against, rankOf, best}
+use Rattle.picking.specs.Choice.{Choice, rank, against, rankOf, best}
 use Rattle.spelling.specs.Words.{tokensIn}
 use Rattle.spelling.proofs.StepLaws.{tokens-end}
-use Rattle.literals.specs.Whole.{Whole, none, more, byteEnd, partEnd}
-use Rattle.literals.proofs.WholeLaws.{split, both-whole, whole-short}
-use Rattle.literals.proofs.PartLaws.{Part, first-part, byte-end-none, byte-end-other, bytes-part, token-part}
+use Rattle.literals.specs.Whole.{Whole, none, byteEnd}
+use Rattle.literals.proofs.WholeLaws.{split, both-whole}
+use Rattle.literals.proofs.PartLaws.{Part, byte-end-none, byte-end-other, bytes-part, token-part}
 
 -- the literal part that comes next, or nothing
 unfoldable pub nextLiteral : List Tokens → Tokens

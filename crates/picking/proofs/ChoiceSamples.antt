@@ -1,11 +1,11 @@
 -- 01's samples and false friends on literals, and edges of its rules, computed from the definitions. Assumes nothing.
 use mathlib.Core.Path.{_≡_, refl}
-use mathlib.Core.Option.{none, some}
+use mathlib.Core.Option.{some}
 use mathlib.Core.List.{List, [], _∷_, _++_}
 use Prim.Native.Nat.{ℕ, zero, suc, _+_}
 use lib.ListN.{length}
 use Rattle.base.specs.declared.Refusal.the-variants.{TooManyLiterals, NotPlain}
-use Rattle.meaning.specs.Tokens.{left, right, all, Token, Tokens, Lists, Byte, NotByte, MaskedByte, NotMaskedByte, Jump, Alternatives, nothing, _then_, neither, _or_, _⊕_}
+use Rattle.meaning.specs.Tokens.{left, all, Lists, Byte, NotByte, MaskedByte, Jump, Alternatives, nothing, _then_, neither, _or_, _⊕_}
 use Rattle.atoms.specs.Score.{among as isAmong, common, byteScore, windowScore, highest, literalScore}
 use Rattle.picking.specs.Literals
 use Rattle.picking.specs.Runs

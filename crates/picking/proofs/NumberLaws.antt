@@ -5,7 +5,7 @@ use mathlib.Core.Logic.{_⊎_, inl, inr, ⊎-elim}
 use mathlib.Core.List.{List, [], _∷_, _++_, append-nil, append-assoc}
 use Prim.Native.Nat.{ℕ, zero, suc, _+_, _-_, _*_, _/_, _%_, _≤_, _<_}
 use native.Mathlib.Omega.{arith}
-use native.Mathlib.Nat.{zero-mul, mul-zero, suc-mul, mul-add, mul-assoc, mul-comm, mul-one, one-mul, div-eq-of-lt, mod-eq-of-lt, add-div-left, add-mod-left, mod-lt, div-lt-iff-lt-mul, div-div-eq-div-mul}
+use native.Mathlib.Nat.{zero-mul, mul-zero, suc-mul, mul-add, mul-assoc, mul-one, one-mul, div-eq-of-lt, mod-eq-of-lt, add-div-left, add-mod-left, mod-lt, div-lt-iff-lt-mul}
 use native.Mathlib.Numerals.{add-one}
 use lib.Dec.{ltb}
 use lib.ListN.{length, getD, length-append, List·getD-append}
@@ -13,7 +13,7 @@ use lib.Seq.{getD-append-add}
 use borrow.Author.Tests.{ltb-true, ltb-false}
 use Rattle.meaning.specs.Tokens.{Token, Tokens, Lists, Byte, NotByte, MaskedByte, NotMaskedByte, Jump, Alternatives, nothing, _then_, neither, _or_}
 use Rattle.picking.specs.Literals.{taken, before, _⊗_, singles, followed, spelt, branched, literals}
-use Rattle.picking.specs.Numbers.{countOf, count, countIn, prefixIn, prefixOf, prefixed, single, pieceOf, ending, pieceIn, literalAt}
+use Rattle.picking.specs.Numbers.{countOf, count, countIn, prefixIn, prefixOf, prefixed, pieceOf, ending, pieceIn, literalAt}
 
 -- ---- as many as counted
 

@@ -12,7 +12,7 @@ use Rattle.compiling.specs.Compiling as compiling
 use Rattle.compiling.specs.Compiling.{Either}
 use Rattle.compiling.specs.Compile.{refused, compile}
 use Rattle.compiling.proofs.GivenLaws.{not-simple-given, branch-too-long-given, too-many-nodes-given}
-use Rattle.promise.specs.Cases.{Far, unbounded, above, Unfit, a-jump, a-range, nested, Holds, OneHolds, this-list, other-list, Complex, far, inside, next, sizeOf, size, sizeIn, LongIn, this-branch, other-branch, Long, Large}
+use Rattle.promise.specs.Cases.{Far, unbounded, above, Unfit, a-jump, a-range, nested, HoldsUnfit, OneHoldsUnfit, this-list, other-list, Complex, far, inside, next, sizeOf, size, sizeIn, LongIn, this-branch, other-branch, Long, Large}
 use Rattle.promise.specs.Cases as cases
 
 -- 12
@@ -51,24 +51,24 @@ of-unfit nested = inr tt
 abbrev Unlike : Token → Type 0
 Unlike t = compiling.TooFar t ⊎ compiling.TooRich t
 
-holds-of : (ts : Tokens) → compiling.Some Unlike ts → Holds ts
+holds-of : (ts : Tokens) → compiling.Some Unlike ts → HoldsUnfit ts
 unfolding compiling.Some
 holds-of nothing h = absurd h
-holds-of (t then ts) (inl h) = cases.Holds.here (unfit-of t h)
-holds-of (t then ts) (inr h) = cases.Holds.further (holds-of ts h)
+holds-of (t then ts) (inl h) = cases.HoldsUnfit.here (unfit-of t h)
+holds-of (t then ts) (inr h) = cases.HoldsUnfit.further (holds-of ts h)
 
-of-holds : {ts : Tokens} → Holds ts → compiling.Some Unlike ts
+of-holds : {ts : Tokens} → HoldsUnfit ts → compiling.Some Unlike ts
 unfolding compiling.Some
-of-holds (cases.Holds.here h) = inl (of-unfit h)
-of-holds (cases.Holds.further h) = inr (of-holds h)
+of-holds (cases.HoldsUnfit.here h) = inl (of-unfit h)
+of-holds (cases.HoldsUnfit.further h) = inr (of-holds h)
 
-one-of : (ls : Lists) → compiling.SomeIn Unlike ls → OneHolds ls
+one-of : (ls : Lists) → compiling.SomeIn Unlike ls → OneHoldsUnfit ls
 unfolding compiling.SomeIn
 one-of neither h = absurd h
 one-of (ts or ls) (inl h) = this-list (holds-of ts h)
 one-of (ts or ls) (inr h) = other-list (one-of ls h)
 
-of-one : {ls : Lists} → OneHolds ls → compiling.SomeIn Unlike ls
+of-one : {ls : Lists} → OneHoldsUnfit ls → compiling.SomeIn Unlike ls
 unfolding compiling.SomeIn
 of-one (this-list h) = inl (of-holds h)
 of-one (other-list h) = inr (of-one h)

@@ -16,18 +16,18 @@ pub data Unfit : Token → Type 0 where
   nested : {ls : Lists} → Unfit (Alternatives ls)
 
 -- a list that holds such a token; lists of which one does
-pub data Holds : Tokens → Type 0 where
-  here : {t : Token} {ts : Tokens} → Unfit t → Holds (t then ts)
-  further : {t : Token} {ts : Tokens} → Holds ts → Holds (t then ts)
+pub data HoldsUnfit : Tokens → Type 0 where
+  here : {t : Token} {ts : Tokens} → Unfit t → HoldsUnfit (t then ts)
+  further : {t : Token} {ts : Tokens} → HoldsUnfit ts → HoldsUnfit (t then ts)
 
-pub data OneHolds : Lists → Type 0 where
-  this-list : {ts : Tokens} {ls : Lists} → Holds ts → OneHolds (ts or ls)
-  other-list : {ts : Tokens} {ls : Lists} → OneHolds ls → OneHolds (ts or ls)
+pub data OneHoldsUnfit : Lists → Type 0 where
+  this-list : {ts : Tokens} {ls : Lists} → HoldsUnfit ts → OneHoldsUnfit (ts or ls)
+  other-list : {ts : Tokens} {ls : Lists} → OneHoldsUnfit ls → OneHoldsUnfit (ts or ls)
 
 -- so a pattern is not simple
 pub data Complex : Tokens → Type 0 where
   far : {t : Token} {ts : Tokens} → Far t → Complex (t then ts)
-  inside : {ls : Lists} {ts : Tokens} → OneHolds ls → Complex (Alternatives ls then ts)
+  inside : {ls : Lists} {ts : Tokens} → OneHoldsUnfit ls → Complex (Alternatives ls then ts)
   next : {t : Token} {ts : Tokens} → Complex ts → Complex (t then ts)
 
 -- the nodes of a program: alternatives and each of their branches are nodes too

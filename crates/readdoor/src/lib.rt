@@ -3,7 +3,6 @@
 use base::Refusal;
 use reader::ListGot;
 ghost use mathlib.Core.Path.{_≡_};
-ghost use Prim.Native.Nat.{ℕ};
 ghost use lib.ListN.{length};
 ghost use Rattle.reading.specs.Lists.{reading};
 ghost use Rattle.readdoor.specs.Door.{said, readSays, readLeaves, TextSays};

@@ -1,14 +1,14 @@
 -- Entries, one at a time. Assumes nothing.
-use mathlib.Core.Path.{_≡_, refl, sym, ap, ap₂, _∙_, subst}
+use mathlib.Core.Path.{_≡_, refl, sym, ap, _∙_}
 use mathlib.Core.Bool.{Bool, true, false, cond}
-use mathlib.Core.List.{List, [], _∷_}
-use Prim.Native.Nat.{ℕ, zero, suc, _+_, _-_, _*_, _≤_, _<_, min}
+use mathlib.Core.List.{List}
+use Prim.Native.Nat.{ℕ, zero, suc, _-_, _≤_, _<_}
 use native.Mathlib.Omega.{arith}
 use native.Mathlib.Nat.{le-refl}
 use lib.Dec.{eqb, ltb}
-use lib.ListN.{length, take, drop, getD, length-drop, length-take}
+use lib.ListN.{length, drop, getD, length-drop}
 use borrow.Author.Tests.{lt-ltb, le-ltb}
-use Rattle.meaning.specs.Tokens.{Token, Tokens, Lists, Alternatives, nothing, _then_, neither, _or_}
+use Rattle.meaning.specs.Tokens.{nothing, _then_, neither, _or_}
 use Rattle.spelling.specs.Words.{firstEntry, walk, flatIn, ends, inside, listsIn, tokenIn, width, tokensIn}
 
 -- ---- the bound on the depth of calls does not matter

@@ -1,15 +1,15 @@
 -- Counts, combinations and lengths of entries. What exceeds 256 is counted as 257. Assumes nothing.
-use mathlib.Core.Path.{_≡_, refl, sym, ap, ap₂, _∙_, subst}
+use mathlib.Core.Path.{_≡_, refl, sym, ap, ap₂, _∙_}
 use mathlib.Core.Bool.{Bool, true, false, cond}
 use mathlib.Core.Logic.{_⊎_, inl, inr, ⊎-elim}
 use mathlib.Core.Option.{none}
-use mathlib.Core.List.{List, [], _∷_}
+use mathlib.Core.List.{List}
 use Prim.Native.Nat.{ℕ, zero, suc, _+_, _-_, _*_, _/_, _%_, _≤_, _<_, min}
 use native.Mathlib.Omega.{arith}
-use native.Mathlib.Nat.{mul-zero, mul-one, one-mul, mul-comm, mul-assoc, le-mul-of-pos-right, mul-le-mul, zero-add}
+use native.Mathlib.Nat.{mul-zero, mul-one, mul-comm, mul-assoc, le-mul-of-pos-right}
 use lib.Dec.{eqb, ltb}
 use lib.ListN.{length, getD, take, drop, length-take, length-drop}
-use Rattle.meaning.specs.Tokens.{Mask, Token, Tokens, Lists, Byte, NotByte, MaskedByte, NotMaskedByte, Jump, Alternatives, nothing, _then_, neither, _or_}
+use Rattle.meaning.specs.Tokens.{Mask, Token, Byte, NotByte, MaskedByte, NotMaskedByte, Jump, _or_}
 use Rattle.picking.specs.Literals.{taken, combinationsOf, combinations, combinationsIn, lengthOf, lengthIn, shortest, shorter}
 use Rattle.picking.specs.Numbers.{countOf, count, countIn}
 use Rattle.spelling.specs.Words.{maskIn, entryToken, firstEntry, flatIn, ends, inside, listsIn, tokenIn, width, tokensIn}

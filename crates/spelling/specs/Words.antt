@@ -1,9 +1,9 @@
 -- Token entries, four words each, taken for the tokens that they stand for. Total: what is no entry of a token is taken for a jump.
 -- Assumes nothing: these are definitions; crate literals shows (EntryLaws) that the entries of tokens are taken for those tokens.
-use mathlib.Core.Bool.{Bool, false, cond, not}
+use mathlib.Core.Bool.{cond}
 use mathlib.Core.Option.{none}
-use mathlib.Core.List.{List, [], _∷_}
-use Prim.Native.Nat.{ℕ, zero, suc, _+_, _-_, _*_, _/_, _%_, min}
+use mathlib.Core.List.{List}
+use Prim.Native.Nat.{ℕ, zero, suc, _+_, _-_, _*_, _%_, min}
 use lib.Dec.{eqb, ltb}
 use lib.ListN.{length, take, drop, getD}
 use Rattle.meaning.specs.Tokens.{Mask, left, right, all, Token, Tokens, Lists, Byte, NotByte, MaskedByte, NotMaskedByte, Jump, Alternatives, nothing, _then_, neither, _or_}

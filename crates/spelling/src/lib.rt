@@ -1,15 +1,14 @@
 // Translated from boreal's boreal/src/matcher/literals.rs (MIT OR Apache-2.0), commit 7010b5e967; see NOTICE.
 // What the literals of token entries are: how many, how long, and number k of them.
 ghost use mathlib.Core.Path.{_≡_};
-ghost use mathlib.Core.Bool.{Bool};
 ghost use Prim.Native.Nat.{_+_, _*_, _-_, _≤_, _<_, _%_, min};
-ghost use lib.ListN.{length, getD, take, drop};
+ghost use lib.ListN.{length, getD, drop};
 ghost use Rattle.meaning.specs.Tokens.{MaskedByte, NotMaskedByte};
 ghost use Rattle.bitmap.specs.Bitmap.{Holds};
 ghost use Rattle.picking.specs.Literals.{taken, isPlain, plainList, plainLists, combinationsOf, combinations, combinationsIn, lengthOf, lengthIn, shortest};
 ghost use Rattle.picking.specs.Runs.{plain};
-ghost use Rattle.picking.specs.Numbers.{countOf, count, countIn, prefixIn, prefixOf, prefixed, pieceOf, pieceIn, ending, literalAt};
-ghost use Rattle.spelling.specs.Words.{maskIn, entryToken, firstEntry, flatIn, ends, inside, listsIn, tokenIn, width, tokensIn};
+ghost use Rattle.picking.specs.Numbers.{countOf, count, countIn, prefixIn, prefixOf, prefixed, pieceOf, pieceIn, literalAt};
+ghost use Rattle.spelling.specs.Words.{maskIn, entryToken, flatIn, ends, listsIn, tokenIn, width, tokensIn};
 ghost use Rattle.spelling.specs.Classes.{passes, gapped};
 ghost use Rattle.spelling.specs.Tallies.{Tallied, Numerable, Past, Written, Pieced};
 use bitmap::Bitmap;

@@ -1,7 +1,7 @@
 -- The loop keeps the words before `i` zeroed from `from` on. Assumes nothing.
-use mathlib.Core.Path.{_≡_, refl, sym, ap, _∙_}
+use mathlib.Core.Path.{_≡_, refl, ap, _∙_}
 use mathlib.Core.List.{List}
-use Prim.Native.Nat.{ℕ, _+_, _-_, _≤_}
+use Prim.Native.Nat.{ℕ, _-_, _≤_}
 use lib.ListN.{length, set, length-set}
 use Rattle.base.specs.Pools.{zeroed}
 use Rattle.base.proofs.PoolLaws.{zeroed-none, zeroed-more}

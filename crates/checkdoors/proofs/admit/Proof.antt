@@ -1,13 +1,9 @@
 -- `checkdoors::admit` meets its contract: the tests, in their order. Assumes nothing.
-use mathlib.Core.Path.{_≡_, sym, _∙_}
+use mathlib.Core.Path.{sym, _∙_}
 use Rattle.checkdoors.proofs.DoorLaws as law
-use native.Mathlib.Omega.{arith}
 use borrow.Author.Needs.{needs}
 use Rattle.checkdoors.proofs.admit.Statement.{statement}
 use Rattle.checkdoors.proofs.admit.Tie as tie
-use Rattle.checkdoors.proofs.admit.Reads as reads
-use Rattle.checkdoors.proofs.admit.Lts as lts
-use Rattle.sound.proofs.is_sound.Reads as is-sound-reads
 
 returns : tie.Need-returns
 returns c =

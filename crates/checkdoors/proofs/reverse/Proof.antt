@@ -1,5 +1,5 @@
 -- `checkdoors::reverse` meets its contract. Assumes nothing.
-use mathlib.Core.Path.{_≡_, sym, ap, _∙_}
+use mathlib.Core.Path.{sym, ap, _∙_}
 use lib.ListN.{length}
 use Rattle.checkdoors.specs.Doors.{whyNot}
 use Rattle.checkdoors.proofs.DoorLaws as law
@@ -7,10 +7,6 @@ use native.Mathlib.Omega.{arith}
 use borrow.Author.Needs.{needs}
 use Rattle.checkdoors.proofs.reverse.Statement.{statement}
 use Rattle.checkdoors.proofs.reverse.Tie as tie
-use Rattle.checkdoors.proofs.reverse.Reads as reads
-use Rattle.checkdoors.proofs.reverse.Lts as lts
-use Rattle.checkdoors.proofs.admit.Reads as admit-reads
-use Rattle.reverse.proofs.check.Reads as check-reads
 
 admit-requires : tie.Need-admit-requires
 admit-requires c κs = search needs

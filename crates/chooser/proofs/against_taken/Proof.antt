@@ -1,20 +1,11 @@
 use native.Mathlib.Omega.{arith}
 use borrow.Author.Needs.{needs}
-use mathlib.Core.Path.{_≡_, refl, sym, ap, ap₂, _∙_, subst}
-use mathlib.Core.Bool.{Bool, true, false}
-use mathlib.Core.List.{List}
-use Prim.Native.Nat.{ℕ, _+_, _-_, _≤_, _<_}
-use lib.ListN.{length, take, drop}
-use Rattle.spelling.specs.Words.{tokensIn}
-use Rattle.chooser.specs.Kept.{Kept, Stretch}
-use Rattle.chooser.proofs.ShiftLaws as shift
+use mathlib.Core.Path.{sym, _∙_, subst}
+use Prim.Native.Nat.{_-_}
+use Rattle.chooser.specs.Kept.{Kept}
 use Rattle.chooser.proofs.BetweenLaws as law
-use Rattle.chooser.proofs.RunsLaws as run
 use Rattle.chooser.proofs.against_taken.Statement.{statement}
 use Rattle.chooser.proofs.against_taken.Tie as tie
-use Rattle.chooser.proofs.against_taken.Reads as reads
-use Rattle.chooser.proofs.against_taken.Lts as lts
-use Rattle.chooser.proofs.wins.Reads as wins-reads
 
 -- src/lib.rt:71:26
 enum-told : tie.Need-enum-told

@@ -1,14 +1,8 @@
-use native.Mathlib.Omega.{arith}
 use borrow.Author.Needs.{needs}
 use mathlib.Core.Path.{_∙_}
 use Rattle.chooser.proofs.RunsLaws as run
 use Rattle.chooser.proofs.choose.Statement.{statement}
 use Rattle.chooser.proofs.choose.Tie as tie
-use Rattle.chooser.proofs.choose.Reads as reads
-use Rattle.chooser.proofs.choose.Lts as lts
-use Rattle.chooser.proofs.later_runs.Reads as later-runs-reads
-use Rattle.chooser.proofs.with_run.Reads as with-run-reads
-use Rattle.literals.proofs.run_words.Reads as run-words-reads
 
 -- src/lib.rt:143:9
 run-words-requires : tie.Need-run-words-requires

@@ -1,22 +1,11 @@
 use native.Mathlib.Omega.{arith}
 use borrow.Author.Needs.{needs}
-use mathlib.Core.Path.{_≡_, refl, sym, ap, ap₂, _∙_, subst}
-use mathlib.Core.Bool.{Bool, true, false}
-use mathlib.Core.List.{List}
-use Prim.Native.Nat.{ℕ, _+_, _-_, _≤_, _<_}
-use lib.ListN.{length, take, drop}
-use Rattle.spelling.specs.Words.{tokensIn}
-use Rattle.chooser.specs.Kept.{Kept, Stretch}
-use Rattle.chooser.proofs.ShiftLaws as shift
-use Rattle.chooser.proofs.BetweenLaws as law
+use mathlib.Core.Path.{refl, ap}
+use Prim.Native.Nat.{ℕ, _+_, _-_}
+use lib.ListN.{length}
 use Rattle.chooser.proofs.RunsLaws as run
 use Rattle.chooser.proofs.later_runs.Statement.{statement}
 use Rattle.chooser.proofs.later_runs.Tie as tie
-use Rattle.chooser.proofs.later_runs.Reads as reads
-use Rattle.chooser.proofs.later_runs.Lts as lts
-use Rattle.chooser.proofs.with_run.Reads as with-run-reads
-use Rattle.literals.proofs.run_words.Reads as run-words-reads
-use Rattle.spelling.proofs.width_of.Reads as width-of-reads
 
 abbrev Inv-loop : tie.InvT-loop
 Inv-loop ws first at₀ top₀ at top = run.Asked ws first at top

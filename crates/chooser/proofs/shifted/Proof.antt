@@ -1,11 +1,7 @@
-use native.Mathlib.Omega.{arith}
 use borrow.Author.Needs.{needs}
 use Rattle.chooser.proofs.ShiftLaws as law
 use Rattle.chooser.proofs.shifted.Statement.{statement}
 use Rattle.chooser.proofs.shifted.Tie as tie
-use Rattle.chooser.proofs.shifted.Reads as reads
-use Rattle.chooser.proofs.shifted.Lts as lts
-use Rattle.chooser.proofs.smaller.Reads as smaller-reads
 
 -- src/lib.rt:100:26
 enum-told : tie.Need-enum-told

@@ -1,20 +1,9 @@
-use native.Mathlib.Omega.{arith}
 use borrow.Author.Needs.{needs}
-use mathlib.Core.Path.{_≡_, refl, sym, ap, ap₂, _∙_, subst}
-use mathlib.Core.Bool.{Bool, true, false}
-use mathlib.Core.List.{List}
-use Prim.Native.Nat.{ℕ, _+_, _-_, _≤_, _<_}
-use lib.ListN.{length, take, drop}
+use Prim.Native.Nat.{_-_}
 use Rattle.spelling.specs.Words.{tokensIn}
-use Rattle.chooser.specs.Kept.{Kept, Stretch}
 use Rattle.chooser.proofs.ShiftLaws as shift
-use Rattle.chooser.proofs.BetweenLaws as law
-use Rattle.chooser.proofs.RunsLaws as run
 use Rattle.chooser.proofs.wins.Statement.{statement}
 use Rattle.chooser.proofs.wins.Tie as tie
-use Rattle.chooser.proofs.wins.Reads as reads
-use Rattle.chooser.proofs.wins.Lts as lts
-use Rattle.chooser.proofs.shortest_in.Reads as shortest-in-reads
 
 -- src/lib.rt:57:9
 returns : tie.Need-returns

@@ -1,22 +1,8 @@
-use native.Mathlib.Omega.{arith}
 use borrow.Author.Needs.{needs}
-use mathlib.Core.Path.{_≡_, refl, sym, ap, ap₂, _∙_, subst}
-use mathlib.Core.Bool.{Bool, true, false}
-use mathlib.Core.List.{List}
-use Prim.Native.Nat.{ℕ, _+_, _-_, _≤_, _<_}
-use lib.ListN.{length, take, drop}
-use Rattle.spelling.specs.Words.{tokensIn}
-use Rattle.chooser.specs.Kept.{Kept, Stretch}
-use Rattle.chooser.proofs.ShiftLaws as shift
+use Prim.Native.Nat.{_-_}
 use Rattle.chooser.proofs.BetweenLaws as law
-use Rattle.chooser.proofs.RunsLaws as run
 use Rattle.chooser.proofs.with_run.Statement.{statement}
 use Rattle.chooser.proofs.with_run.Tie as tie
-use Rattle.chooser.proofs.with_run.Reads as reads
-use Rattle.chooser.proofs.with_run.Lts as lts
-use Rattle.chooser.proofs.better.Reads as better-reads
-use Rattle.chooser.proofs.shifted.Reads as shifted-reads
-use Rattle.literals.proofs.in_run.Reads as in-run-reads
 
 -- src/lib.rt:116:9
 returns : tie.Need-returns

@@ -1,11 +1,8 @@
 use Rattle.compiledoor.specs.Door.{madeSays}
-use mathlib.Core.Path.{_≡_, refl, sym, ap, _∙_}
-use native.Mathlib.Omega.{arith}
+use mathlib.Core.Path.{sym, ap}
 use borrow.Author.Needs.{needs}
 use Rattle.compiledoor.proofs.answer_of.Statement.{statement}
 use Rattle.compiledoor.proofs.answer_of.Tie as tie
-use Rattle.compiledoor.proofs.answer_of.Reads as reads
-use Rattle.compiledoor.proofs.answer_of.Lts as lts
 
 -- src/lib.rt:25:24
 enum-known-made : tie.Need-enum-known-made

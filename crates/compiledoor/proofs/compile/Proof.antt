@@ -1,13 +1,8 @@
 use Rattle.compiledoor.proofs.DoorLaws as law
 use Rattle.compiledoor.specs.Door.{said}
-use mathlib.Core.Path.{_≡_, refl, sym, ap, _∙_}
-use native.Mathlib.Omega.{arith}
 use borrow.Author.Needs.{needs}
 use Rattle.compiledoor.proofs.compile.Statement.{statement}
 use Rattle.compiledoor.proofs.compile.Tie as tie
-use Rattle.compiledoor.proofs.compile.Reads as reads
-use Rattle.compiledoor.proofs.compile.Lts as lts
-use Rattle.compiledoor.proofs.compile_text.Reads as compile-text-reads
 
 -- src/lib.rt:57:9
 returns : tie.Need-returns

@@ -2,17 +2,11 @@ use Rattle.compiledoor.proofs.DoorLaws as law
 use Rattle.compiledoor.specs.Door.{said}
 use lib.ListN.{length}
 use native.Mathlib.Nat.{le-refl}
-use mathlib.Core.Path.{_≡_, refl, sym, ap, _∙_}
+use mathlib.Core.Path.{_≡_}
 use native.Mathlib.Omega.{arith}
 use borrow.Author.Needs.{needs}
 use Rattle.compiledoor.proofs.compile_text.Statement.{statement}
 use Rattle.compiledoor.proofs.compile_text.Tie as tie
-use Rattle.compiledoor.proofs.compile_text.Reads as reads
-use Rattle.compiledoor.proofs.compile_text.Lts as lts
-use Rattle.compiledoor.proofs.answer_of.Reads as answer-of-reads
-use Rattle.compiler.proofs.clear.Reads as clear-reads
-use Rattle.compiler.proofs.compile_tokens.Reads as compile-tokens-reads
-use Rattle.readdoor.proofs.read.Reads as read-reads
 
 -- src/lib.rt:37:24
 slice-aggregate-read : tie.Need-slice-aggregate-read

@@ -1,12 +1,8 @@
 use Rattle.base.proofs.PoolLaws as pool
-use mathlib.Core.Path.{_≡_, refl, sym, ap, _∙_}
-use native.Mathlib.Omega.{arith}
+use mathlib.Core.Path.{_∙_}
 use borrow.Author.Needs.{needs}
 use Rattle.compiler.proofs.clear.Statement.{statement}
 use Rattle.compiler.proofs.clear.Tie as tie
-use Rattle.compiler.proofs.clear.Reads as reads
-use Rattle.compiler.proofs.clear.Lts as lts
-use Rattle.base.proofs.zero_words.Reads as zero-words-reads
 
 -- src/lib.rt:148:5
 zero-words-requires : tie.Need-zero-words-requires

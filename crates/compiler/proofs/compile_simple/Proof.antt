@@ -2,19 +2,12 @@ use Rattle.compiler.proofs.ProgramLaws as law
 use Rattle.compiler.specs.Made.{Makes}
 use Rattle.compiling.specs.Compile.{Compiled}
 use lib.ListN.{length}
-use Prim.Native.Nat.{_*_, _≤_}
 use mathlib.Core.Bool.{true, false}
-use mathlib.Core.Path.{_≡_, refl, sym, ap, _∙_, subst}
+use mathlib.Core.Path.{_≡_, subst}
 use native.Mathlib.Omega.{arith}
 use borrow.Author.Needs.{needs}
 use Rattle.compiler.proofs.compile_simple.Statement.{statement}
 use Rattle.compiler.proofs.compile_simple.Tie as tie
-use Rattle.compiler.proofs.compile_simple.Reads as reads
-use Rattle.compiler.proofs.compile_simple.Lts as lts
-use Rattle.compiler.proofs.either.Reads as either-reads
-use Rattle.compiler.proofs.find_starts.Reads as find-starts-reads
-use Rattle.compiler.proofs.finish.Reads as finish-reads
-use Rattle.emit.proofs.add_tokens.Reads as add-tokens-reads
 
 -- src/lib.rt:191:37
 slice-aggregate-find-starts : tie.Need-slice-aggregate-find-starts

@@ -1,14 +1,8 @@
 use Rattle.compiler.proofs.ProgramLaws as law
-use mathlib.Core.Path.{_≡_, refl, sym, ap, _∙_}
-use native.Mathlib.Omega.{arith}
+use mathlib.Core.Path.{sym, _∙_}
 use borrow.Author.Needs.{needs}
 use Rattle.compiler.proofs.compile_tokens.Statement.{statement}
 use Rattle.compiler.proofs.compile_tokens.Tie as tie
-use Rattle.compiler.proofs.compile_tokens.Reads as reads
-use Rattle.compiler.proofs.compile_tokens.Lts as lts
-use Rattle.compiler.proofs.clear.Reads as clear-reads
-use Rattle.compiler.proofs.compile_simple.Reads as compile-simple-reads
-use Rattle.compiler.proofs.simple_tokens.Reads as simple-tokens-reads
 
 -- src/lib.rt:206:8
 simple-tokens-requires : tie.Need-simple-tokens-requires

@@ -1,14 +1,12 @@
 use Rattle.compiler.proofs.FillLaws as law
 use lib.ListN.{length, take, drop, length-set}
 use Prim.Native.Nat.{ℕ, _+_, _-_, _≤_}
-use mathlib.Core.List.{List, _++_}
-use mathlib.Core.Path.{_≡_, refl, sym, ap, _∙_}
+use mathlib.Core.List.{_++_}
+use mathlib.Core.Path.{_≡_, refl, ap, _∙_}
 use native.Mathlib.Omega.{arith}
 use borrow.Author.Needs.{needs}
 use Rattle.compiler.proofs.copy_words.Statement.{statement}
 use Rattle.compiler.proofs.copy_words.Tie as tie
-use Rattle.compiler.proofs.copy_words.Reads as reads
-use Rattle.compiler.proofs.copy_words.Lts as lts
 
 abbrev Inv-loop : tie.InvT-loop
 Inv-loop pool₀ words n i₀ pool i = (i ≤ n) × (length pool ≡ length pool₀) × (pool ≡ take i words ++ drop i pool₀)

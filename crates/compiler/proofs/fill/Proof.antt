@@ -1,13 +1,8 @@
 use Rattle.compiler.proofs.FillLaws as law
-use mathlib.Core.Path.{_≡_, refl, sym, ap, _∙_}
-use native.Mathlib.Omega.{arith}
+use mathlib.Core.Path.{_∙_}
 use borrow.Author.Needs.{needs}
 use Rattle.compiler.proofs.fill.Statement.{statement}
 use Rattle.compiler.proofs.fill.Tie as tie
-use Rattle.compiler.proofs.fill.Reads as reads
-use Rattle.compiler.proofs.fill.Lts as lts
-use Rattle.base.proofs.zero_words.Reads as zero-words-reads
-use Rattle.compiler.proofs.copy_words.Reads as copy-words-reads
 
 -- src/lib.rt:139:5
 copy-words-requires : tie.Need-copy-words-requires

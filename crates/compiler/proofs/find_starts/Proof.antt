@@ -3,16 +3,11 @@ use Rattle.emit.proofs.AltLaws as alts
 use Rattle.meaning.specs.Entries.{entries}
 use Rattle.meaning.specs.Tokens.{Tokens}
 use lib.ListN.{length, set, length-set}
-use Prim.Native.Nat.{ℕ, _+_, _-_, _*_, _≤_}
-use mathlib.Core.List.{List}
-use mathlib.Core.Path.{_≡_, refl, sym, ap, _∙_, subst}
+use Prim.Native.Nat.{ℕ, _+_, _-_}
+use mathlib.Core.Path.{_≡_, refl, sym, _∙_, subst}
 use native.Mathlib.Omega.{arith}
-use borrow.Author.Needs.{needs}
 use Rattle.compiler.proofs.find_starts.Statement.{statement}
 use Rattle.compiler.proofs.find_starts.Tie as tie
-use Rattle.compiler.proofs.find_starts.Reads as reads
-use Rattle.compiler.proofs.find_starts.Lts as lts
-use Rattle.compiler.proofs.token_size.Reads as token-size-reads
 
 abbrev Inv-loop : tie.InvT-loop
 Inv-loop ws starts₀ at₀ n₀ starts at n = (length starts ≡ length starts₀) × ((ts : Tokens) → ws ≡ entries ts → law.Marked ws starts₀ starts at n ts)

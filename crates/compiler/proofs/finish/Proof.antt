@@ -1,15 +1,9 @@
 use Rattle.compiler.proofs.FillLaws as law
 use lib.Seq.{length-take-le}
 use lib.ListN.{take}
-use mathlib.Core.Path.{_≡_, refl, sym, ap, _∙_}
-use native.Mathlib.Omega.{arith}
 use borrow.Author.Needs.{needs}
 use Rattle.compiler.proofs.finish.Statement.{statement}
 use Rattle.compiler.proofs.finish.Tie as tie
-use Rattle.compiler.proofs.finish.Reads as reads
-use Rattle.compiler.proofs.finish.Lts as lts
-use Rattle.compiler.proofs.clear.Reads as clear-reads
-use Rattle.compiler.proofs.fill.Reads as fill-reads
 
 -- src/lib.rt:159:9
 clear-requires : tie.Need-clear-requires

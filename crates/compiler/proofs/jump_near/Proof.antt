@@ -1,12 +1,7 @@
 use Rattle.compiler.specs.Walks.{jumpNear}
 use borrow.Author.Tests.{ne-eqb}
-use mathlib.Core.Path.{_≡_, refl, sym, ap, _∙_}
-use native.Mathlib.Omega.{arith}
-use borrow.Author.Needs.{needs}
 use Rattle.compiler.proofs.jump_near.Statement.{statement}
 use Rattle.compiler.proofs.jump_near.Tie as tie
-use Rattle.compiler.proofs.jump_near.Reads as reads
-use Rattle.compiler.proofs.jump_near.Lts as lts
 
 -- src/lib.rt:17:9
 returns : tie.Need-returns

@@ -1,17 +1,13 @@
 use Rattle.compiler.proofs.WalkLaws as law
 use Rattle.compiler.specs.Walks.{plainEntries}
 use lib.ListN.{length, take, drop, length-take, length-drop}
-use Prim.Native.Nat.{ℕ, _-_, _≤_}
-use mathlib.Core.List.{List}
+use Prim.Native.Nat.{_-_, _≤_}
 use mathlib.Core.Bool.{Bool, _&&_}
 use mathlib.Core.Path.{_≡_, refl, sym, ap, _∙_}
 use native.Mathlib.Omega.{arith}
 use borrow.Author.Needs.{needs}
 use Rattle.compiler.proofs.plain_entries.Statement.{statement}
 use Rattle.compiler.proofs.plain_entries.Tie as tie
-use Rattle.compiler.proofs.plain_entries.Reads as reads
-use Rattle.compiler.proofs.plain_entries.Lts as lts
-use Rattle.compiler.proofs.plain_entry.Reads as plain-entry-reads
 
 abbrev Inv-loop : tie.InvT-loop
 Inv-loop ws rest₀ rest = (length rest ≤ length ws) × (plainEntries ws ≡ plainEntries rest)

@@ -1,13 +1,9 @@
 use Rattle.compiler.specs.Walks.{plainEntry}
 use borrow.Author.Tests.{ne-eqb}
-use mathlib.Core.Path.{_≡_, refl, sym, ap, _∙_}
-use native.Mathlib.Omega.{arith}
+use mathlib.Core.Path.{sym, _∙_}
 use borrow.Author.Needs.{needs}
 use Rattle.compiler.proofs.plain_entry.Statement.{statement}
 use Rattle.compiler.proofs.plain_entry.Tie as tie
-use Rattle.compiler.proofs.plain_entry.Reads as reads
-use Rattle.compiler.proofs.plain_entry.Lts as lts
-use Rattle.compiler.proofs.jump_near.Reads as jump-near-reads
 
 -- src/lib.rt:27:12
 jump-near-requires : tie.Need-jump-near-requires

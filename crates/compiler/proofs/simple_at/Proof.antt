@@ -1,18 +1,13 @@
 use Rattle.compiler.specs.Walks.{simpleAt, plainEntries}
 use Rattle.emit.proofs.AltLaws as alts
 use borrow.Author.Tests.{eq-eqb, ne-eqb}
-use lib.ListN.{length, getD, take, drop}
-use Prim.Native.Nat.{ℕ, _+_, _-_, _*_, _≤_}
-use mathlib.Core.List.{List}
-use mathlib.Core.Path.{_≡_, refl, sym, ap, _∙_}
+use lib.ListN.{getD, take, drop}
+use Prim.Native.Nat.{ℕ, _+_, _-_, _*_}
+use mathlib.Core.Path.{_≡_, ap, _∙_}
 use native.Mathlib.Omega.{arith}
 use borrow.Author.Needs.{needs}
 use Rattle.compiler.proofs.simple_at.Statement.{statement}
 use Rattle.compiler.proofs.simple_at.Tie as tie
-use Rattle.compiler.proofs.simple_at.Reads as reads
-use Rattle.compiler.proofs.simple_at.Lts as lts
-use Rattle.compiler.proofs.jump_near.Reads as jump-near-reads
-use Rattle.compiler.proofs.plain_entries.Reads as plain-entries-reads
 
 -- src/lib.rt:65:16
 mul-kind : tie.Need-mul-kind

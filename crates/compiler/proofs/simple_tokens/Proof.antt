@@ -3,17 +3,11 @@ use Rattle.emit.proofs.AltLaws as alts
 use Rattle.meaning.specs.Entries.{entries}
 use Rattle.meaning.specs.Tokens.{Tokens}
 use lib.ListN.{length}
-use Prim.Native.Nat.{ℕ, _+_, _-_, _*_, _≤_}
-use mathlib.Core.List.{List}
-use mathlib.Core.Path.{_≡_, refl, sym, ap, _∙_, subst}
+use Prim.Native.Nat.{ℕ, _+_, _-_}
+use mathlib.Core.Path.{_≡_, sym, _∙_, subst}
 use native.Mathlib.Omega.{arith}
-use borrow.Author.Needs.{needs}
 use Rattle.compiler.proofs.simple_tokens.Statement.{statement}
 use Rattle.compiler.proofs.simple_tokens.Tie as tie
-use Rattle.compiler.proofs.simple_tokens.Reads as reads
-use Rattle.compiler.proofs.simple_tokens.Lts as lts
-use Rattle.compiler.proofs.simple_at.Reads as simple-at-reads
-use Rattle.compiler.proofs.token_size.Reads as token-size-reads
 
 abbrev Inv-loop : tie.InvT-loop
 Inv-loop ws at₀ at = (ts : Tokens) → ws ≡ entries ts → law.Walked ws at ts

@@ -1,12 +1,10 @@
 use Rattle.emit.proofs.AltLaws as law
 use Prim.Native.Nat.{_+_}
-use mathlib.Core.Path.{_≡_, refl, sym, ap, _∙_}
+use mathlib.Core.Path.{sym}
 use native.Mathlib.Omega.{arith}
 use borrow.Author.Needs.{needs}
 use Rattle.compiler.proofs.token_size.Statement.{statement}
 use Rattle.compiler.proofs.token_size.Tie as tie
-use Rattle.compiler.proofs.token_size.Reads as reads
-use Rattle.compiler.proofs.token_size.Lts as lts
 
 -- src/lib.rt:54:8
 mul-if1 : tie.Need-mul-if1

@@ -1,13 +1,7 @@
-use Prim.Native.Nat.{_+_, _-_, _≤_}
-use native.Mathlib.Omega.{arith}
+use Prim.Native.Nat.{_-_}
 use borrow.Author.Needs.{needs}
 use Rattle.compilings.proofs.list.Statement.{statement}
 use Rattle.compilings.proofs.list.Tie as tie
-use Rattle.compilings.proofs.list.Reads as reads
-use Rattle.compilings.proofs.list.Lts as lts
-use Rattle.compilings.proofs.number.Reads as number-reads
-use Rattle.compilings.proofs.wide.Reads as wide-reads
-use Rattle.io.proofs.write_all.Reads as write-all-reads
 
 abbrev Inv-loop : tie.InvT-loop
 Inv-loop pool n i₀ t4 t5 i = Unit {0}

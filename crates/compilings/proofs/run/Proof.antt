@@ -1,13 +1,10 @@
-use Prim.Native.Nat.{_+_, _-_, _≤_}
+use Prim.Native.Nat.{_-_, _≤_}
 use lib.ListN.{length}
 use mathlib.Core.Logic.{⊎-elim}
 use native.Mathlib.Omega.{arith}
 use borrow.Author.Needs.{needs}
 use Rattle.compilings.proofs.run.Statement.{statement}
 use Rattle.compilings.proofs.run.Tie as tie
-use Rattle.compilings.proofs.run.Reads as reads
-use Rattle.compilings.proofs.run.Lts as lts
-use Rattle.compilings.proofs.fresh.Reads as fresh-reads
 
 abbrev Inv-loop : tie.InvT-loop
 Inv-loop input start₀ i₀ start i = (start ≤ i) × (i ≤ length input)

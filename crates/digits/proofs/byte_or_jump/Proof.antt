@@ -3,7 +3,6 @@ use mathlib.Core.Path.{sym, ap, _∙_}
 use Rattle.reading.specs.Pieces.{plainly, rangeAt, jumped, _else_}
 use Rattle.digits.specs.Answers.{spelled}
 use Rattle.reading.proofs.PieceSteps.{hex-byte, byte-else}
-use native.Mathlib.Omega.{arith}
 use borrow.Author.Needs.{needs}
 use Rattle.digits.proofs.byte_or_jump.Statement.{statement}
 use Rattle.digits.proofs.byte_or_jump.Tie as tie

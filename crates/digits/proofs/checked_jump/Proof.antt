@@ -8,7 +8,6 @@ use Rattle.reading.proofs.PieceSteps.{checked-open, checked-empty, checked-wron
 use Rattle.reading.specs.Pieces.{between}
 use Rattle.meaning.specs.Tokens.{left}
 use Rattle.digits.specs.declared.Upper.{Upper}
-use native.Mathlib.Omega.{arith}
 use borrow.Author.Needs.{needs}
 use Rattle.digits.proofs.checked_jump.Statement.{statement}
 use Rattle.digits.proofs.checked_jump.Tie as tie

@@ -2,7 +2,6 @@
 use mathlib.Core.Path.{sym, ap, _∙_}
 use Rattle.digits.specs.Answers.{spelled}
 use Rattle.reading.proofs.PieceSteps.{hex-byte, hex-masked}
-use native.Mathlib.Omega.{arith}
 use borrow.Author.Needs.{needs}
 use Rattle.digits.proofs.hex_byte.Statement.{statement}
 use Rattle.digits.proofs.hex_byte.Tie as tie

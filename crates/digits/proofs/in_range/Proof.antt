@@ -2,8 +2,6 @@
 use borrow.Author.Tests.{le-leb, lt-leb}
 use Rattle.reading.specs.Pieces.{within}
 use Rattle.meaning.specs.Tokens.{left}
-use native.Mathlib.Omega.{arith}
-use borrow.Author.Needs.{needs}
 use Rattle.digits.proofs.in_range.Statement.{statement}
 use Rattle.digits.proofs.in_range.Tie as tie
 

@@ -1,6 +1,5 @@
 -- Each way out gives what the definition gives there. Assumes nothing.
 
-use native.Mathlib.Omega.{arith}
 use borrow.Author.Needs.{needs}
 use Rattle.digits.proofs.inside_too_big.Statement.{statement}
 use Rattle.digits.proofs.inside_too_big.Tie as tie

@@ -2,8 +2,6 @@
 use borrow.Author.Tests.{ne-eqb}
 use Rattle.reading.specs.Blanks.{blank}
 use Rattle.meaning.specs.Tokens.{left}
-use native.Mathlib.Omega.{arith}
-use borrow.Author.Needs.{needs}
 use Rattle.digits.proofs.is_blank.Statement.{statement}
 use Rattle.digits.proofs.is_blank.Tie as tie
 

@@ -6,7 +6,6 @@ use Rattle.reading.proofs.PieceSteps.{jumped-unbounded, jumped-open, jumped-big
 use Rattle.reading.specs.Pieces.{between}
 use Rattle.meaning.specs.Tokens.{Token, left}
 use Rattle.digits.specs.declared.Upper.{Upper}
-use native.Mathlib.Omega.{arith}
 use borrow.Author.Needs.{needs}
 use Rattle.digits.proofs.jump.Statement.{statement}
 use Rattle.digits.proofs.jump.Tie as tie

@@ -2,7 +2,6 @@
 use mathlib.Core.Path.{sym, _∙_}
 use Rattle.reading.specs.Pieces.{jumpToken}
 use Rattle.meaning.specs.Tokens.{left}
-use native.Mathlib.Omega.{arith}
 use borrow.Author.Needs.{needs}
 use Rattle.digits.proofs.one_jump.Statement.{statement}
 use Rattle.digits.proofs.one_jump.Tie as tie

@@ -2,7 +2,6 @@
 use mathlib.Core.Path.{sym}
 use lib.ListN.{List·getD-eq-default}
 use Rattle.meaning.specs.Tokens.{left}
-use native.Mathlib.Omega.{arith}
 use borrow.Author.Needs.{needs}
 use Rattle.digits.proofs.peek.Statement.{statement}
 use Rattle.digits.proofs.peek.Tie as tie

@@ -3,7 +3,6 @@ use mathlib.Core.Path.{sym, ap, _∙_}
 use Rattle.reading.specs.Pieces.{_else_}
 use Rattle.digits.specs.Answers.{pieceOf}
 use Rattle.reading.proofs.PieceSteps.{plain-not}
-use native.Mathlib.Omega.{arith}
 use borrow.Author.Needs.{needs}
 use Rattle.digits.proofs.plain_token.Statement.{statement}
 use Rattle.digits.proofs.plain_token.Tie as tie

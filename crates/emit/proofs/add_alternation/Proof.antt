@@ -1,17 +1,10 @@
 use Rattle.emit.proofs.AltLaws as law
-use borrow.Rule.Slice.PartMut.{putMid, same-len-mid}
-use lib.ListN.{length, getD, length-take, length-drop}
-use Prim.Native.Nat.{ℕ, _+_, _-_, _*_, _/_, _≤_, _<_}
-use mathlib.Core.List.{List}
-use mathlib.Core.Path.{_≡_, refl, sym, ap, _∙_, subst}
+use lib.ListN.{length-take, length-drop}
+use Prim.Native.Nat.{_+_, _-_}
 use native.Mathlib.Omega.{arith}
 use borrow.Author.Needs.{needs}
 use Rattle.emit.proofs.add_alternation.Statement.{statement}
 use Rattle.emit.proofs.add_alternation.Tie as tie
-use Rattle.emit.proofs.add_alternation.Reads as reads
-use Rattle.emit.proofs.add_alternation.Lts as lts
-use Rattle.emit.proofs.add_lists.Reads as add-lists-reads
-use Rattle.nodes.proofs.node_word.Reads as node-word-reads
 
 -- src/lib.rt:233:24
 add-lists : tie.Need-add-lists

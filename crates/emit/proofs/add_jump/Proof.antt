@@ -1,16 +1,10 @@
 use Rattle.emit.proofs.PutLaws as law
 use lib.ListN.{set}
-use Prim.Native.Nat.{ℕ, _+_, _-_}
-use mathlib.Core.List.{List}
-use mathlib.Core.Path.{_≡_, refl, sym, ap, _∙_}
-use native.Mathlib.Omega.{arith}
+use Prim.Native.Nat.{ℕ, _-_}
+use mathlib.Core.Path.{ap, _∙_}
 use borrow.Author.Needs.{needs}
 use Rattle.emit.proofs.add_jump.Statement.{statement}
 use Rattle.emit.proofs.add_jump.Tie as tie
-use Rattle.emit.proofs.add_jump.Reads as reads
-use Rattle.emit.proofs.add_jump.Lts as lts
-use Rattle.emit.proofs.append_jump.Reads as append-jump-reads
-use Rattle.nodes.proofs.node_word.Reads as node-word-reads
 
 -- src/lib.rt:101:21
 enum-known-last : tie.Need-enum-known-last

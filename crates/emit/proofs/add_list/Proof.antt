@@ -1,20 +1,13 @@
 use Rattle.emit.proofs.ListLaws as law
 use Rattle.emit.proofs.HoldLaws as hold
 use Rattle.emit.specs.Lists.{addedTo, listItem}
-use Rattle.emit.specs.Items.{putCount}
-use lib.ListN.{length, getD}
-use Prim.Native.Nat.{ℕ, _+_, _-_, _*_, _/_, _≤_, _<_}
-use mathlib.Core.List.{List}
-use mathlib.Core.Path.{_≡_, refl, sym, ap, _∙_, subst}
+use lib.ListN.{length}
+use Prim.Native.Nat.{_-_, _*_, _/_, _≤_, _<_}
+use mathlib.Core.Path.{_≡_, refl, _∙_}
 use native.Mathlib.Omega.{arith}
 use borrow.Author.Needs.{needs}
 use Rattle.emit.proofs.add_list.Statement.{statement}
 use Rattle.emit.proofs.add_list.Tie as tie
-use Rattle.emit.proofs.add_list.Reads as reads
-use Rattle.emit.proofs.add_list.Lts as lts
-use Rattle.emit.proofs.add_piece.Reads as add-piece-reads
-use Rattle.emit.proofs.entry_piece.Reads as entry-piece-reads
-use Rattle.emit.proofs.place.Reads as place-reads
 
 abbrev Inv-loop : tie.InvT-loop
 Inv-loop entries backwards out₀ count n₀ last₀ k₀ out n last k = (k ≤ length entries / 4) × (n ≤ k) × (length out ≡ length out₀) × hold.Holds (addedTo (listItem backwards entries) k) out₀ out n last

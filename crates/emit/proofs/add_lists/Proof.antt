@@ -1,18 +1,10 @@
 use Rattle.emit.proofs.BranchLaws as law
-use borrow.Rule.Slice.PartMut.{putMid, same-len-mid}
-use lib.ListN.{length, getD, length-take, length-drop}
-use Prim.Native.Nat.{ℕ, _+_, _-_, _*_, _/_, _≤_, _<_}
-use mathlib.Core.List.{List}
-use mathlib.Core.Path.{_≡_, refl, sym, ap, _∙_, subst}
+use lib.ListN.{length-take, length-drop}
+use Prim.Native.Nat.{_-_}
 use native.Mathlib.Omega.{arith}
 use borrow.Author.Needs.{needs}
 use Rattle.emit.proofs.add_lists.Statement.{statement}
 use Rattle.emit.proofs.add_lists.Tie as tie
-use Rattle.emit.proofs.add_lists.Reads as reads
-use Rattle.emit.proofs.add_lists.Lts as lts
-use Rattle.emit.proofs.add_list.Reads as add-list-reads
-use Rattle.emit.proofs.branch_word.Reads as branch-word-reads
-use Rattle.emit.proofs.longer.Reads as longer-reads
 
 abbrev Inv-loop : tie.InvT-loop
 Inv-loop entries lists backwards out₀ x₀ n₀ l₀ long₀ out x n l long = law.Left backwards lists entries out₀ out x n l long

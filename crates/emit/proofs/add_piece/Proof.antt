@@ -1,13 +1,9 @@
 use Rattle.emit.proofs.PutLaws as law
 use Rattle.emit.specs.declared.Piece.{Piece}
-use mathlib.Core.Path.{_≡_, refl, sym, ap, _∙_, subst}
-use native.Mathlib.Omega.{arith}
+use mathlib.Core.Path.{sym, subst}
 use borrow.Author.Needs.{needs}
 use Rattle.emit.proofs.add_piece.Statement.{statement}
 use Rattle.emit.proofs.add_piece.Tie as tie
-use Rattle.emit.proofs.add_piece.Reads as reads
-use Rattle.emit.proofs.add_piece.Lts as lts
-use Rattle.emit.proofs.add_jump.Reads as add-jump-reads
 
 -- src/lib.rt:109:21
 enum-known-piece : tie.Need-enum-known-piece

@@ -1,19 +1,11 @@
 use Rattle.emit.proofs.AltLaws as law
 use Rattle.emit.specs.Lists.{altAt, entryAt, tokenAt}
-use lib.ListN.{length, getD, length-take, length-drop}
-use Prim.Native.Nat.{ℕ, _+_, _-_, _*_, _/_, _≤_, _<_}
-use mathlib.Core.List.{List}
-use mathlib.Core.Path.{_≡_, refl, sym, ap, _∙_, subst}
+use lib.ListN.{length-take, length-drop}
+use Prim.Native.Nat.{_-_}
 use native.Mathlib.Omega.{arith}
 use borrow.Author.Needs.{needs}
 use Rattle.emit.proofs.add_token.Statement.{statement}
 use Rattle.emit.proofs.add_token.Tie as tie
-use Rattle.emit.proofs.add_token.Reads as reads
-use Rattle.emit.proofs.add_token.Lts as lts
-use Rattle.emit.proofs.add_alternation.Reads as add-alternation-reads
-use Rattle.emit.proofs.add_piece.Reads as add-piece-reads
-use Rattle.emit.proofs.either.Reads as either-reads
-use Rattle.emit.proofs.entry_piece.Reads as entry-piece-reads
 
 -- src/lib.rt:257:16
 mul-kind : tie.Need-mul-kind

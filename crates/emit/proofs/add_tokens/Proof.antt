@@ -1,19 +1,13 @@
 use Rattle.emit.proofs.TokensLaws as law
 use Rattle.emit.proofs.LinkLaws as link
 use Rattle.emit.proofs.HoldLaws as hold
-use Rattle.emit.specs.Items.{placeOf}
-use lib.ListN.{length, getD, length-take, length-drop}
-use Prim.Native.Nat.{ℕ, _+_, _-_, _*_, _/_, _≤_, _<_}
-use mathlib.Core.List.{List}
-use mathlib.Core.Path.{_≡_, refl, sym, ap, _∙_, subst}
+use lib.ListN.{length, getD}
+use Prim.Native.Nat.{ℕ, _-_}
+use mathlib.Core.Path.{ap}
 use native.Mathlib.Omega.{arith}
 use borrow.Author.Needs.{needs}
 use Rattle.emit.proofs.add_tokens.Statement.{statement}
 use Rattle.emit.proofs.add_tokens.Tie as tie
-use Rattle.emit.proofs.add_tokens.Reads as reads
-use Rattle.emit.proofs.add_tokens.Lts as lts
-use Rattle.emit.proofs.add_token.Reads as add-token-reads
-use Rattle.emit.proofs.place.Reads as place-reads
 
 abbrev Inv-loop : tie.InvT-loop
 Inv-loop tokens starts backwards out₀ count n₀ last₀ long₀ k₀ out n last long k = law.Done backwards tokens starts out₀ out n last long k

@@ -1,14 +1,9 @@
 use lib.ListN.{set}
 use Prim.Native.Nat.{ℕ}
-use mathlib.Core.List.{List}
-use mathlib.Core.Path.{_≡_, refl, sym, ap, _∙_}
-use native.Mathlib.Omega.{arith}
+use mathlib.Core.Path.{refl, ap}
 use borrow.Author.Needs.{needs}
 use Rattle.emit.proofs.append_jump.Statement.{statement}
 use Rattle.emit.proofs.append_jump.Tie as tie
-use Rattle.emit.proofs.append_jump.Reads as reads
-use Rattle.emit.proofs.append_jump.Lts as lts
-use Rattle.nodes.proofs.node_word.Reads as node-word-reads
 
 -- src/lib.rt:91:14
 node-word-requires : tie.Need-node-word-requires

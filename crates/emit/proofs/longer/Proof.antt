@@ -1,12 +1,8 @@
 use borrow.Author.Tests.{lt-leb, le-leb}
-use mathlib.Core.Bool.{Bool, true, false, not, _||_}
-use mathlib.Core.Path.{_≡_, refl, sym, ap, _∙_}
-use native.Mathlib.Omega.{arith}
-use borrow.Author.Needs.{needs}
+use mathlib.Core.Bool.{Bool, true, false, _||_}
+use mathlib.Core.Path.{_≡_, refl}
 use Rattle.emit.proofs.longer.Statement.{statement}
 use Rattle.emit.proofs.longer.Tie as tie
-use Rattle.emit.proofs.longer.Reads as reads
-use Rattle.emit.proofs.longer.Lts as lts
 
 -- src/lib.rt:191:9
 returns : tie.Need-returns

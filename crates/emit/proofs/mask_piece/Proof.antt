@@ -1,15 +1,11 @@
-use mathlib.Core.Path.{_≡_, refl, sym, ap, _∙_}
-use borrow.Author.Tests.{eq-eqb, ne-eqb, lt-ltb, le-ltb}
+use mathlib.Core.Path.{ap}
+use borrow.Author.Tests.{ne-eqb}
 use Rattle.compiling.specs.ProgramWords.{wordFor}
-use Rattle.emit.specs.declared.Piece.the-variants.{Word, Gap}
-use Rattle.emit.specs.Items.{maskItem, notMaskItem, jumpItem, entryItem, pieceOf}
-use native.Mathlib.Omega.{arith}
+use Rattle.emit.specs.declared.Piece.the-variants.{Word}
+use Rattle.emit.specs.Items.{maskItem, pieceOf}
 use borrow.Author.Needs.{needs}
 use Rattle.emit.proofs.mask_piece.Statement.{statement}
 use Rattle.emit.proofs.mask_piece.Tie as tie
-use Rattle.emit.proofs.mask_piece.Reads as reads
-use Rattle.emit.proofs.mask_piece.Lts as lts
-use Rattle.nodes.proofs.node_word.Reads as node-word-reads
 
 -- src/lib.rt:36:13
 cast-v : tie.Need-cast-v

@@ -1,11 +1,8 @@
 use Rattle.emit.specs.Items.{placeOf}
-use mathlib.Core.Path.{_≡_, refl, sym, ap, _∙_}
 use native.Mathlib.Omega.{arith}
 use borrow.Author.Needs.{needs}
 use Rattle.emit.proofs.place.Statement.{statement}
 use Rattle.emit.proofs.place.Tie as tie
-use Rattle.emit.proofs.place.Reads as reads
-use Rattle.emit.proofs.place.Lts as lts
 
 -- src/lib.rt:123:16
 sub-result : tie.Need-sub-result

@@ -1,5 +1,5 @@
 -- `forward::flat` meets its contract: what fits the whole is what fits what is left. Assumes nothing.
-use mathlib.Core.Path.{_≡_, refl, sym, ap, _∙_}
+use mathlib.Core.Path.{_≡_, sym, ap, _∙_}
 use mathlib.Core.Bool.{true}
 use lib.ListN.{length}
 use Rattle.meaning.specs.Choices.{short}
@@ -15,11 +15,6 @@ use native.Mathlib.Omega.{arith}
 use borrow.Author.Needs.{needs}
 use Rattle.forward.proofs.flat.Statement.{statement}
 use Rattle.forward.proofs.flat.Tie as tie
-use Rattle.forward.proofs.flat.Reads as reads
-use Rattle.forward.proofs.flat.Lts as lts
-use Rattle.steps.proofs.first_byte.Reads as first-byte-reads
-use Rattle.nodes.proofs.first_word.Reads as first-word-reads
-use Rattle.steps.proofs.word_passes.Reads as word-passes-reads
 
 abbrev Inv-loop : tie.InvT-loop
 Inv-loop branch mem ns₀ m₀ ns m = (plainWords ns ≡ true) × (forward (prog branch) mem ≡ forward (prog ns) m)

@@ -3,9 +3,6 @@ use native.Mathlib.Omega.{arith}
 use borrow.Author.Needs.{needs}
 use Rattle.generator.proofs.length_at.Statement.{statement}
 use Rattle.generator.proofs.length_at.Tie as tie
-use Rattle.generator.proofs.length_at.Reads as reads
-use Rattle.generator.proofs.length_at.Lts as lts
-use Rattle.spelling.proofs.write_literal.Reads as write-literal-reads
 
 -- src/lib.rt:23:36
 sub-write-literal : tie.Need-sub-write-literal

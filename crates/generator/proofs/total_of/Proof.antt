@@ -9,9 +9,6 @@ use native.Mathlib.Omega.{arith}
 use borrow.Author.Needs.{needs}
 use Rattle.generator.proofs.total_of.Statement.{statement}
 use Rattle.generator.proofs.total_of.Tie as tie
-use Rattle.generator.proofs.total_of.Reads as reads
-use Rattle.generator.proofs.total_of.Lts as lts
-use Rattle.generator.proofs.length_at.Reads as length-at-reads
 
 abbrev Inv-loop : tie.InvT-loop
 Inv-loop ws n total₀ k₀ total k = (k ≤ n) × (total ≤ 1024 * k) × (total + length (flatten (drop k (literals (tokensIn ws)))) ≡ length (flatten (literals (tokensIn ws))))

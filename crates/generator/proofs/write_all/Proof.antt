@@ -6,11 +6,6 @@ use native.Mathlib.Omega.{arith}
 use borrow.Author.Needs.{needs}
 use Rattle.generator.proofs.write_all.Statement.{statement}
 use Rattle.generator.proofs.write_all.Tie as tie
-use Rattle.generator.proofs.write_all.Reads as reads
-use Rattle.generator.proofs.write_all.Lts as lts
-use Rattle.generator.proofs.total_of.Reads as total-of-reads
-use Rattle.generator.proofs.write_each.Reads as write-each-reads
-use Rattle.spelling.proofs.tally_tokens.Reads as tally-tokens-reads
 
 -- src/lib.rt:60:9
 tally-tokens-requires : tie.Need-tally-tokens-requires

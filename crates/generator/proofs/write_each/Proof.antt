@@ -6,9 +6,6 @@ use native.Mathlib.Omega.{arith}
 use borrow.Author.Needs.{needs}
 use Rattle.generator.proofs.write_each.Statement.{statement}
 use Rattle.generator.proofs.write_each.Tie as tie
-use Rattle.generator.proofs.write_each.Reads as reads
-use Rattle.generator.proofs.write_each.Lts as lts
-use Rattle.spelling.proofs.write_literal.Reads as write-literal-reads
 
 abbrev Inv-loop : tie.InvT-loop
 Inv-loop ws n bytes₀ lengths₀ at₀ k₀ bytes lengths at k = (k ≤ n) × law.Part (tokensIn ws) k at bytes₀ lengths₀ bytes lengths

@@ -3,7 +3,6 @@ use borrow.Author.Tests.{not-true, not-false}
 use mathlib.Core.Path.{_≡_, refl, sym, ap, _∙_}
 use Prim.Native.Nat.{_≤_, _-_}
 use lib.ListN.{length}
-use lib.Seq.{length-take-le}
 use Rattle.meaning.specs.Rows.{forward}
 use Rattle.meaning.specs.Words.{prog}
 use Rattle.meaning.proofs.WordSpans.{sound-words}
@@ -15,10 +14,6 @@ use native.Mathlib.Omega.{arith}
 use borrow.Author.Needs.{needs}
 use Rattle.hits.proofs.tm_hits.Statement.{statement}
 use Rattle.hits.proofs.tm_hits.Tie as tie
-use Rattle.hits.proofs.tm_hits.Reads as reads
-use Rattle.hits.proofs.tm_hits.Lts as lts
-use Rattle.forward.proofs.check.Reads as check-reads
-use Rattle.sound.proofs.is_sound.Reads as is-sound-reads
 
 abbrev Inv-loop : tie.InvT-loop
 Inv-loop words hay n₀ i₀ n i = (i ≤ length hay) × (n ≡ startIn words hay i)

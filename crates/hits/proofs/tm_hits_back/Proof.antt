@@ -4,21 +4,13 @@ use mathlib.Core.Path.{_≡_, refl, sym, ap, _∙_}
 use Prim.Native.Nat.{_≤_, _-_}
 use lib.ListN.{length}
 use lib.Seq.{length-take-le}
-use Rattle.meaning.specs.Rows.{backward}
-use Rattle.meaning.specs.Words.{prog}
 use Rattle.meaning.proofs.WordSpans.{sound-words}
-use Rattle.nodes.proofs.WordHeads.{to-end}
-use Rattle.steps.specs.Steps.{answer}
 use Rattle.hits.specs.Hits.{endIn}
 use Rattle.hits.proofs.HitLaws as law
 use native.Mathlib.Omega.{arith}
 use borrow.Author.Needs.{needs}
 use Rattle.hits.proofs.tm_hits_back.Statement.{statement}
 use Rattle.hits.proofs.tm_hits_back.Tie as tie
-use Rattle.hits.proofs.tm_hits_back.Reads as reads
-use Rattle.hits.proofs.tm_hits_back.Lts as lts
-use Rattle.reverse.proofs.check.Reads as check-reads
-use Rattle.sound.proofs.is_sound.Reads as is-sound-reads
 
 abbrev Inv-loop : tie.InvT-loop
 Inv-loop words hay n₀ i₀ n i = (i ≤ length hay) × (n ≡ endIn words hay i)

@@ -4,22 +4,12 @@ use Rattle.literaldoor.proofs.DoorLaws as law
 use Rattle.literaldoor.proofs.ToldLaws as told
 use Rattle.literaldoor.specs.Door.{said}
 use Rattle.readdoor.proofs.Got as into
-use Rattle.chooser.proofs.BetweenLaws.{part-few}
-use Rattle.literals.specs.Ranks.{choiceSays}
-use Rattle.chooser.specs.Kept.{Kept}
-use Rattle.picking.specs.Literals.{literals as literalsOf}
-use Rattle.spelling.specs.Words.{tokensIn}
-use lib.ListN.{length, take, drop}
+use lib.ListN.{length}
 use native.Mathlib.Nat.{le-refl}
-use Prim.Native.Nat.{ℕ, _+_, _-_, _≤_, _<_}
-use mathlib.Core.List.{List}
-use mathlib.Core.Path.{_≡_, refl, sym, ap, ap₂, _∙_, subst}
+use Prim.Native.Nat.{_-_}
+use mathlib.Core.Path.{_≡_}
 use Rattle.literaldoor.proofs.literals.Statement.{statement}
 use Rattle.literaldoor.proofs.literals.Tie as tie
-use Rattle.literaldoor.proofs.literals.Reads as reads
-use Rattle.literaldoor.proofs.literals.Lts as lts
-use Rattle.literaldoor.proofs.pick_tokens.Reads as pick-tokens-reads
-use Rattle.readdoor.proofs.read.Reads as read-reads
 
 -- src/lib.rt:68:34
 slice-aggregate-read : tie.Need-slice-aggregate-read

@@ -1,26 +1,13 @@
-use native.Mathlib.Omega.{arith}
 use borrow.Author.Needs.{needs}
 use borrow.Author.Tests.{not-true, not-false}
 use Rattle.literaldoor.proofs.DoorLaws as law
 use Rattle.literaldoor.specs.Door.{said}
-use Rattle.readdoor.proofs.Got as into
-use Rattle.chooser.proofs.BetweenLaws.{part-few}
 use Rattle.literals.specs.Ranks.{choiceSays}
-use Rattle.chooser.specs.Kept.{Kept}
-use Rattle.picking.specs.Literals.{literals as literalsOf}
 use Rattle.spelling.specs.Words.{tokensIn}
-use lib.ListN.{length, take, drop}
-use native.Mathlib.Nat.{le-refl}
-use Prim.Native.Nat.{ℕ, _+_, _-_, _≤_, _<_}
-use mathlib.Core.List.{List}
-use mathlib.Core.Path.{_≡_, refl, sym, ap, ap₂, _∙_, subst}
+use Prim.Native.Nat.{_-_}
+use mathlib.Core.Path.{sym, _∙_}
 use Rattle.literaldoor.proofs.pick_tokens.Statement.{statement}
 use Rattle.literaldoor.proofs.pick_tokens.Tie as tie
-use Rattle.literaldoor.proofs.pick_tokens.Reads as reads
-use Rattle.literaldoor.proofs.pick_tokens.Lts as lts
-use Rattle.chooser.proofs.choose.Reads as choose-reads
-use Rattle.literaldoor.proofs.write_choice.Reads as write-choice-reads
-use Rattle.spelling.proofs.is_plain.Reads as is-plain-reads
 
 -- src/lib.rt:54:9
 is-plain-requires : tie.Need-is-plain-requires

@@ -2,22 +2,12 @@ use native.Mathlib.Omega.{arith}
 use borrow.Author.Needs.{needs}
 use Rattle.literaldoor.proofs.DoorLaws as law
 use Rattle.literaldoor.specs.Door.{said}
-use Rattle.readdoor.proofs.Got as into
 use Rattle.chooser.proofs.BetweenLaws.{part-few}
-use Rattle.literals.specs.Ranks.{choiceSays}
 use Rattle.chooser.specs.Kept.{Kept}
-use Rattle.picking.specs.Literals.{literals as literalsOf}
-use Rattle.spelling.specs.Words.{tokensIn}
-use lib.ListN.{length, take, drop}
-use native.Mathlib.Nat.{le-refl}
-use Prim.Native.Nat.{ℕ, _+_, _-_, _≤_, _<_}
-use mathlib.Core.List.{List}
-use mathlib.Core.Path.{_≡_, refl, sym, ap, ap₂, _∙_, subst}
+use Prim.Native.Nat.{_-_}
+use mathlib.Core.Path.{subst}
 use Rattle.literaldoor.proofs.write_choice.Statement.{statement}
 use Rattle.literaldoor.proofs.write_choice.Tie as tie
-use Rattle.literaldoor.proofs.write_choice.Reads as reads
-use Rattle.literaldoor.proofs.write_choice.Lts as lts
-use Rattle.literaldoor.proofs.write_taken.Reads as write-taken-reads
 
 -- src/lib.rt:43:26
 enum-told : tie.Need-enum-told

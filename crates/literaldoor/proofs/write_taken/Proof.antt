@@ -1,23 +1,10 @@
-use native.Mathlib.Omega.{arith}
 use borrow.Author.Needs.{needs}
 use Rattle.literaldoor.proofs.DoorLaws as law
-use Rattle.literaldoor.specs.Door.{said}
-use Rattle.readdoor.proofs.Got as into
-use Rattle.chooser.proofs.BetweenLaws.{part-few}
-use Rattle.literals.specs.Ranks.{choiceSays}
-use Rattle.chooser.specs.Kept.{Kept}
 use Rattle.picking.specs.Literals.{literals as literalsOf}
 use Rattle.spelling.specs.Words.{tokensIn}
-use lib.ListN.{length, take, drop}
-use native.Mathlib.Nat.{le-refl}
-use Prim.Native.Nat.{ℕ, _+_, _-_, _≤_, _<_}
-use mathlib.Core.List.{List}
-use mathlib.Core.Path.{_≡_, refl, sym, ap, ap₂, _∙_, subst}
+use Prim.Native.Nat.{_-_}
 use Rattle.literaldoor.proofs.write_taken.Statement.{statement}
 use Rattle.literaldoor.proofs.write_taken.Tie as tie
-use Rattle.literaldoor.proofs.write_taken.Reads as reads
-use Rattle.literaldoor.proofs.write_taken.Lts as lts
-use Rattle.generator.proofs.write_all.Reads as write-all-reads
 
 -- src/lib.rt:30:9
 write-all-requires : tie.Need-write-all-requires

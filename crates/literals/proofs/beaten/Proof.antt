@@ -1,11 +1,8 @@
 use Rattle.meaning.proofs.SoundLaws.{false-true}
 use Rattle.literals.proofs.PickLaws as pick
-use native.Mathlib.Omega.{arith}
 use borrow.Author.Needs.{needs}
 use Rattle.literals.proofs.beaten.Statement.{statement}
 use Rattle.literals.proofs.beaten.Tie as tie
-use Rattle.literals.proofs.beaten.Reads as reads
-use Rattle.literals.proofs.beaten.Lts as lts
 
 -- src/lib.rt:72:26
 enum-told : tie.Need-enum-told

@@ -1,19 +1,12 @@
 use Rattle.literals.proofs.RunLaws.{Weighed}
-use lib.ListN.{length, getD, take, drop}
+use lib.ListN.{length}
 use Rattle.literals.proofs.RunLaws as law
-use mathlib.Core.Path.{_≡_, refl, sym, ap, ap₂, _∙_, subst}
-use mathlib.Core.List.{List, _++_}
-use Prim.Native.Nat.{ℕ, _+_, _-_, _*_, _≤_, _<_, min}
+use mathlib.Core.Path.{refl}
+use Prim.Native.Nat.{_+_, _-_}
 use native.Mathlib.Omega.{arith}
 use borrow.Author.Needs.{needs}
 use Rattle.literals.proofs.best_slice.Statement.{statement}
 use Rattle.literals.proofs.best_slice.Tie as tie
-use Rattle.literals.proofs.best_slice.Reads as reads
-use Rattle.literals.proofs.best_slice.Lts as lts
-use Rattle.literals.proofs.is_full.Reads as is-full-reads
-use Rattle.literals.proofs.literal_start.Reads as literal-start-reads
-use Rattle.literals.proofs.longer_slices.Reads as longer-slices-reads
-use Rattle.literals.proofs.part_words.Reads as part-words-reads
 
 abbrev Inv-loop : tie.InvT-loop
 Inv-loop run prior₀ at₀ top₀ prior at top = Weighed run prior at top

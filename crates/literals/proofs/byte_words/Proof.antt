@@ -1,17 +1,14 @@
-use Rattle.literals.specs.Whole.{byteEnd, partEnd}
-use Rattle.literals.proofs.PickLaws as pick
+use Rattle.literals.specs.Whole.{byteEnd}
 use Rattle.literals.proofs.PartLaws as parts
 use Rattle.spelling.proofs.PartLaws as part
-use lib.ListN.{length, getD, take, drop}
-use mathlib.Core.Path.{_≡_, refl, sym, ap, ap₂, _∙_, subst}
-use mathlib.Core.List.{List, _++_}
-use Prim.Native.Nat.{ℕ, _+_, _-_, _*_, _≤_, _<_, min}
+use lib.ListN.{length}
+use mathlib.Core.Path.{_≡_, sym, ap, _∙_}
+use mathlib.Core.List.{List}
+use Prim.Native.Nat.{ℕ, _+_, _-_, _≤_}
 use native.Mathlib.Omega.{arith}
 use borrow.Author.Needs.{needs}
 use Rattle.literals.proofs.byte_words.Statement.{statement}
 use Rattle.literals.proofs.byte_words.Tie as tie
-use Rattle.literals.proofs.byte_words.Reads as reads
-use Rattle.literals.proofs.byte_words.Lts as lts
 
 abbrev Inv-loop : tie.InvT-loop
 Inv-loop ws rest₀ n₀ rest n = (n + length rest ≤ length ws) × (byteEnd ws ≡ n + byteEnd rest)

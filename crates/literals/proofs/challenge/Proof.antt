@@ -1,17 +1,8 @@
-use Rattle.literals.specs.Whole.{byteEnd, partEnd}
 use Rattle.literals.proofs.PickLaws as pick
-use Rattle.literals.proofs.PartLaws as parts
-use Rattle.spelling.proofs.PartLaws as part
-use lib.ListN.{length, getD, take, drop}
-use mathlib.Core.Path.{_≡_, refl, sym, ap, ap₂, _∙_, subst}
-use mathlib.Core.List.{List, _++_}
-use Prim.Native.Nat.{ℕ, _+_, _-_, _*_, _≤_, _<_, min}
-use native.Mathlib.Omega.{arith}
+use Prim.Native.Nat.{_-_}
 use borrow.Author.Needs.{needs}
 use Rattle.literals.proofs.challenge.Statement.{statement}
 use Rattle.literals.proofs.challenge.Tie as tie
-use Rattle.literals.proofs.challenge.Reads as reads
-use Rattle.literals.proofs.challenge.Lts as lts
 
 -- src/lib.rt:126:26
 enum-told : tie.Need-enum-told

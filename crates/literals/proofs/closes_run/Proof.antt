@@ -1,11 +1,7 @@
 use Rattle.literals.proofs.SegmentLaws as law
-use native.Mathlib.Omega.{arith}
 use borrow.Author.Needs.{needs}
 use Rattle.literals.proofs.closes_run.Statement.{statement}
 use Rattle.literals.proofs.closes_run.Tie as tie
-use Rattle.literals.proofs.closes_run.Reads as reads
-use Rattle.literals.proofs.closes_run.Lts as lts
-use Rattle.spelling.proofs.plain_entry.Reads as plain-entry-reads
 
 -- src/lib.rt:244:8
 shared-slice-read-if1 : tie.Need-shared-slice-read-if1

@@ -1,16 +1,8 @@
-use lib.ListN.{length, getD, take, drop}
 use Rattle.literals.proofs.RunLaws as law
-use mathlib.Core.Path.{_≡_, refl, sym, ap, ap₂, _∙_, subst}
-use mathlib.Core.List.{List, _++_}
-use Prim.Native.Nat.{ℕ, _+_, _-_, _*_, _≤_, _<_, min}
-use native.Mathlib.Omega.{arith}
+use Prim.Native.Nat.{_-_}
 use borrow.Author.Needs.{needs}
 use Rattle.literals.proofs.in_run.Statement.{statement}
 use Rattle.literals.proofs.in_run.Tie as tie
-use Rattle.literals.proofs.in_run.Reads as reads
-use Rattle.literals.proofs.in_run.Lts as lts
-use Rattle.literals.proofs.best_slice.Reads as best-slice-reads
-use Rattle.literals.proofs.strong_part.Reads as strong-part-reads
 
 -- src/lib.rt:231:9
 strong-part-requires : tie.Need-strong-part-requires

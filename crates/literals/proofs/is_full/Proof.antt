@@ -4,8 +4,6 @@ use Rattle.literals.specs.Ranks.{choiceSays}
 use borrow.Author.Needs.{needs}
 use Rattle.literals.proofs.is_full.Statement.{statement}
 use Rattle.literals.proofs.is_full.Tie as tie
-use Rattle.literals.proofs.is_full.Reads as reads
-use Rattle.literals.proofs.is_full.Lts as lts
 
 -- src/lib.rt:212:26
 enum-told : tie.Need-enum-told

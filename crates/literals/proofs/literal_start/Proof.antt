@@ -1,12 +1,8 @@
 use borrow.Author.Tests.{eq-eqb, ne-eqb}
 use mathlib.Core.Bool.{Bool, cond}
 use mathlib.Core.Path.{sym, ap}
-use native.Mathlib.Omega.{arith}
-use borrow.Author.Needs.{needs}
 use Rattle.literals.proofs.literal_start.Statement.{statement}
 use Rattle.literals.proofs.literal_start.Tie as tie
-use Rattle.literals.proofs.literal_start.Reads as reads
-use Rattle.literals.proofs.literal_start.Lts as lts
 
 -- src/lib.rt:182:1
 returns : tie.Need-returns

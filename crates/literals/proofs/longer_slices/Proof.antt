@@ -1,23 +1,15 @@
 use Rattle.spelling.proofs.PartLaws.{part-long}
-use lib.ListN.{length, take, drop, length-drop, length-take}
+use lib.ListN.{length, drop, length-drop, length-take}
 use Rattle.literals.specs.Ranks.{choiceSays}
 use Rattle.literals.proofs.LongerLaws.{Going}
 use Rattle.literals.proofs.SliceLaws as slices
 use Rattle.literals.proofs.LongerLaws as law
-use mathlib.Core.Path.{_≡_, refl, sym, ap, ap₂, _∙_, subst}
-use mathlib.Core.List.{List, _++_}
-use Prim.Native.Nat.{ℕ, _+_, _-_, _*_, _≤_, _<_, min}
+use mathlib.Core.Path.{refl, sym, _∙_}
+use Prim.Native.Nat.{_+_, _-_}
 use native.Mathlib.Omega.{arith}
 use borrow.Author.Needs.{needs}
 use Rattle.literals.proofs.longer_slices.Statement.{statement}
 use Rattle.literals.proofs.longer_slices.Tie as tie
-use Rattle.literals.proofs.longer_slices.Reads as reads
-use Rattle.literals.proofs.longer_slices.Lts as lts
-use Rattle.literals.proofs.byte_words.Reads as byte-words-reads
-use Rattle.literals.proofs.part_words.Reads as part-words-reads
-use Rattle.literals.proofs.rank_of.Reads as rank-of-reads
-use Rattle.literals.proofs.ranked_against.Reads as ranked-against-reads
-use Rattle.spelling.proofs.length_of.Reads as length-of-reads
 
 abbrev Inv-loop : tie.InvT-loop
 Inv-loop run prior at first to₀ len₀ top₀ to len top = Going run prior at to len (choiceSays run top₀) (choiceSays run top)

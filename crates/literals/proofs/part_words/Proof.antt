@@ -1,19 +1,9 @@
-use Rattle.literals.specs.Whole.{byteEnd, partEnd}
-use Rattle.literals.proofs.PickLaws as pick
 use Rattle.literals.proofs.PartLaws as parts
-use Rattle.spelling.proofs.PartLaws as part
-use lib.ListN.{length, getD, take, drop}
-use mathlib.Core.Path.{_≡_, refl, sym, ap, ap₂, _∙_, subst}
-use mathlib.Core.List.{List, _++_}
-use Prim.Native.Nat.{ℕ, _+_, _-_, _*_, _≤_, _<_, min}
-use native.Mathlib.Omega.{arith}
+use mathlib.Core.Path.{_∙_}
+use Prim.Native.Nat.{_-_}
 use borrow.Author.Needs.{needs}
 use Rattle.literals.proofs.part_words.Statement.{statement}
 use Rattle.literals.proofs.part_words.Tie as tie
-use Rattle.literals.proofs.part_words.Reads as reads
-use Rattle.literals.proofs.part_words.Lts as lts
-use Rattle.literals.proofs.byte_words.Reads as byte-words-reads
-use Rattle.spelling.proofs.width_of.Reads as width-of-reads
 
 -- src/lib.rt:112:8
 shared-slice-read-if1 : tie.Need-shared-slice-read-if1

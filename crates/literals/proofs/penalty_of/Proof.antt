@@ -1,10 +1,6 @@
 use Rattle.literals.proofs.RankLaws as law
-use native.Mathlib.Omega.{arith}
-use borrow.Author.Needs.{needs}
 use Rattle.literals.proofs.penalty_of.Statement.{statement}
 use Rattle.literals.proofs.penalty_of.Tie as tie
-use Rattle.literals.proofs.penalty_of.Reads as reads
-use Rattle.literals.proofs.penalty_of.Lts as lts
 
 -- src/lib.rt:57:9
 returns : tie.Need-returns

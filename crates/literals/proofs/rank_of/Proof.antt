@@ -3,15 +3,9 @@ use mathlib.Core.Path.{refl}
 use Rattle.literals.specs.declared.Rank.the-variants.{Skipped, TooMany}
 use Rattle.literals.proofs.RankLaws as law
 use Rattle.literals.proofs.PickLaws as pick
-use native.Mathlib.Omega.{arith}
 use borrow.Author.Needs.{needs}
 use Rattle.literals.proofs.rank_of.Statement.{statement}
 use Rattle.literals.proofs.rank_of.Tie as tie
-use Rattle.literals.proofs.rank_of.Reads as reads
-use Rattle.literals.proofs.rank_of.Lts as lts
-use Rattle.literals.proofs.penalty_of.Reads as penalty-of-reads
-use Rattle.literals.proofs.worth.Reads as worth-reads
-use Rattle.spelling.proofs.tally_tokens.Reads as tally-tokens-reads
 
 -- src/lib.rt:108:9
 tally-tokens-requires : tie.Need-tally-tokens-requires

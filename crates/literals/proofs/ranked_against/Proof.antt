@@ -1,19 +1,9 @@
 use Rattle.literals.specs.declared.Pick.the-variants.{TooMany}
-use Rattle.literals.specs.Whole.{byteEnd, partEnd}
 use Rattle.literals.proofs.PickLaws as pick
-use Rattle.literals.proofs.PartLaws as parts
-use Rattle.spelling.proofs.PartLaws as part
-use lib.ListN.{length, getD, take, drop}
-use mathlib.Core.Path.{_≡_, refl, sym, ap, ap₂, _∙_, subst}
-use mathlib.Core.List.{List, _++_}
-use Prim.Native.Nat.{ℕ, _+_, _-_, _*_, _≤_, _<_, min}
-use native.Mathlib.Omega.{arith}
+use Prim.Native.Nat.{_-_}
 use borrow.Author.Needs.{needs}
 use Rattle.literals.proofs.ranked_against.Statement.{statement}
 use Rattle.literals.proofs.ranked_against.Tie as tie
-use Rattle.literals.proofs.ranked_against.Reads as reads
-use Rattle.literals.proofs.ranked_against.Lts as lts
-use Rattle.literals.proofs.challenge.Reads as challenge-reads
 
 -- src/lib.rt:142:18
 enum-known-rank : tie.Need-enum-known-rank

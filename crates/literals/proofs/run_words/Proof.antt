@@ -1,20 +1,16 @@
 use native.Mathlib.Nat.{add-assoc}
 use Rattle.literals.specs.Whole.{runEnd}
-use lib.ListN.{length, take, drop}
+use lib.ListN.{length, drop}
 use Rattle.spelling.proofs.StepLaws as step
 use Rattle.spelling.proofs.PartLaws as part
 use Rattle.literals.proofs.SegmentLaws as law
-use mathlib.Core.Path.{_≡_, refl, sym, ap, ap₂, _∙_, subst}
-use mathlib.Core.List.{List, _++_}
-use Prim.Native.Nat.{ℕ, _+_, _-_, _*_, _≤_, _<_, min}
+use mathlib.Core.Path.{_≡_, sym, ap, ap₂, _∙_}
+use mathlib.Core.List.{List}
+use Prim.Native.Nat.{ℕ, _+_, _-_, _≤_}
 use native.Mathlib.Omega.{arith}
 use borrow.Author.Needs.{needs}
 use Rattle.literals.proofs.run_words.Statement.{statement}
 use Rattle.literals.proofs.run_words.Tie as tie
-use Rattle.literals.proofs.run_words.Reads as reads
-use Rattle.literals.proofs.run_words.Lts as lts
-use Rattle.literals.proofs.closes_run.Reads as closes-run-reads
-use Rattle.spelling.proofs.width_of.Reads as width-of-reads
 
 abbrev Inv-loop : tie.InvT-loop
 Inv-loop ws rest₀ n₀ rest n = (n + length rest ≤ length ws) × (runEnd ws ≡ n + runEnd rest)

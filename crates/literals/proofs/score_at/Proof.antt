@@ -1,21 +1,11 @@
-use Rattle.spelling.specs.Words.{tokensIn}
-use Rattle.picking.specs.Choice.{lowest, least, penalty, rank, ranked}
-use Rattle.picking.specs.Numbers.{count, literalAt}
-use Rattle.picking.specs.Literals.{literals, combinations}
 use Rattle.atoms.specs.Score.{literalScore}
-use lib.ListN.{length, getD, take, drop}
-use mathlib.Core.Path.{_≡_, refl, sym, ap, ap₂, _∙_, subst}
+use mathlib.Core.Path.{ap, _∙_}
 use Rattle.literals.proofs.RankLaws as law
-use mathlib.Core.List.{List, _++_}
-use Prim.Native.Nat.{ℕ, _+_, _-_, _*_, _≤_, _<_, min}
+use Prim.Native.Nat.{_-_}
 use native.Mathlib.Omega.{arith}
 use borrow.Author.Needs.{needs}
 use Rattle.literals.proofs.score_at.Statement.{statement}
 use Rattle.literals.proofs.score_at.Tie as tie
-use Rattle.literals.proofs.score_at.Reads as reads
-use Rattle.literals.proofs.score_at.Lts as lts
-use Rattle.atoms.proofs.literal_score.Reads as literal-score-reads
-use Rattle.spelling.proofs.write_literal.Reads as write-literal-reads
 
 -- src/lib.rt:26:44
 sub-write-literal : tie.Need-sub-write-literal

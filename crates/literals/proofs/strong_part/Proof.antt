@@ -1,17 +1,11 @@
 use Rattle.literals.proofs.RunLaws.{Passed}
-use lib.ListN.{length, getD, take, drop}
+use lib.ListN.{length}
 use Rattle.literals.proofs.RunLaws as law
-use mathlib.Core.Path.{_≡_, refl, sym, ap, ap₂, _∙_, subst}
-use mathlib.Core.List.{List, _++_}
-use Prim.Native.Nat.{ℕ, _+_, _-_, _*_, _≤_, _<_, min}
+use Prim.Native.Nat.{_-_}
 use native.Mathlib.Omega.{arith}
 use borrow.Author.Needs.{needs}
 use Rattle.literals.proofs.strong_part.Statement.{statement}
 use Rattle.literals.proofs.strong_part.Tie as tie
-use Rattle.literals.proofs.strong_part.Reads as reads
-use Rattle.literals.proofs.strong_part.Lts as lts
-use Rattle.literals.proofs.part_words.Reads as part-words-reads
-use Rattle.literals.proofs.score_at.Reads as score-at-reads
 
 abbrev Inv-loop : tie.InvT-loop
 Inv-loop run at₀ at = Passed run at

@@ -4,19 +4,13 @@ use Rattle.picking.specs.Literals.{literals}
 use Rattle.atoms.specs.Score.{literalScore}
 use lib.ListN.{drop}
 use mathlib.Core.Path.{_≡_, sym, ap, _∙_}
-use Prim.Native.Nat.{ℕ, _+_, _-_, _≤_, min}
+use Prim.Native.Nat.{_+_, _-_, _≤_, min}
 use Rattle.literals.proofs.RankLaws as rank
 use Rattle.literals.proofs.WorthLaws as law
 use native.Mathlib.Omega.{arith}
 use borrow.Author.Needs.{needs}
 use Rattle.literals.proofs.worth.Statement.{statement}
 use Rattle.literals.proofs.worth.Tie as tie
-use Rattle.literals.proofs.worth.Reads as reads
-use Rattle.literals.proofs.worth.Lts as lts
-use Rattle.literals.proofs.beaten.Reads as beaten-reads
-use Rattle.literals.proofs.less.Reads as less-reads
-use Rattle.literals.proofs.score_at.Reads as score-at-reads
-use Rattle.literals.proofs.smaller.Reads as smaller-reads
 
 abbrev Inv-loop : tie.InvT-loop
 Inv-loop ws n penalty best least₀ k₀ x k = (k ≤ n) × (least literalScore (literals (tokensIn ws)) ≡ lowest literalScore (drop k (literals (tokensIn ws))) x)

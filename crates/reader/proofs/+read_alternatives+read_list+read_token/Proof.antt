@@ -1,11 +1,10 @@
 -- The three readers together. A call falls in four times the bytes of text left, with a rank among calls that read nothing. Assumes nothing.
-use mathlib.Core.Path.{_≡_, refl, sym, ap, _∙_, subst}
-use mathlib.Core.Bool.{Bool, false}
-use mathlib.Core.List.{List}
+use mathlib.Core.Path.{_≡_, sym, ap, _∙_, subst}
+use mathlib.Core.Bool.{Bool}
 use Prim.Native.Nat.{_+_, _-_, _*_, _≤_}
 use native.Mathlib.Omega.{arith}
 use borrow.Author.Needs.{needs}
-use lib.ListN.{length, getD}
+use lib.ListN.{length}
 use Rattle.base.specs.declared.Refusal.the-variants.{HexStringTooDeep, TooManyTokens}
 use Rattle.meaning.specs.Entries.{entriesOf}
 use Rattle.reading.specs.Lists.{token, list}
@@ -13,7 +12,7 @@ use Rattle.reading.proofs.PieceLaws.{here-at, skip-from}
 use Rattle.reading.proofs.ListSteps.{list-deep}
 use Rattle.digits.specs.Answers.{pieceOf, tokenOf}
 use Rattle.reader.specs.declared.ListGot.{ListGot}
-use Rattle.reader.specs.Says.{ListSays, alternatives, Room}
+use Rattle.reader.specs.Says.{ListSays, alternatives}
 use Rattle.reader.proofs.SaysLaws.{says-same, says-read, says-absent, says-refused, list-says-refused, token-full, token-found, token-other, token-refuses, one-entry, no-bracket, bracket-full}
 use Rattle.reader.proofs.ListLoop.{Tokened, stepped, tokened-start, tokened-next, tokened-end, tokened-stop}
 use Rattle.reader.proofs.AlternativesLoop.{Listed, turned, listed-start, listed-next, listed-done, listed-else, listed-missing, listed-stop}

@@ -1,7 +1,5 @@
 -- Each way out gives what the definition gives there. Assumes nothing.
 use borrow.Author.Tests.{ne-eqb}
-use native.Mathlib.Omega.{arith}
-use borrow.Author.Needs.{needs}
 use Rattle.reader.proofs.first_jump.Statement.{statement}
 use Rattle.reader.proofs.first_jump.Tie as tie
 

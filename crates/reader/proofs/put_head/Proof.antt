@@ -1,6 +1,5 @@
 -- Each way out gives what the definition gives there. Assumes nothing.
 
-use native.Mathlib.Omega.{arith}
 use borrow.Author.Needs.{needs}
 use Rattle.reader.proofs.put_head.Statement.{statement}
 use Rattle.reader.proofs.put_head.Tie as tie

@@ -7,7 +7,6 @@ use Rattle.reading.specs.Lists.{isJump}
 use Rattle.digits.specs.declared.Plain.{Plain}
 use Rattle.digits.specs.Answers.{tokenOf}
 use Rattle.reader.specs.Written.{written}
-use native.Mathlib.Omega.{arith}
 use borrow.Author.Needs.{needs}
 use Rattle.reader.proofs.put_plain.Statement.{statement}
 use Rattle.reader.proofs.put_plain.Tie as tie

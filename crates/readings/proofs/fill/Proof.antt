@@ -1,13 +1,11 @@
 -- The loop ends and stays inside what it is lent. Assumes nothing.
 use mathlib.Core.Path.{_≡_, _∙_}
-use Prim.Native.Nat.{_+_, _-_, _≤_}
+use Prim.Native.Nat.{_-_, _≤_}
 use lib.ListN.{length, length-set}
 use native.Mathlib.Omega.{arith}
 use borrow.Author.Needs.{needs}
 use Rattle.readings.proofs.fill.Statement.{statement}
 use Rattle.readings.proofs.fill.Tie as tie
-use Rattle.readings.proofs.fill.Reads as reads
-use Rattle.readings.proofs.fill.Lts as lts
 
 abbrev Inv-loop : tie.InvT-loop
 Inv-loop pool₀ i₀ pool i = (i ≤ length pool₀) × (length pool ≡ length pool₀)

@@ -1,16 +1,8 @@
 -- The loop ends and stays inside what it is lent. Assumes nothing.
-use mathlib.Core.Path.{_≡_}
-use Prim.Native.Nat.{_+_, _-_, _≤_}
-use lib.ListN.{length}
-use native.Mathlib.Omega.{arith}
+use Prim.Native.Nat.{_-_}
 use borrow.Author.Needs.{needs}
 use Rattle.readings.proofs.list.Statement.{statement}
 use Rattle.readings.proofs.list.Tie as tie
-use Rattle.readings.proofs.list.Reads as reads
-use Rattle.readings.proofs.list.Lts as lts
-use Rattle.io.proofs.write_all.Reads as write-all-reads
-use Rattle.readings.proofs.number.Reads as number-reads
-use Rattle.readings.proofs.wide.Reads as wide-reads
 
 abbrev Inv-loop : tie.InvT-loop
 Inv-loop pool n i₀ t4 t5 i = Unit {0}

@@ -2,14 +2,9 @@
 use mathlib.Core.Path.{_≡_}
 use Prim.Native.Nat.{_-_}
 use lib.ListN.{length}
-use native.Mathlib.Omega.{arith}
 use borrow.Author.Needs.{needs}
 use Rattle.readings.proofs.run.Statement.{statement}
 use Rattle.readings.proofs.run.Tie as tie
-use Rattle.readings.proofs.run.Reads as reads
-use Rattle.readings.proofs.run.Lts as lts
-use Rattle.digits.proofs.number.Reads as number-reads
-use Rattle.readings.proofs.one.Reads as one-reads
 
 abbrev Inv-loop : tie.InvT-loop
 Inv-loop input pool₀ at₀ pool at = length pool ≡ length pool₀

@@ -1,11 +1,11 @@
 -- The cycle of calls {branches, check, choices, jumps} meets its contracts. Every loop keeps: the answer for the whole is the
 -- answer for what is left. Each call is at fewer words, or at as many on the way from check to choices to jumps or branches. Assumes nothing.
-use mathlib.Core.Path.{_≡_, refl, sym, ap, ap₂, subst, _∙_}
+use mathlib.Core.Path.{_≡_, sym, ap, ap₂, subst, _∙_}
 use mathlib.Core.Logic.{_⊎_, ⊎-elim}
-use mathlib.Core.List.{List, _∷_, reverse}
+use mathlib.Core.List.{List, reverse}
 use Prim.Native.Nat.{_+_, _*_, _-_, _/_, _%_, _≤_}
 use native.Mathlib.Omega.{arith}
-use lib.ListN.{length, take, drop, length-reverse}
+use lib.ListN.{length, take, length-reverse}
 use lib.Seq.{length-take-le}
 use borrow.Author.Needs.{needs}
 use Rattle.meaning.specs.Programs.{range, alt, _▹_}

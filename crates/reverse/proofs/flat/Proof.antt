@@ -1,5 +1,5 @@
 -- `reverse::flat` meets its contract: what fits the whole is what fits what is left. Assumes nothing.
-use mathlib.Core.Path.{_≡_, refl, sym, ap, _∙_}
+use mathlib.Core.Path.{_≡_, sym, ap, _∙_}
 use mathlib.Core.Bool.{true}
 use mathlib.Core.List.{reverse}
 use lib.ListN.{length, length-reverse}
@@ -18,11 +18,6 @@ use native.Mathlib.Omega.{arith}
 use borrow.Author.Needs.{needs}
 use Rattle.reverse.proofs.flat.Statement.{statement}
 use Rattle.reverse.proofs.flat.Tie as tie
-use Rattle.reverse.proofs.flat.Reads as reads
-use Rattle.reverse.proofs.flat.Lts as lts
-use Rattle.nodes.proofs.first_word.Reads as first-word-reads
-use Rattle.steps.proofs.last_byte.Reads as last-byte-reads
-use Rattle.steps.proofs.word_passes.Reads as word-passes-reads
 
 abbrev Inv-loop : tie.InvT-loop
 Inv-loop branch mem ns₀ m₀ ns m = (plainWords ns ≡ true) × (backward (prog branch) mem ≡ backward (prog ns) m)

@@ -1,14 +1,9 @@
 -- The loop ends and stays inside what it is lent. Assumes nothing.
 use Prim.Native.Nat.{_-_, _≤_}
 use lib.ListN.{length}
-use native.Mathlib.Omega.{arith}
 use borrow.Author.Needs.{needs}
 use Rattle.rustsays.proofs.each.Statement.{statement}
 use Rattle.rustsays.proofs.each.Tie as tie
-use Rattle.rustsays.proofs.each.Reads as reads
-use Rattle.rustsays.proofs.each.Lts as lts
-use Rattle.rustsays.proofs.literal.Reads as literal-reads
-use Rattle.rustsays.proofs.size.Reads as size-reads
 
 abbrev Inv-loop : tie.InvT-loop
 Inv-loop bytes lengths count at₀ i₀ at i = at ≤ length bytes

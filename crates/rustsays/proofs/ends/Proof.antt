@@ -1,15 +1,9 @@
 -- The loop ends and stays inside what it is lent. Assumes nothing.
 use Prim.Native.Nat.{_+_, _-_}
 use lib.ListN.{length}
-use native.Mathlib.Omega.{arith}
 use borrow.Author.Needs.{needs}
 use Rattle.rustsays.proofs.ends.Statement.{statement}
 use Rattle.rustsays.proofs.ends.Tie as tie
-use Rattle.rustsays.proofs.ends.Reads as reads
-use Rattle.rustsays.proofs.ends.Lts as lts
-use Rattle.checkdoors.proofs.forward.Reads as forward-reads
-use Rattle.io.proofs.write_all.Reads as write-all-reads
-use Rattle.rustsays.proofs.found.Reads as found-reads
 
 abbrev Inv-loop : tie.InvT-loop
 Inv-loop program hay start₀ t5 start = Unit {0}

@@ -1,7 +1,6 @@
 -- Each line begins after the end of the one before it. Assumes nothing.
 use Prim.Native.Nat.{_+_, _-_, _≤_}
 use lib.ListN.{length}
-use native.Mathlib.Omega.{arith}
 use borrow.Author.Needs.{needs}
 use Rattle.rustsays.proofs.lines.Statement.{statement}
 use Rattle.rustsays.proofs.lines.Tie as tie

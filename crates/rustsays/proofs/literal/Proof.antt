@@ -1,14 +1,9 @@
 -- The loop ends and stays inside what it is lent. Assumes nothing.
 use Prim.Native.Nat.{_-_}
 use lib.ListN.{length}
-use native.Mathlib.Omega.{arith}
 use borrow.Author.Needs.{needs}
 use Rattle.rustsays.proofs.literal.Statement.{statement}
 use Rattle.rustsays.proofs.literal.Tie as tie
-use Rattle.rustsays.proofs.literal.Reads as reads
-use Rattle.rustsays.proofs.literal.Lts as lts
-use Rattle.io.proofs.write_all.Reads as write-all-reads
-use Rattle.rustsays.proofs.hex.Reads as hex-reads
 
 abbrev Inv-loop : tie.InvT-loop
 Inv-loop bytes i₀ i = Unit {0}

@@ -1,15 +1,9 @@
 -- The loop ends and stays inside what it is lent. Assumes nothing.
 use Prim.Native.Nat.{_+_, _-_}
 use lib.ListN.{length}
-use native.Mathlib.Omega.{arith}
 use borrow.Author.Needs.{needs}
 use Rattle.rustsays.proofs.starts.Statement.{statement}
 use Rattle.rustsays.proofs.starts.Tie as tie
-use Rattle.rustsays.proofs.starts.Reads as reads
-use Rattle.rustsays.proofs.starts.Lts as lts
-use Rattle.checkdoors.proofs.reverse.Reads as reverse-reads
-use Rattle.io.proofs.write_all.Reads as write-all-reads
-use Rattle.rustsays.proofs.found.Reads as found-reads
 
 abbrev Inv-loop : tie.InvT-loop
 Inv-loop program hay end₀ t5 end = Unit {0}

@@ -1,15 +1,10 @@
 -- The loop ends and stays inside what it is lent. Assumes nothing.
-use mathlib.Core.Path.{_≡_, _∙_}
+use mathlib.Core.Path.{_≡_}
 use Prim.Native.Nat.{_-_}
-use lib.ListN.{length, length-set}
-use native.Mathlib.Omega.{arith}
+use lib.ListN.{length}
 use borrow.Author.Needs.{needs}
 use Rattle.rustsays.proofs.unhex.Statement.{statement}
 use Rattle.rustsays.proofs.unhex.Tie as tie
-use Rattle.rustsays.proofs.unhex.Reads as reads
-use Rattle.rustsays.proofs.unhex.Lts as lts
-use Rattle.digits.proofs.peek.Reads as peek-reads
-use Rattle.rustsays.proofs.value.Reads as value-reads
 
 abbrev Inv-loop : tie.InvT-loop
 Inv-loop hex hay₀ n₀ hay n = length hay ≡ length hay₀

@@ -1,14 +1,8 @@
 -- The loop ends and stays inside what it is lent. Assumes nothing.
 use Prim.Native.Nat.{_-_}
-use native.Mathlib.Omega.{arith}
 use borrow.Author.Needs.{needs}
 use Rattle.rustsays.proofs.words.Statement.{statement}
 use Rattle.rustsays.proofs.words.Tie as tie
-use Rattle.rustsays.proofs.words.Reads as reads
-use Rattle.rustsays.proofs.words.Lts as lts
-use Rattle.io.proofs.write_all.Reads as write-all-reads
-use Rattle.rustsays.proofs.number.Reads as number-reads
-use Rattle.rustsays.proofs.wide.Reads as wide-reads
 
 abbrev Inv-loop : tie.InvT-loop
 Inv-loop pool n i₀ t4 t5 i = Unit {0}

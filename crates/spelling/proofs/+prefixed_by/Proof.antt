@@ -1,12 +1,12 @@
 use Rattle.spelling.specs.Tallies.{Numerable}
 use Prim.Native.Nat.{_*_, _-_}
 use native.Mathlib.Nat.{mul-le-mul}
-use Rattle.picking.specs.Numbers.{countOf, count, countIn, prefixIn, prefixOf, prefixed, pieceOf, ending, pieceIn, literalAt}
+use Rattle.picking.specs.Numbers.{count, prefixOf, prefixed}
 use Rattle.spelling.proofs.SpellLaws as spell
 use Rattle.spelling.proofs.StepLaws as step
-use Rattle.spelling.specs.Words.{flatIn, listsIn, tokenIn, tokensIn, ends, inside, width}
-use lib.ListN.{length, getD, take, drop}
-use mathlib.Core.Path.{_≡_, refl, sym, ap, ap₂, _∙_, subst}
+use Rattle.spelling.specs.Words.{tokenIn, tokensIn}
+use lib.ListN.{length, drop}
+use mathlib.Core.Path.{sym, ap, ap₂, _∙_, subst}
 use Rattle.spelling.proofs.PartLaws as part
 use mathlib.Core.List.{List}
 use native.Mathlib.Omega.{arith}

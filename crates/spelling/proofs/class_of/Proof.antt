@@ -1,15 +1,8 @@
 use mathlib.Core.Path.{refl}
 use Rattle.spelling.proofs.ClassLaws as law
-use native.Mathlib.Omega.{arith}
 use borrow.Author.Needs.{needs}
 use Rattle.spelling.proofs.class_of.Statement.{statement}
 use Rattle.spelling.proofs.class_of.Tie as tie
-use Rattle.spelling.proofs.class_of.Reads as reads
-use Rattle.spelling.proofs.class_of.Lts as lts
-use Rattle.bitmap.proofs.Bitmap.all_but.Reads as all-but-reads
-use Rattle.bitmap.proofs.Bitmap.new.Reads as new-reads
-use Rattle.spelling.proofs.half_of.Reads as half-of-reads
-use Rattle.spelling.proofs.other_half_of.Reads as other-half-of-reads
 
 -- src/lib.rt:42:13
 cast-x : tie.Need-cast-x

@@ -1,22 +1,16 @@
 use native.Mathlib.Nat.{one-mul}
-use Rattle.picking.specs.Numbers.{countOf, count, countIn}
-use Rattle.picking.specs.Literals.{combinationsOf, combinations, combinationsIn, lengthOf, lengthIn, shortest, shorter}
-use Rattle.spelling.proofs.StepLaws as step
-use Rattle.spelling.specs.Words.{flatIn, listsIn, tokenIn, tokensIn, ends, inside, width}
-use lib.ListN.{length, getD, take, drop}
-use mathlib.Core.Path.{_≡_, refl, sym, ap, ap₂, _∙_, subst}
+use Rattle.picking.specs.Numbers.{count}
+use Rattle.spelling.specs.Words.{flatIn}
+use lib.ListN.{length}
+use mathlib.Core.Path.{_≡_, sym, ap, ap₂, _∙_}
 use Rattle.spelling.proofs.TallyLaws as law
 use Rattle.spelling.proofs.PartLaws as part
 use mathlib.Core.List.{List}
-use Prim.Native.Nat.{ℕ, _+_, _-_, _*_, _/_, _≤_, _<_, min}
+use Prim.Native.Nat.{ℕ, _-_, _*_, _≤_, min}
 use native.Mathlib.Omega.{arith}
 use borrow.Author.Needs.{needs}
 use Rattle.spelling.proofs.count_list.Statement.{statement}
 use Rattle.spelling.proofs.count_list.Tie as tie
-use Rattle.spelling.proofs.count_list.Reads as reads
-use Rattle.spelling.proofs.count_list.Lts as lts
-use Rattle.spelling.proofs.taken_count.Reads as taken-count-reads
-use Rattle.spelling.proofs.times.Reads as times-reads
 
 abbrev Inv-loop : tie.InvT-loop
 Inv-loop ws rest₀ n₀ rest n = (n ≤ 257) × (min 257 (count (flatIn ws)) ≡ min 257 (n * count (flatIn rest)))

@@ -3,8 +3,6 @@ use native.Mathlib.Omega.{arith}
 use borrow.Author.Needs.{needs}
 use Rattle.spelling.proofs.end_of.Statement.{statement}
 use Rattle.spelling.proofs.end_of.Tie as tie
-use Rattle.spelling.proofs.end_of.Reads as reads
-use Rattle.spelling.proofs.end_of.Lts as lts
 
 -- src/lib.rt:49:22
 shared-slice-read-e : tie.Need-shared-slice-read-e

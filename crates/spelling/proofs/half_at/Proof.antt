@@ -4,8 +4,6 @@ use Prim.Native.Nat.{_%_}
 use borrow.Author.Needs.{needs}
 use Rattle.spelling.proofs.half_at.Statement.{statement}
 use Rattle.spelling.proofs.half_at.Tie as tie
-use Rattle.spelling.proofs.half_at.Reads as reads
-use Rattle.spelling.proofs.half_at.Lts as lts
 
 -- src/lib.rt:93:13
 cast-h : tie.Need-cast-h

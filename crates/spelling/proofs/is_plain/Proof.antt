@@ -1,23 +1,19 @@
 use mathlib.Core.Logic.{⊎-elim}
 use Rattle.picking.specs.Runs.{plain}
-use Rattle.picking.specs.Literals.{plainList, plainLists}
-use Rattle.spelling.specs.Words.{flatIn, listsIn, tokensIn, ends, inside, width}
+use Rattle.picking.specs.Literals.{plainLists}
+use Rattle.spelling.specs.Words.{listsIn, tokensIn}
 use Rattle.spelling.proofs.StepLaws as step
 use Prim.Native.Nat.{ℕ, _-_, _≤_}
 use mathlib.Core.List.{List}
 use Rattle.spelling.proofs.PartLaws as part
-use lib.ListN.{length, getD, take, drop}
-use mathlib.Core.Path.{_≡_, refl, sym, ap, _∙_, subst}
+use lib.ListN.{length, take, drop}
+use mathlib.Core.Path.{_≡_, refl, sym, ap, _∙_}
 use Rattle.spelling.proofs.PlainLaws as law
 use native.Mathlib.Omega.{arith}
 use borrow.Author.Needs.{needs}
 use borrow.Author.Tests.{not-true, not-false}
 use Rattle.spelling.proofs.is_plain.Statement.{statement}
 use Rattle.spelling.proofs.is_plain.Tie as tie
-use Rattle.spelling.proofs.is_plain.Reads as reads
-use Rattle.spelling.proofs.is_plain.Lts as lts
-use Rattle.spelling.proofs.plain_lists.Reads as plain-lists-reads
-use Rattle.spelling.proofs.width_of.Reads as width-of-reads
 
 abbrev Inv-loop : tie.InvT-loop
 Inv-loop ws rest₀ rest = (length rest ≤ length ws) × (plain (tokensIn ws) ≡ plain (tokensIn rest))

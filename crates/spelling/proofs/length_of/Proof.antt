@@ -1,22 +1,17 @@
 use native.Mathlib.Nat.{zero-add, add-zero, add-assoc}
-use Rattle.picking.specs.Numbers.{countOf, count, countIn}
-use Rattle.picking.specs.Literals.{combinationsOf, combinations, combinationsIn, lengthOf, lengthIn, shortest, shorter}
+use Rattle.picking.specs.Literals.{lengthOf, lengthIn}
 use Rattle.spelling.proofs.StepLaws as step
-use Rattle.spelling.specs.Words.{flatIn, listsIn, tokenIn, tokensIn, ends, inside, width}
-use lib.ListN.{length, getD, take, drop}
-use mathlib.Core.Path.{_≡_, refl, sym, ap, ap₂, _∙_, subst}
+use Rattle.spelling.specs.Words.{tokenIn, tokensIn, width}
+use lib.ListN.{length, drop}
+use mathlib.Core.Path.{_≡_, sym, ap, ap₂, _∙_}
 use Rattle.spelling.proofs.TallyLaws as law
 use Rattle.spelling.proofs.PartLaws as part
 use mathlib.Core.List.{List}
-use Prim.Native.Nat.{ℕ, _+_, _-_, _*_, _/_, _≤_, _<_, min}
+use Prim.Native.Nat.{ℕ, _+_, _-_, _≤_}
 use native.Mathlib.Omega.{arith}
 use borrow.Author.Needs.{needs}
 use Rattle.spelling.proofs.length_of.Statement.{statement}
 use Rattle.spelling.proofs.length_of.Tie as tie
-use Rattle.spelling.proofs.length_of.Reads as reads
-use Rattle.spelling.proofs.length_of.Lts as lts
-use Rattle.spelling.proofs.length_token.Reads as length-token-reads
-use Rattle.spelling.proofs.width_of.Reads as width-of-reads
 
 abbrev Inv-loop : tie.InvT-loop
 Inv-loop ws rest₀ n₀ rest n = (length rest ≤ length ws) × (n + length rest ≤ length ws) × (lengthIn (tokensIn ws) ≡ n + lengthIn (tokensIn rest))

@@ -13,10 +13,6 @@ use native.Mathlib.Omega.{arith}
 use borrow.Author.Needs.{needs}
 use Rattle.spelling.proofs.number_of.Statement.{statement}
 use Rattle.spelling.proofs.number_of.Tie as tie
-use Rattle.spelling.proofs.number_of.Reads as reads
-use Rattle.spelling.proofs.number_of.Lts as lts
-use Rattle.spelling.proofs.prefixed_by.Reads as prefixed-by-reads
-use Rattle.spelling.proofs.width_of.Reads as width-of-reads
 
 -- src/lib.rt:450:9
 returns : tie.Need-returns

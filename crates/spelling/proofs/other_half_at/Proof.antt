@@ -5,9 +5,6 @@ use Prim.Native.Nat.{ℕ, _+_, _*_, _/_, _%_}
 use borrow.Author.Needs.{needs}
 use Rattle.spelling.proofs.other_half_at.Statement.{statement}
 use Rattle.spelling.proofs.other_half_at.Tie as tie
-use Rattle.spelling.proofs.other_half_at.Reads as reads
-use Rattle.spelling.proofs.other_half_at.Lts as lts
-use Rattle.spelling.proofs.past_gap.Reads as past-gap-reads
 
 -- src/lib.rt:106:13
 cast-h : tie.Need-cast-h

@@ -1,14 +1,7 @@
 use Rattle.spelling.proofs.ClassLaws as law
-use native.Mathlib.Omega.{arith}
 use borrow.Author.Needs.{needs}
 use Rattle.spelling.proofs.other_half_of.Statement.{statement}
 use Rattle.spelling.proofs.other_half_of.Tie as tie
-use Rattle.spelling.proofs.other_half_of.Reads as reads
-use Rattle.spelling.proofs.other_half_of.Lts as lts
-use Rattle.bitmap.proofs.Bitmap.high_half.Reads as high-half-reads
-use Rattle.bitmap.proofs.Bitmap.invert.Reads as invert-reads
-use Rattle.bitmap.proofs.Bitmap.low_half.Reads as low-half-reads
-use Rattle.bitmap.proofs.Bitmap.new.Reads as new-reads
 
 -- src/lib.rt:32:14
 low-half-requires : tie.Need-low-half-requires

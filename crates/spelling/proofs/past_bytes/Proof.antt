@@ -3,12 +3,9 @@ use Rattle.spelling.proofs.PartLaws as part
 use Rattle.spelling.proofs.SpellLaws as spell
 use Rattle.spelling.specs.Tallies.{Past}
 use lib.ListN.{length}
-use native.Mathlib.Omega.{arith}
 use borrow.Author.Needs.{needs}
 use Rattle.spelling.proofs.past_bytes.Statement.{statement}
 use Rattle.spelling.proofs.past_bytes.Tie as tie
-use Rattle.spelling.proofs.past_bytes.Reads as reads
-use Rattle.spelling.proofs.past_bytes.Lts as lts
 
 abbrev Inv-loop : tie.InvT-loop
 Inv-loop ws rest₀ rest = Past ws rest

@@ -4,8 +4,6 @@ use native.Mathlib.Omega.{arith}
 use borrow.Author.Needs.{needs}
 use Rattle.spelling.proofs.past_gap.Statement.{statement}
 use Rattle.spelling.proofs.past_gap.Tie as tie
-use Rattle.spelling.proofs.past_gap.Reads as reads
-use Rattle.spelling.proofs.past_gap.Lts as lts
 
 -- src/lib.rt:85:30
 add-result : tie.Need-add-result

@@ -1,12 +1,6 @@
-use lib.ListN.{length, getD, take, drop}
-use mathlib.Core.Path.{_≡_, refl, sym, ap, _∙_, subst}
 use Rattle.spelling.proofs.PlainLaws as law
-use native.Mathlib.Omega.{arith}
-use borrow.Author.Needs.{needs}
 use Rattle.spelling.proofs.plain_entry.Statement.{statement}
 use Rattle.spelling.proofs.plain_entry.Tie as tie
-use Rattle.spelling.proofs.plain_entry.Reads as reads
-use Rattle.spelling.proofs.plain_entry.Lts as lts
 
 -- src/lib.rt:108:1
 returns : tie.Need-returns

@@ -3,17 +3,14 @@ use mathlib.Core.List.{List}
 use Rattle.spelling.proofs.PartLaws as part
 use Rattle.spelling.specs.Words.{flatIn}
 use Rattle.picking.specs.Literals.{plainList}
-use lib.ListN.{length, getD, take, drop}
-use mathlib.Core.Path.{_≡_, refl, sym, ap, _∙_, subst}
+use lib.ListN.{length}
+use mathlib.Core.Path.{_≡_, sym, ap, _∙_}
 use Rattle.spelling.proofs.PlainLaws as law
 use native.Mathlib.Omega.{arith}
 use borrow.Author.Needs.{needs}
 use borrow.Author.Tests.{not-true, not-false}
 use Rattle.spelling.proofs.plain_list.Statement.{statement}
 use Rattle.spelling.proofs.plain_list.Tie as tie
-use Rattle.spelling.proofs.plain_list.Reads as reads
-use Rattle.spelling.proofs.plain_list.Lts as lts
-use Rattle.spelling.proofs.plain_entry.Reads as plain-entry-reads
 
 abbrev Inv-loop : tie.InvT-loop
 Inv-loop ws rest₀ rest = plainList (flatIn ws) ≡ plainList (flatIn rest)

@@ -1,21 +1,17 @@
 use Prim.Native.Nat.{ℕ, _-_, _≤_}
 use Rattle.picking.specs.Literals.{plainList, plainLists}
-use Rattle.spelling.specs.Words.{flatIn, listsIn, tokensIn, ends, inside, width}
+use Rattle.spelling.specs.Words.{flatIn, listsIn}
 use Rattle.spelling.proofs.StepLaws as step
 use mathlib.Core.List.{List}
 use Rattle.spelling.proofs.PartLaws as part
-use lib.ListN.{length, getD, take, drop}
-use mathlib.Core.Path.{_≡_, refl, sym, ap, _∙_, subst}
+use lib.ListN.{length, take, drop}
+use mathlib.Core.Path.{_≡_, refl, sym, ap, _∙_}
 use Rattle.spelling.proofs.PlainLaws as law
 use native.Mathlib.Omega.{arith}
 use borrow.Author.Needs.{needs}
 use borrow.Author.Tests.{not-true, not-false}
 use Rattle.spelling.proofs.plain_lists.Statement.{statement}
 use Rattle.spelling.proofs.plain_lists.Tie as tie
-use Rattle.spelling.proofs.plain_lists.Reads as reads
-use Rattle.spelling.proofs.plain_lists.Lts as lts
-use Rattle.spelling.proofs.end_of.Reads as end-of-reads
-use Rattle.spelling.proofs.plain_list.Reads as plain-list-reads
 
 abbrev Inv-loop : tie.InvT-loop
 Inv-loop ws rest₀ rest = (length rest ≤ length ws) × (plainLists (listsIn ws) ≡ plainLists (listsIn rest))

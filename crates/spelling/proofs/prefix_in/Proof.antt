@@ -1,23 +1,18 @@
 use Rattle.picking.proofs.NumberLaws.{pos-right}
 use native.Mathlib.Nat.{mul-le-mul}
-use Rattle.picking.specs.Numbers.{countOf, count, countIn, prefixIn, prefixOf, prefixed, pieceOf, ending, pieceIn, literalAt}
-use Rattle.spelling.proofs.WriteLaws as write
+use Rattle.picking.specs.Numbers.{countIn, prefixIn}
 use Rattle.spelling.proofs.SpellLaws as spell
 use Rattle.spelling.proofs.StepLaws as step
-use Rattle.spelling.specs.Words.{flatIn, listsIn, tokenIn, tokensIn, ends, inside, width}
-use lib.ListN.{length, getD, take, drop}
-use mathlib.Core.Path.{_≡_, refl, sym, ap, ap₂, _∙_, subst}
+use Rattle.spelling.specs.Words.{listsIn}
+use lib.ListN.{length, drop}
+use mathlib.Core.Path.{_≡_, refl, sym, ap, _∙_, subst}
 use Rattle.spelling.proofs.PartLaws as part
 use mathlib.Core.List.{List}
-use Prim.Native.Nat.{ℕ, _+_, _-_, _*_, _/_, _≤_, _<_, min}
+use Prim.Native.Nat.{ℕ, _-_, _*_, _≤_}
 use native.Mathlib.Omega.{arith}
 use borrow.Author.Needs.{needs}
 use Rattle.spelling.proofs.prefix_in.Statement.{statement}
 use Rattle.spelling.proofs.prefix_in.Tie as tie
-use Rattle.spelling.proofs.prefix_in.Reads as reads
-use Rattle.spelling.proofs.prefix_in.Lts as lts
-use Rattle.spelling.proofs.count_list.Reads as count-list-reads
-use Rattle.spelling.proofs.end_of.Reads as end-of-reads
 
 abbrev Inv-loop : tie.InvT-loop
 Inv-loop ls p q rest₀ left₀ rest left = (length rest ≤ length ls) × (countIn (listsIn rest) ≤ 256) × (prefixIn (listsIn ls) p q ≡ prefixIn (listsIn rest) p left)

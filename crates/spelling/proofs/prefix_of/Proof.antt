@@ -1,23 +1,15 @@
 use native.Mathlib.Nat.{div-zero}
-use Rattle.picking.specs.Numbers.{countOf, count, countIn, prefixIn, prefixOf, prefixed, pieceOf, ending, pieceIn, literalAt}
-use Rattle.spelling.proofs.WriteLaws as write
+use Rattle.picking.specs.Numbers.{prefixIn}
 use Rattle.spelling.proofs.SpellLaws as spell
 use Rattle.spelling.proofs.StepLaws as step
-use Rattle.spelling.specs.Words.{flatIn, listsIn, tokenIn, tokensIn, ends, inside, width}
-use lib.ListN.{length, getD, take, drop}
-use mathlib.Core.Path.{_≡_, refl, sym, ap, ap₂, _∙_, subst}
-use Rattle.spelling.proofs.PartLaws as part
-use mathlib.Core.List.{List}
-use Prim.Native.Nat.{ℕ, _+_, _-_, _*_, _/_, _≤_, _<_, min}
+use Rattle.spelling.specs.Words.{listsIn}
+use lib.ListN.{take, drop}
+use mathlib.Core.Path.{sym, ap, _∙_}
+use Prim.Native.Nat.{ℕ, _-_, _/_}
 use native.Mathlib.Omega.{arith}
 use borrow.Author.Needs.{needs}
 use Rattle.spelling.proofs.prefix_of.Statement.{statement}
 use Rattle.spelling.proofs.prefix_of.Tie as tie
-use Rattle.spelling.proofs.prefix_of.Reads as reads
-use Rattle.spelling.proofs.prefix_of.Lts as lts
-use Rattle.spelling.proofs.end_of.Reads as end-of-reads
-use Rattle.spelling.proofs.prefix_in.Reads as prefix-in-reads
-use Rattle.spelling.proofs.taken_count.Reads as taken-count-reads
 
 -- src/lib.rt:319:8
 shared-slice-read-if1 : tie.Need-shared-slice-read-if1

@@ -1,21 +1,16 @@
-use Rattle.picking.specs.Numbers.{countOf, count, countIn}
-use Rattle.picking.specs.Literals.{combinationsOf, combinations, combinationsIn, lengthOf, lengthIn, shortest, shorter}
+use Rattle.picking.specs.Literals.{shortest, shorter}
 use Rattle.spelling.proofs.StepLaws as step
-use Rattle.spelling.specs.Words.{flatIn, listsIn, tokenIn, tokensIn, ends, inside, width}
-use lib.ListN.{length, getD, take, drop}
-use mathlib.Core.Path.{_≡_, refl, sym, ap, ap₂, _∙_, subst}
+use Rattle.spelling.specs.Words.{listsIn}
+use lib.ListN.{length, drop}
+use mathlib.Core.Path.{_≡_, sym, ap, ap₂, _∙_}
 use Rattle.spelling.proofs.TallyLaws as law
 use Rattle.spelling.proofs.PartLaws as part
 use mathlib.Core.List.{List}
-use Prim.Native.Nat.{ℕ, _+_, _-_, _*_, _/_, _≤_, _<_, min}
+use Prim.Native.Nat.{ℕ, _-_, _/_, _≤_, min}
 use native.Mathlib.Omega.{arith}
 use borrow.Author.Needs.{needs}
 use Rattle.spelling.proofs.shortest_of.Statement.{statement}
 use Rattle.spelling.proofs.shortest_of.Tie as tie
-use Rattle.spelling.proofs.shortest_of.Reads as reads
-use Rattle.spelling.proofs.shortest_of.Lts as lts
-use Rattle.spelling.proofs.end_of.Reads as end-of-reads
-use Rattle.spelling.proofs.smaller.Reads as smaller-reads
 
 abbrev Inv-loop : tie.InvT-loop
 Inv-loop ws first n₀ rest₀ n rest = (length rest ≤ length ws) × (n ≤ length ws) × (shortest (listsIn ws) ≡ shorter (listsIn rest) n)

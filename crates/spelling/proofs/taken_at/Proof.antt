@@ -9,11 +9,6 @@ use lib.ListN.{length, getD}
 use borrow.Author.Needs.{needs}
 use Rattle.spelling.proofs.taken_at.Statement.{statement}
 use Rattle.spelling.proofs.taken_at.Tie as tie
-use Rattle.spelling.proofs.taken_at.Reads as reads
-use Rattle.spelling.proofs.taken_at.Lts as lts
-use Rattle.spelling.proofs.half_at.Reads as half-at-reads
-use Rattle.spelling.proofs.other_half_at.Reads as other-half-at-reads
-use Rattle.spelling.proofs.past_gap.Reads as past-gap-reads
 
 -- src/lib.rt:125:13
 cast-x : tie.Need-cast-x

@@ -1,14 +1,10 @@
-use lib.ListN.{length, getD, take, drop}
-use mathlib.Core.Path.{_≡_, refl, sym, ap, _∙_, subst}
+use lib.ListN.{length}
+use mathlib.Core.Path.{sym, ap, _∙_}
 use Rattle.spelling.proofs.ClassLaws as class
 use native.Mathlib.Omega.{arith}
 use borrow.Author.Needs.{needs}
 use Rattle.spelling.proofs.taken_count.Statement.{statement}
 use Rattle.spelling.proofs.taken_count.Tie as tie
-use Rattle.spelling.proofs.taken_count.Reads as reads
-use Rattle.spelling.proofs.taken_count.Lts as lts
-use Rattle.bitmap.proofs.Bitmap.count.Reads as count-reads
-use Rattle.spelling.proofs.class_of.Reads as class-of-reads
 
 -- src/lib.rt:91:9
 returns : tie.Need-returns

@@ -1,24 +1,18 @@
 use native.Mathlib.Nat.{one-mul, zero-add}
-use Rattle.picking.specs.Numbers.{countOf, count, countIn}
-use Rattle.picking.specs.Literals.{combinationsOf, combinations, combinationsIn, lengthOf, lengthIn, shortest, shorter}
+use Rattle.picking.specs.Numbers.{count, countIn}
+use Rattle.picking.specs.Literals.{combinations, combinationsIn}
 use Rattle.spelling.proofs.StepLaws as step
-use Rattle.spelling.specs.Words.{flatIn, listsIn, tokenIn, tokensIn, ends, inside, width}
-use lib.ListN.{length, getD, take, drop}
-use mathlib.Core.Path.{_≡_, refl, sym, ap, ap₂, _∙_, subst}
+use Rattle.spelling.specs.Words.{flatIn, listsIn}
+use lib.ListN.{length, take, drop}
+use mathlib.Core.Path.{_≡_, sym, ap, ap₂, _∙_}
 use Rattle.spelling.proofs.TallyLaws as law
 use Rattle.spelling.proofs.PartLaws as part
 use mathlib.Core.List.{List}
-use Prim.Native.Nat.{ℕ, _+_, _-_, _*_, _/_, _≤_, _<_, min}
+use Prim.Native.Nat.{ℕ, _+_, _-_, _*_, _≤_, min}
 use native.Mathlib.Omega.{arith}
 use borrow.Author.Needs.{needs}
 use Rattle.spelling.proofs.tally_lists.Statement.{statement}
 use Rattle.spelling.proofs.tally_lists.Tie as tie
-use Rattle.spelling.proofs.tally_lists.Reads as reads
-use Rattle.spelling.proofs.tally_lists.Lts as lts
-use Rattle.spelling.proofs.count_list.Reads as count-list-reads
-use Rattle.spelling.proofs.end_of.Reads as end-of-reads
-use Rattle.spelling.proofs.smaller.Reads as smaller-reads
-use Rattle.spelling.proofs.times.Reads as times-reads
 
 abbrev Inv-loop : tie.InvT-loop
 Inv-loop ws rest₀ literals₀ combinations₀ rest literals combinations = (length rest ≤ length ws) × (literals ≤ 257) × (combinations ≤ 257) × (min 257 (countIn (listsIn ws)) ≡ min 257 (literals + countIn (listsIn rest))) × (min 257 (combinationsIn (listsIn ws)) ≡ min 257 (combinations * combinationsIn (listsIn rest)))

@@ -1,23 +1,18 @@
-use native.Mathlib.Nat.{one-mul, zero-add}
-use Rattle.picking.specs.Numbers.{countOf, count, countIn}
+use native.Mathlib.Nat.{one-mul}
+use Rattle.picking.specs.Numbers.{count}
 use Rattle.picking.specs.Literals.{combinations as combinations·}
 use Rattle.spelling.proofs.StepLaws as step
-use Rattle.spelling.specs.Words.{flatIn, listsIn, tokenIn, tokensIn, ends, inside, width}
-use lib.ListN.{length, getD, take, drop}
-use mathlib.Core.Path.{_≡_, refl, sym, ap, ap₂, _∙_, subst}
+use Rattle.spelling.specs.Words.{tokensIn}
+use lib.ListN.{length, drop}
+use mathlib.Core.Path.{_≡_, sym, ap, ap₂, _∙_}
 use Rattle.spelling.proofs.TallyLaws as law
 use Rattle.spelling.proofs.PartLaws as part
 use mathlib.Core.List.{List}
-use Prim.Native.Nat.{ℕ, _+_, _-_, _*_, _/_, _≤_, _<_, min}
+use Prim.Native.Nat.{ℕ, _-_, _*_, _≤_, min}
 use native.Mathlib.Omega.{arith}
 use borrow.Author.Needs.{needs}
 use Rattle.spelling.proofs.tally_tokens.Statement.{statement}
 use Rattle.spelling.proofs.tally_tokens.Tie as tie
-use Rattle.spelling.proofs.tally_tokens.Reads as reads
-use Rattle.spelling.proofs.tally_tokens.Lts as lts
-use Rattle.spelling.proofs.tally_token.Reads as tally-token-reads
-use Rattle.spelling.proofs.times.Reads as times-reads
-use Rattle.spelling.proofs.width_of.Reads as width-of-reads
 
 abbrev Inv-loop : tie.InvT-loop
 Inv-loop ws rest₀ literals₀ combinations₀ rest literals combinations = (length rest ≤ length ws) × (literals ≤ 257) × (combinations ≤ 257) × (min 257 (count (tokensIn ws)) ≡ min 257 (literals * count (tokensIn rest))) × (min 257 (combinations· (tokensIn ws)) ≡ min 257 (combinations * combinations· (tokensIn rest)))

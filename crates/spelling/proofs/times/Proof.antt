@@ -3,9 +3,6 @@ use native.Mathlib.Omega.{arith}
 use borrow.Author.Needs.{needs}
 use Rattle.spelling.proofs.times.Statement.{statement}
 use Rattle.spelling.proofs.times.Tie as tie
-use Rattle.spelling.proofs.times.Reads as reads
-use Rattle.spelling.proofs.times.Lts as lts
-use Rattle.spelling.proofs.smaller.Reads as smaller-reads
 
 -- src/lib.rt:176:18
 mul-smaller : tie.Need-mul-smaller

@@ -1,12 +1,8 @@
 use borrow.Author.Tests.{eq-eqb, ne-eqb}
 use Rattle.spelling.specs.Words.{width}
-use native.Mathlib.Omega.{arith}
 use borrow.Author.Needs.{needs}
 use Rattle.spelling.proofs.width_of.Statement.{statement}
 use Rattle.spelling.proofs.width_of.Tie as tie
-use Rattle.spelling.proofs.width_of.Reads as reads
-use Rattle.spelling.proofs.width_of.Lts as lts
-use Rattle.spelling.proofs.end_of.Reads as end-of-reads
 
 -- src/lib.rt:58:8
 shared-slice-read-if1 : tie.Need-shared-slice-read-if1

@@ -1,27 +1,21 @@
 use Prim.Native.Nat.{_%_}
-use Rattle.spelling.proofs.WriteLaws.{Halfway}
-use Rattle.spelling.specs.Tallies.{Numerable, Written, Pieced}
+use Rattle.spelling.specs.Tallies.{Written}
 use Rattle.picking.proofs.NumberLaws.{pos-right}
 use native.Mathlib.Nat.{mul-le-mul}
-use Rattle.picking.specs.Numbers.{countOf, count, countIn, prefixIn, prefixOf, prefixed, pieceOf, ending, pieceIn, literalAt}
+use Rattle.picking.specs.Numbers.{countIn, pieceIn, literalAt}
 use Rattle.spelling.proofs.WriteLaws as write
 use Rattle.spelling.proofs.SpellLaws as spell
 use Rattle.spelling.proofs.StepLaws as step
-use Rattle.spelling.specs.Words.{flatIn, listsIn, tokenIn, tokensIn, ends, inside, width}
-use lib.ListN.{length, getD, take, drop}
-use mathlib.Core.Path.{_≡_, refl, sym, ap, ap₂, _∙_, subst}
+use Rattle.spelling.specs.Words.{flatIn, listsIn}
+use lib.ListN.{length, take, drop}
+use mathlib.Core.Path.{_≡_, refl, sym, ap, _∙_, subst}
 use Rattle.spelling.proofs.PartLaws as part
 use mathlib.Core.List.{List}
-use Prim.Native.Nat.{ℕ, _+_, _-_, _*_, _/_, _≤_, _<_, min}
+use Prim.Native.Nat.{ℕ, _-_, _*_, _≤_}
 use native.Mathlib.Omega.{arith}
 use borrow.Author.Needs.{needs}
 use Rattle.spelling.proofs.write_branch.Statement.{statement}
 use Rattle.spelling.proofs.write_branch.Tie as tie
-use Rattle.spelling.proofs.write_branch.Reads as reads
-use Rattle.spelling.proofs.write_branch.Lts as lts
-use Rattle.spelling.proofs.count_list.Reads as count-list-reads
-use Rattle.spelling.proofs.end_of.Reads as end-of-reads
-use Rattle.spelling.proofs.write_list.Reads as write-list-reads
 
 abbrev Inv-loop : tie.InvT-loop
 Inv-loop ls p q dst₀ rest₀ left₀ dst rest left = (length rest ≤ length ls) × (dst ≡ dst₀) × (countIn (listsIn rest) ≤ 256) × (pieceIn (listsIn ls) p q ≡ pieceIn (listsIn rest) p left)

@@ -1,24 +1,18 @@
 use lib.ListN.{set}
 use Rattle.spelling.proofs.WriteLaws.{Halfway}
-use Rattle.picking.specs.Numbers.{countOf, count, countIn, prefixIn, prefixOf, prefixed, pieceOf, ending, pieceIn, literalAt}
+use Rattle.picking.specs.Numbers.{count, literalAt}
 use Rattle.spelling.proofs.WriteLaws as write
 use Rattle.spelling.proofs.SpellLaws as spell
-use Rattle.spelling.proofs.StepLaws as step
-use Rattle.spelling.specs.Words.{flatIn, listsIn, tokenIn, tokensIn, ends, inside, width}
-use lib.ListN.{length, getD, take, drop}
-use mathlib.Core.Path.{_≡_, refl, sym, ap, ap₂, _∙_, subst}
+use Rattle.spelling.specs.Words.{flatIn}
+use lib.ListN.{length, drop}
+use mathlib.Core.Path.{_≡_, sym, ap, _∙_, subst}
 use Rattle.spelling.proofs.PartLaws as part
 use mathlib.Core.List.{List}
-use Prim.Native.Nat.{ℕ, _+_, _-_, _*_, _/_, _≤_, _<_, min}
+use Prim.Native.Nat.{ℕ, _+_, _-_, _≤_, _<_}
 use native.Mathlib.Omega.{arith}
 use borrow.Author.Needs.{needs}
 use Rattle.spelling.proofs.write_list.Statement.{statement}
 use Rattle.spelling.proofs.write_list.Tie as tie
-use Rattle.spelling.proofs.write_list.Reads as reads
-use Rattle.spelling.proofs.write_list.Lts as lts
-use Rattle.spelling.proofs.count_list.Reads as count-list-reads
-use Rattle.spelling.proofs.taken_at.Reads as taken-at-reads
-use Rattle.spelling.proofs.taken_count.Reads as taken-count-reads
 
 abbrev Inv-loop : tie.InvT-loop
 Inv-loop ws k dst₀ rest₀ n₀ i₀ dst rest n i = (n ≡ count (flatIn rest)) × (0 < n) × (n ≤ 256) × Halfway (literalAt (flatIn ws) k) (literalAt (flatIn rest) k) i dst₀ dst

@@ -3,27 +3,21 @@ use mathlib.Core.List.{_++_}
 use mathlib.Core.Path.{subst₂}
 use native.Mathlib.Nat.{mul-le-mul}
 use Rattle.spelling.proofs.WriteLaws.{Halfway}
-use Rattle.spelling.specs.Tallies.{Numerable, Written, Pieced}
-use Rattle.picking.specs.Numbers.{countOf, count, countIn, prefixIn, prefixOf, prefixed, pieceOf, ending, pieceIn, literalAt}
+use Rattle.spelling.specs.Tallies.{Numerable}
+use Rattle.picking.specs.Numbers.{countOf, count, pieceOf, ending, literalAt}
 use Rattle.spelling.proofs.WriteLaws as write
 use Rattle.spelling.proofs.SpellLaws as spell
 use Rattle.spelling.proofs.StepLaws as step
-use Rattle.spelling.specs.Words.{flatIn, listsIn, tokenIn, tokensIn, ends, inside, width}
-use lib.ListN.{length, getD, take, drop}
-use mathlib.Core.Path.{_≡_, refl, sym, ap, ap₂, _∙_, subst}
+use Rattle.spelling.specs.Words.{tokenIn, tokensIn, width}
+use lib.ListN.{length, drop}
+use mathlib.Core.Path.{sym, ap, _∙_, subst}
 use Rattle.spelling.proofs.PartLaws as part
 use mathlib.Core.List.{List}
-use Prim.Native.Nat.{ℕ, _+_, _-_, _*_, _/_, _≤_, _<_, min}
+use Prim.Native.Nat.{ℕ, _+_, _-_, _*_, _≤_, _<_}
 use native.Mathlib.Omega.{arith}
 use borrow.Author.Needs.{needs}
 use Rattle.spelling.proofs.write_literal.Statement.{statement}
 use Rattle.spelling.proofs.write_literal.Tie as tie
-use Rattle.spelling.proofs.write_literal.Reads as reads
-use Rattle.spelling.proofs.write_literal.Lts as lts
-use Rattle.spelling.proofs.number_of.Reads as number-of-reads
-use Rattle.spelling.proofs.tally_token.Reads as tally-token-reads
-use Rattle.spelling.proofs.width_of.Reads as width-of-reads
-use Rattle.spelling.proofs.write_piece.Reads as write-piece-reads
 
 abbrev Inv-loop : tie.InvT-loop
 Inv-loop ws k dst₀ rest₀ p₀ i₀ dst rest p i = (length rest ≤ length ws) × Numerable p (count (tokensIn rest)) × Halfway (literalAt (tokensIn ws) k) (ending (tokensIn rest) p k) i dst₀ dst × (k < p * count (tokensIn rest))

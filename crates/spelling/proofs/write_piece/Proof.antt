@@ -1,27 +1,18 @@
 use lib.ListN.{set}
-use native.Mathlib.Nat.{mul-le-mul}
-use Rattle.spelling.proofs.WriteLaws.{Halfway}
-use Rattle.spelling.specs.Tallies.{Numerable, Written, Pieced}
-use Rattle.picking.specs.Numbers.{countOf, count, countIn, prefixIn, prefixOf, prefixed, pieceOf, ending, pieceIn, literalAt}
+use Rattle.spelling.specs.Tallies.{Written}
+use Rattle.picking.specs.Numbers.{pieceIn}
 use Rattle.spelling.proofs.WriteLaws as write
 use Rattle.spelling.proofs.SpellLaws as spell
 use Rattle.spelling.proofs.StepLaws as step
-use Rattle.spelling.specs.Words.{flatIn, listsIn, tokenIn, tokensIn, ends, inside, width}
+use Rattle.spelling.specs.Words.{listsIn}
 use lib.ListN.{length, getD, take, drop}
-use mathlib.Core.Path.{_≡_, refl, sym, ap, ap₂, _∙_, subst}
-use Rattle.spelling.proofs.PartLaws as part
+use mathlib.Core.Path.{sym, ap, _∙_, subst}
 use mathlib.Core.List.{List}
-use Prim.Native.Nat.{ℕ, _+_, _-_, _*_, _/_, _%_, _≤_, _<_, min}
+use Prim.Native.Nat.{ℕ, _-_, _%_, _≤_}
 use native.Mathlib.Omega.{arith}
 use borrow.Author.Needs.{needs}
 use Rattle.spelling.proofs.write_piece.Statement.{statement}
 use Rattle.spelling.proofs.write_piece.Tie as tie
-use Rattle.spelling.proofs.write_piece.Reads as reads
-use Rattle.spelling.proofs.write_piece.Lts as lts
-use Rattle.spelling.proofs.end_of.Reads as end-of-reads
-use Rattle.spelling.proofs.taken_at.Reads as taken-at-reads
-use Rattle.spelling.proofs.taken_count.Reads as taken-count-reads
-use Rattle.spelling.proofs.write_branch.Reads as write-branch-reads
 
 -- src/lib.rt:433:8
 shared-slice-read-if1 : tie.Need-shared-slice-read-if1

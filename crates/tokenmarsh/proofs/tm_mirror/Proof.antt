@@ -1,15 +1,10 @@
 use Prim.Native.Nat.{ℕ}
-use mathlib.Core.Path.{_≡_, sym, ap, _∙_}
-use Rattle.mirror.specs.MirrorDoor.{Said, said, refused}
+use mathlib.Core.Path.{sym, ap, _∙_}
+use Rattle.mirror.specs.MirrorDoor.{said, refused}
 use Rattle.tokenmarsh.specs.Results.{mirrorTold}
-use native.Mathlib.Omega.{arith}
 use borrow.Author.Needs.{needs}
 use Rattle.tokenmarsh.proofs.tm_mirror.Statement.{statement}
 use Rattle.tokenmarsh.proofs.tm_mirror.Tie as tie
-use Rattle.tokenmarsh.proofs.tm_mirror.Reads as reads
-use Rattle.tokenmarsh.proofs.tm_mirror.Lts as lts
-use Rattle.base.proofs.Refusal.number.Reads as number-reads
-use Rattle.mirror.proofs.mirror.Reads as mirror-reads
 
 -- src/lib.rt:26:9
 mirror-requires : tie.Need-mirror-requires

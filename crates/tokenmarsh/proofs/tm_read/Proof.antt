@@ -1,9 +1,8 @@
 -- The struct says what the door answers, and the pool is the door's. Assumes nothing.
-use mathlib.Core.Path.{_≡_, sym, ap, _∙_}
+use mathlib.Core.Path.{sym, ap, _∙_}
 use Prim.Native.Nat.{ℕ}
 use Rattle.readdoor.specs.Door.{said, refuses}
 use Rattle.tokenmarsh.specs.Results.{readTold}
-use native.Mathlib.Omega.{arith}
 use borrow.Author.Needs.{needs}
 use Rattle.tokenmarsh.proofs.tm_read.Statement.{statement}
 use Rattle.tokenmarsh.proofs.tm_read.Tie as tie

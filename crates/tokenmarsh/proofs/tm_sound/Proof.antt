@@ -1,11 +1,7 @@
 use mathlib.Core.Path.{sym, _∙_}
-use native.Mathlib.Omega.{arith}
 use borrow.Author.Needs.{needs}
 use Rattle.tokenmarsh.proofs.tm_sound.Statement.{statement}
 use Rattle.tokenmarsh.proofs.tm_sound.Tie as tie
-use Rattle.tokenmarsh.proofs.tm_sound.Reads as reads
-use Rattle.tokenmarsh.proofs.tm_sound.Lts as lts
-use Rattle.sound.proofs.is_sound.Reads as is-sound-reads
 
 -- src/lib.rt:19:8
 is-sound-requires : tie.Need-is-sound-requires

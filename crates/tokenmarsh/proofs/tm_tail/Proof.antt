@@ -1,9 +1,8 @@
 -- The part begins where the match ends; nothing is left after no match and after a refusal. Assumes nothing.
-use mathlib.Core.Path.{_≡_, sym, ap, _∙_}
+use mathlib.Core.Path.{sym, ap, _∙_}
 use Rattle.checkdoors.specs.Doors.{said}
 use Rattle.tokenmarsh.specs.Results.{tailTold}
 use Rattle.tokenmarsh.proofs.TailLaws.{forward-within}
-use native.Mathlib.Omega.{arith}
 use borrow.Author.Needs.{needs}
 use Rattle.tokenmarsh.proofs.tm_tail.Statement.{statement}
 use Rattle.tokenmarsh.proofs.tm_tail.Tie as tie

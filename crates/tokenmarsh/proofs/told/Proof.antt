@@ -1,10 +1,9 @@
 -- Each case of the answer is told by its fields. Assumes nothing.
-use mathlib.Core.Path.{_≡_, sym, ap, _∙_}
+use mathlib.Core.Path.{sym, ap, _∙_}
 use Prim.Native.Nat.{ℕ}
 use Rattle.checkdoors.specs.Doors.{said, refused}
 use Rattle.checkdoors.specs.declared.Answer.{Answer}
 use Rattle.tokenmarsh.specs.Results.{checkTold}
-use native.Mathlib.Omega.{arith}
 use borrow.Author.Needs.{needs}
 use Rattle.tokenmarsh.proofs.told.Statement.{statement}
 use Rattle.tokenmarsh.proofs.told.Tie as tie

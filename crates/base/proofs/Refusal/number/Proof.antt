@@ -1,7 +1,6 @@
 -- Each case has the number that 01's table gives it. Assumes nothing.
 use mathlib.Core.Path.{sym, ap}
 use Rattle.base.specs.Refusals.{numberOf}
-use native.Mathlib.Omega.{arith}
 use borrow.Author.Needs.{needs}
 use Rattle.base.proofs.Refusal.number.Statement.{statement}
 use Rattle.base.proofs.Refusal.number.Tie as tie
