@@ -96,8 +96,8 @@ typedef struct {
     uint64_t count; /* how many literals; none may be picked, and then the rank is 0 */
 } tm_literals_result;
 
-/* Picks the literals to search for: if there are any, every match of the pattern holds one of them. `bytes` gets their bytes, one literal after another, and `lengths` the
- * length of each.
+/* Picks the literals to search for: if there are any, every match of the pattern holds one of them. `bytes` gets their bytes, one literal after
+ * another, and `lengths` the length of each.
  * Refused: 1 to 11; then 19, 17; then 18 if either buffer is too short for all of them; and then nothing is written to either.
  * Success: the first `count` lengths, and as many bytes as they sum up to, are written. The rest of both buffers stays. */
 tm_literals_result tm_literals(const uint8_t *text, size_t text_len, uint8_t *bytes, size_t bytes_len, uint16_t *lengths, size_t lengths_len);

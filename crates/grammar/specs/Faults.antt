@@ -64,7 +64,7 @@ pub data Listed (t : Text) (level count at : ℕ) : ℕ → ℕ → Type 0 where
   listed : {d e : ℕ} {ts : Tokens} → level ≤ 8 → Stands t (TokenList level ts) at e → d ≡ count + total ts → d ≤ 512 → Missing t level e → Listed t level count at d e
 
 mutual
-  -- a list of this level should begin at `at`, after so many tokens, and is missed at `miss`: after `{`, after `(`, or after `|`
+  -- a list of this level should begin at `at`, after so many tokens, and would be missed at `miss`: after `{`, after `(`, or after `|`
   pub data Begins (t : Text) : ℕ → ℕ → ℕ → ℕ → Type 0 where
     outermost : {at : ℕ} → length t ≤ 4096 → Stands t (Mark "{") 0 at → Begins t 1 0 at at
     opened : {level start count at x : ℕ} → Looked t level start count at → Stands t (Mark "(") at x → count < 512 → Begins t (suc level) (suc count) x x
