@@ -7,6 +7,7 @@ pub mod Lengths
 pub mod Best
 pub mod Winners
 pub mod Outcomes
+pub mod Picks
 pub mod Cuts
 pub mod Answers
 pub mod Checks

@@ -59,10 +59,14 @@ some-short : (p q : List ℕ) → (length p < 512) ⊎ (length q < 512) → fals
 some-short p q (inl h) = ap (λ (x : Bool). x && leb 512 (length q)) (sym (lt-leb 512 (length p) h))
 some-short p q (inr h) = sym (and-false (leb 512 (length p))) ∙ ap (λ (x : Bool). leb 512 (length p) && x) (sym (lt-leb 512 (length q) h))
 
-short-some : (p q : List ℕ) (a b : Bool) → leb 512 (length p) ≡ a → leb 512 (length q) ≡ b → (a && b) ≡ false → (length p < 512) ⊎ (length q < 512)
-short-some p q false b h g e = inl (leb-false 512 (length p) h)
-short-some p q true false h g e = inr (leb-false 512 (length q) g)
-short-some p q true true h g e = let z : _≡_ {A = ℕ} 0 1 = cc in absurd (omega arith)
+-- of two tests for room one fails
+pub short-some : (a b c d : ℕ) → (leb a b && leb c d) ≡ false → (b < a) ⊎ (d < c)
+short-some a b c d e = go (leb a b) (leb c d) refl refl e
+  where
+    go : (x y : Bool) → leb a b ≡ x → leb c d ≡ y → (x && y) ≡ false → (b < a) ⊎ (d < c)
+    go false y h g e = inl (leb-false a b h)
+    go true false h g e = inr (leb-false c d g)
+    go true true h g e = let z : _≡_ {A = ℕ} 0 1 = cc in absurd (omega arith)
 
 pub compiles : (t p q : List ℕ) → Compiles t p q (compiledoor.compileSays t p q) (compiledoor.forwardLeaves t p q) (compiledoor.reverseLeaves t p q)
 unfolding compiledoor.compileSays compiledoor.forwardLeaves compiledoor.reverseLeaves compiledoor.outcomeSays compiledoor.outcomeForward compiledoor.outcomeReverse compiledoor.compiledSays compiledoor.compiledForward compiledoor.compiledReverse
@@ -81,7 +85,7 @@ compiles t p q = go (compiledoor.room p q) refl (text.reading t) refl
         let a = leb-true 512 (length p) (and-left (leb 512 (length p)) (leb 512 (length q)) h) in
         let b = leb-true 512 (length q) (and-right (leb 512 (length p)) (leb 512 (length q)) h) in
         said.Compiles.rejected a b (fault-exactly t x k .0 g)
-    go false h o g = said.Compiles.no-room (short-some p q (leb 512 (length p)) (leb 512 (length q)) refl refl h)
+    go false h o g = said.Compiles.no-room (short-some 512 (length p) 512 (length q) h)
 
 abbrev As : List ℕ → List ℕ → List ℕ → compiledoor.Said → List ℕ → List ℕ → Type 0
 As t p q s u v = (s ≡ compiledoor.compileSays t p q) × (u ≡ compiledoor.forwardLeaves t p q) × (v ≡ compiledoor.reverseLeaves t p q)

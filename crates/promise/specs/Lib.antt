@@ -4,6 +4,7 @@ pub mod Cases
 pub mod Literals
 pub mod Winners
 pub mod Outcomes
+pub mod Picks
 pub mod Pattern
 pub mod Checks
 pub mod Lines
