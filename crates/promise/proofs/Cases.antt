@@ -2,6 +2,7 @@
 use mathlib.Core.Path.{_≡_, refl, sym, ap, ap₂, _∙_, subst}
 use mathlib.Core.Logic.{_⊎_, inl, inr, _↔_}
 use mathlib.Core.Option.{none, some}
+use mathlib.Core.List.{List}
 use Prim.Native.Nat.{ℕ, suc, _+_, _<_}
 use lib.ListN.{length, length-append}
 use Rattle.base.specs.declared.Refusal.the-variants.{NotSimple, TooManyNodes, BranchTooLong}
@@ -9,9 +10,9 @@ use Rattle.meaning.specs.Tokens.{Token, Tokens, Lists, Byte, NotByte, MaskedByt
 use Rattle.meaning.specs.Programs.{Item, Prog, Branches, one, jump, range, alt, end, _▹_, stop, or as branch}
 use Rattle.compiling.specs.ProgramWords.{wordsFor, wordsOf, wordsIn, nodes}
 use Rattle.compiling.specs.Compiling as compiling
-use Rattle.compiling.specs.Compiling.{Either}
-use Rattle.compiling.specs.Compile.{refused, compile}
-use Rattle.compiling.proofs.GivenLaws.{not-simple-given, branch-too-long-given, too-many-nodes-given}
+use Rattle.compiling.specs.Compiling.{forwardWords, reverseWords, Either}
+use Rattle.compiling.specs.Compile.{compiled, refused, compile}
+use Rattle.compiling.proofs.GivenLaws.{not-simple-given, branch-too-long-given, too-many-nodes-given, programs-given}
 use Rattle.promise.specs.Cases.{Far, unbounded, above, Unfit, a-jump, a-range, nested, HoldsUnfit, OneHoldsUnfit, this-list, other-list, Complex, far, inside, next, sizeOf, size, sizeIn, LongIn, this-branch, other-branch, Long, Large}
 use Rattle.promise.specs.Cases as cases
 
@@ -184,4 +185,10 @@ module _ (ts : Tokens) where
   refused-13 = (
     λ h. let (a, b, c) = too-many-nodes-given ts .0 h in (λ x. a (of-complex x), λ x. b (from-long x), either compiling.ManyNodes Large large-of c),
     λ (a, b, c). too-many-nodes-given ts .1 (λ x. a (complex-of ts x), λ x. b (to-long x), either Large compiling.ManyNodes of-large c),
+  )
+
+  pub neither-refused : (f r : List ℕ) → (compile ts ≡ compiled f r) ↔ ((Complex ts → ⊥) × (Either Long ts → ⊥) × (Either Large ts → ⊥) × (forwardWords ts ≡ f) × (reverseWords ts ≡ r))
+  neither-refused f r = (
+    λ h. let (a, b, c, d, e) = programs-given ts f r .0 h in (λ x. a (of-complex x), λ x. b (from-long x), λ x. c (either Large compiling.ManyNodes of-large x), d, e),
+    λ (a, b, c, d, e). programs-given ts f r .1 (λ x. a (complex-of ts x), λ x. b (to-long x), λ x. c (either compiling.ManyNodes Large large-of x), d, e),
   )

@@ -2,6 +2,7 @@ pub mod NodeWords
 pub mod OneWording
 pub mod Adding
 pub mod Cases
+pub mod Makes
 pub mod Literals
 pub mod Lengths
 pub mod Best

@@ -9,10 +9,13 @@ use lib.Dec.{leb, ltb}
 use borrow.Author.Tests.{leb-true, leb-false, le-leb, lt-leb, ltb-true, ltb-false, lt-ltb, le-ltb}
 use lib.ListN.{length}
 use Rattle.base.specs.Pools.{filled, cleared}
+use Rattle.meaning.specs.Tokens.{Tokens}
 use Rattle.meaning.specs.Programs.{Prog, mirror}
 use Rattle.meaning.specs.Words.{sound, mirrorWords}
 use Rattle.meaning.proofs.SoundLaws.{and-left, and-right}
 use Rattle.reading.specs.Lists as text
+use Rattle.reading.proofs.SpelledValues.{accepted-spelled}
+use Rattle.grammar.specs.Grammar.{Derives}
 use Rattle.grammar.proofs.Derivable.{accepted-derived, derived-accepted}
 use Rattle.grammar.proofs.FaultLaws.{fault-exactly}
 use Rattle.readdoor.specs.Door as readdoor
@@ -20,10 +23,11 @@ use Rattle.compiling.specs.Compile as tokens
 use Rattle.compiledoor.specs.Door as compiledoor
 use Rattle.mirror.specs.MirrorDoor as mirrordoor
 use Rattle.promise.specs.NodeWords.{Nodes}
-use Rattle.promise.specs.Outcomes.{Reads, Compiles, Mirrors}
+use Rattle.promise.specs.Outcomes.{Reads, Makes, Compiles, Mirrors}
 use Rattle.promise.specs.Outcomes as said
 use Rattle.promise.proofs.NodeWords.{sound-listed, not-sound, program-listed, sound-says}
 use Rattle.promise.proofs.OneWording.{one-wording, mirror-wording}
+use Rattle.promise.proofs.Makes.{makes}
 
 -- reading
 pub reads : (t p : List ℕ) → Reads t p (readdoor.readSays t p) (readdoor.readLeaves t p)
@@ -73,8 +77,8 @@ unfolding compiledoor.compileSays compiledoor.forwardLeaves compiledoor.reverseL
 compiles t p q = go (compiledoor.room p q) refl (text.reading t) refl
   where
     made : (e : ℕ) (ts : _) → text.reading t ≡ text.accepted e ts → 512 ≤ length p → 512 ≤ length q → (c : tokens.Compiled) → tokens.compile ts ≡ c → Compiles t p q (compiledoor.compiledSays c) (compiledoor.compiledForward c p) (compiledoor.compiledReverse c q)
-    made e ts g h i (tokens.compiled f r) j = said.Compiles.compiled h i (accepted-derived t e ts g) j
-    made e ts g h i (tokens.refused x) j = said.Compiles.refused h i (accepted-derived t e ts g) j
+    made e ts g h i (tokens.compiled f r) j = said.Compiles.compiled h i (accepted-derived t e ts g) (makes ts (accepted-spelled t e ts g) (tokens.compiled f r) .0 j)
+    made e ts g h i (tokens.refused x) j = said.Compiles.refused h i (accepted-derived t e ts g) (makes ts (accepted-spelled t e ts g) (tokens.refused x) .0 j)
 
     go : (b : Bool) → compiledoor.room p q ≡ b → (o : text.Outcome) → text.reading t ≡ o → Compiles t p q (cond b (compiledoor.outcomeSays o) (compiledoor.refuses 18 0)) (cond b (compiledoor.outcomeForward o p) p) (cond b (compiledoor.outcomeReverse o q) q)
     go true h (text.accepted e ts) g =
@@ -106,12 +110,17 @@ by-tokens : (t p q : List ℕ) (k : ℕ) (ts : _) (c : tokens.Compiled) → 512 
 unfolding compiledoor.outcomeSays compiledoor.outcomeForward compiledoor.outcomeReverse
 by-tokens t p q k ts c h g e f = subst (λ (x : tokens.Compiled). As t p q (compiledoor.compiledSays x) (compiledoor.compiledForward x p) (compiledoor.compiledReverse x q)) f (by-outcome t p q (text.accepted k ts) h g e)
 
+made-so : (t p q : List ℕ) (k : ℕ) (ts : Tokens) (c : tokens.Compiled) → 512 ≤ length p → 512 ≤ length q → Derives t k ts → Makes ts c → As t p q (compiledoor.compiledSays c) (compiledoor.compiledForward c p) (compiledoor.compiledReverse c q)
+made-so t p q k ts c h g e f =
+    let a = derived-accepted t k ts e in
+    by-tokens t p q k ts c h g a (makes ts (accepted-spelled t k ts a) c .1 f)
+
 pub compiles-one : {t p q : List ℕ} {s : compiledoor.Said} {u v : List ℕ} → Compiles t p q s u v → (s ≡ compiledoor.compileSays t p q) × (u ≡ compiledoor.forwardLeaves t p q) × (v ≡ compiledoor.reverseLeaves t p q)
 unfolding compiledoor.outcomeSays compiledoor.outcomeForward compiledoor.outcomeReverse compiledoor.compiledSays compiledoor.compiledForward compiledoor.compiledReverse
 compiles-one {t} {p} {q} (said.Compiles.no-room h) = by-room t p q false (some-short p q h)
 compiles-one {t} {p} {q} (said.Compiles.rejected {x = x} {place = k} h g e) = by-outcome t p q (text.rejected x k) h g (fault-exactly t x k .1 e)
-compiles-one {t} {p} {q} (said.Compiles.refused {x = x} {reached = k} {ts = ts} h g e f) = by-tokens t p q k ts (tokens.refused x) h g (derived-accepted t k ts e) f
-compiles-one {t} {p} {q} (said.Compiles.compiled {reached = k} {ts = ts} {f = a} {r = b} h g e f) = by-tokens t p q k ts (tokens.compiled a b) h g (derived-accepted t k ts e) f
+compiles-one {t} {p} {q} (said.Compiles.refused {x = x} {reached = k} {ts = ts} h g e f) = made-so t p q k ts (tokens.refused x) h g e f
+compiles-one {t} {p} {q} (said.Compiles.compiled {reached = k} {ts = ts} {f = a} {r = b} h g e f) = made-so t p q k ts (tokens.compiled a b) h g e f
 
 -- the mirror
 pub mirrors : (ws p : List ℕ) → Mirrors ws p (mirrordoor.mirrorSays ws p) (mirrordoor.mirrorLeaves ws p)

@@ -1,10 +1,10 @@
 -- What reading, compiling and the mirror answer, and what they leave in the lent pools, case by case. Assumes nothing: these are definitions.
-use mathlib.Core.Path.{_≡_}
 use mathlib.Core.Logic.{_⊎_}
 use mathlib.Core.List.{List}
 use Prim.Native.Nat.{ℕ, _≤_, _<_}
 use lib.ListN.{length}
 use Rattle.base.specs.declared.Refusal.{Refusal}
+use Rattle.base.specs.declared.Refusal.the-variants.{NotSimple, TooManyNodes, BranchTooLong}
 use Rattle.base.specs.Refusals.{numberOf}
 use Rattle.base.specs.Pools.{filled, cleared}
 use Rattle.meaning.specs.Tokens.{Tokens}
@@ -13,10 +13,12 @@ use Rattle.meaning.specs.Programs.{Prog, mirror}
 use Rattle.grammar.specs.Grammar.{Derives}
 use Rattle.grammar.specs.Faults.{Fault}
 use Rattle.readdoor.specs.Door as readdoor
+use Rattle.compiling.specs.Compiling.{forwardProgram, reverseProgram, Either}
 use Rattle.compiling.specs.Compile as tokens
 use Rattle.compiledoor.specs.Door as compiledoor
 use Rattle.mirror.specs.MirrorDoor as mirrordoor
 use Rattle.promise.specs.NodeWords.{Nodes, SoundWords}
+use Rattle.promise.specs.Cases.{Complex, Long, Large}
 
 -- reading the text t into the pool p
 pub data Reads (t p : List ℕ) : readdoor.Said → List ℕ → Type 0 where
@@ -24,12 +26,19 @@ pub data Reads (t p : List ℕ) : readdoor.Said → List ℕ → Type 0 where
   rejected : {x : Refusal} {place : ℕ} → 4096 ≤ length p → Fault t x place → Reads t p (readdoor.refuses (numberOf x) place) (cleared 4096 p)
   accepted : {reached : ℕ} {ts : Tokens} → 4096 ≤ length p → Derives t reached ts → Reads t p (readdoor.gives reached (length (entries ts))) (filled 4096 (entries ts) p)
 
+-- what is made of the tokens ts: 12, else 14, else 13, else the words that say both programs
+pub data Makes (ts : Tokens) : tokens.Compiled → Type 0 where
+  not-simple : Complex ts → Makes ts (tokens.refused NotSimple)
+  branch-too-long : (Complex ts → ⊥) → Either Long ts → Makes ts (tokens.refused BranchTooLong)
+  too-many-nodes : (Complex ts → ⊥) → (Either Long ts → ⊥) → Either Large ts → Makes ts (tokens.refused TooManyNodes)
+  programs : {f r : List ℕ} → (Complex ts → ⊥) → (Either Long ts → ⊥) → (Either Large ts → ⊥) → Nodes f (forwardProgram ts) → Nodes r (reverseProgram ts) → Makes ts (tokens.compiled f r)
+
 -- compiling the text t into the pools p and q
 pub data Compiles (t p q : List ℕ) : compiledoor.Said → List ℕ → List ℕ → Type 0 where
   no-room : (length p < 512) ⊎ (length q < 512) → Compiles t p q (compiledoor.refuses 18 0) p q
   rejected : {x : Refusal} {place : ℕ} → 512 ≤ length p → 512 ≤ length q → Fault t x place → Compiles t p q (compiledoor.refuses (numberOf x) place) (cleared 512 p) (cleared 512 q)
-  refused : {x : Refusal} {reached : ℕ} {ts : Tokens} → 512 ≤ length p → 512 ≤ length q → Derives t reached ts → tokens.compile ts ≡ tokens.refused x → Compiles t p q (compiledoor.refuses (numberOf x) 0) (cleared 512 p) (cleared 512 q)
-  compiled : {reached : ℕ} {ts : Tokens} {f r : List ℕ} → 512 ≤ length p → 512 ≤ length q → Derives t reached ts → tokens.compile ts ≡ tokens.compiled f r → Compiles t p q (compiledoor.gives (length f) (length r)) (filled 512 f p) (filled 512 r q)
+  refused : {x : Refusal} {reached : ℕ} {ts : Tokens} → 512 ≤ length p → 512 ≤ length q → Derives t reached ts → Makes ts (tokens.refused x) → Compiles t p q (compiledoor.refuses (numberOf x) 0) (cleared 512 p) (cleared 512 q)
+  compiled : {reached : ℕ} {ts : Tokens} {f r : List ℕ} → 512 ≤ length p → 512 ≤ length q → Derives t reached ts → Makes ts (tokens.compiled f r) → Compiles t p q (compiledoor.gives (length f) (length r)) (filled 512 f p) (filled 512 r q)
 
 -- the mirror of the words ws in the pool p
 pub data Mirrors (ws p : List ℕ) : mirrordoor.Said → List ℕ → Type 0 where
