@@ -11,7 +11,7 @@ use lib.Dec.{eqb, ltb}
 use lib.ListN.{length, drop}
 use Rattle.base.specs.declared.Refusal.{Refusal}
 use Rattle.base.specs.declared.Refusal.the-variants.{Unexpected, NumberTooBig, CannotNegateMaskAll, TooManyTokens}
-use Rattle.meaning.specs.Tokens.{left, right, all, Token, Lists, Byte, NotByte, MaskedByte, NotMaskedByte, Jump, Alternatives, totalIn}
+use Rattle.meaning.specs.Tokens.{left, right, all, Token, Lists, NotByte, NotMaskedByte, Jump, Alternatives, totalIn}
 use Rattle.reading.specs.Blanks.{here, skip}
 use Rattle.reading.specs.Given as given
 use Rattle.reading.specs.Pieces.{Seen, found, absent, refused, _else_, Hex, whole, masked, hexAt, negated, plainAt}
@@ -26,7 +26,7 @@ use Rattle.grammar.specs.Faults.{Stands, Spells, Missing}
 use Rattle.grammar.proofs.Spelling.{_⨾_, NoBlank, SpellsToken, NoJump, depthIn}
 use Rattle.grammar.proofs.Standing.{after, here-is, here-cons}
 use Rattle.grammar.proofs.Fronts.{marked-form}
-use Rattle.grammar.proofs.PiecesSpelled.{Plain}
+use Rattle.grammar.proofs.PiecesSpelled.{Plain, plain-or}
 use Rattle.grammar.proofs.PiecesRead.{plain-found}
 use Rattle.grammar.proofs.ListsSpelled.{Right, token-right}
 use Rattle.grammar.proofs.ListsRead.{token-is-read, token-found}
@@ -34,15 +34,6 @@ use Rattle.grammar.proofs.Ends.{TokenAfter, token-after}
 use Rattle.grammar.proofs.RulesSpell.{solid-spells, jump-spells}
 use Rattle.grammar.proofs.SpellingDerived.{jump-or, solid-derived, jump-derived}
 use Rattle.grammar.proofs.FaultPieces.{stood, stand, mark-there, mark-here, from-there, from-here, jumps-there, jumps-here, big-there, big-here}
-
-plain-or : (tok : Token) → Plain tok ⊎ ((ls : Lists) × (tok ≡ Alternatives ls))
-unfolding Plain
-plain-or (Byte v) = inl tt
-plain-or (NotByte v) = inl tt
-plain-or (MaskedByte v m) = inl tt
-plain-or (NotMaskedByte v m) = inl tt
-plain-or (Jump from to) = inl tt
-plain-or (Alternatives ls) = inr (ls, refl)
 
 -- the levels of lists
 abbrev pub Level : ℕ → Type 0

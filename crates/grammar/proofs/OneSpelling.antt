@@ -12,18 +12,9 @@ use Rattle.reading.proofs.PieceLaws.{never}
 use Rattle.grammar.proofs.Spelling.{_⨾_, NoBlank, Marked, SpellsToken, SpellsTokens, SpellsLists, SpellsRest, SpellsString, SpellsText}
 use Rattle.grammar.proofs.Standing.{cut, here-is}
 use Rattle.grammar.proofs.Fronts.{opens-clear, cons-clear, tokens-clear, marked-form, mark-seen}
-use Rattle.grammar.proofs.PiecesSpelled.{Plain}
+use Rattle.grammar.proofs.PiecesSpelled.{Plain, plain-or}
 use Rattle.grammar.proofs.PiecesRead.{plain-found, plain-absent}
 use Rattle.grammar.proofs.ListsRead.{Closer, closer-high, no-digits, none-at, lists-clear, rest-form, rest-opens, outer-clear}
-
-plain-or : (tok : Token) → Plain tok ⊎ ((ls : Lists) × (tok ≡ Alternatives ls))
-unfolding Plain
-plain-or (Byte v) = inl tt
-plain-or (NotByte v) = inl tt
-plain-or (MaskedByte v m) = inl tt
-plain-or (NotMaskedByte v m) = inl tt
-plain-or (Jump from to) = inl tt
-plain-or (Alternatives ls) = inr (ls, refl)
 
 mark-front : (t : List ℕ) (at c : ℕ) (w a b r : List ℕ) → drop at t ≡ w ++ r → w ≡ a ++ b → Marked c a → here t at ≡ c
 mark-front t at c w a b r h p m =

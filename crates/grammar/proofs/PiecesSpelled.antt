@@ -1,7 +1,7 @@
 -- What the small readers find is spelled as the grammar says. Assumes nothing.
 use mathlib.Core.Path.{_≡_, refl, ap, subst}
 use mathlib.Core.Bool.{Bool, true, false, cond, _&&_}
-use mathlib.Core.Logic.{inl, inr}
+use mathlib.Core.Logic.{_⊎_, inl, inr}
 use mathlib.Core.Option.{Option, none, some}
 use mathlib.Core.List.{List, [], _∷_}
 use Prim.Native.Nat.{ℕ, suc, _+_, _*_, _^_, _<_, _≤_}
@@ -10,7 +10,7 @@ use borrow.Author.Tests.{ltb-false, leb-true, eqb-true, eqb-false}
 use lib.Dec.{eqb, leb, ltb}
 use lib.ListN.{length, drop}
 use Rattle.base.specs.declared.Refusal.the-variants.{NumberTooBig, JumpEmpty, JumpRangeInvalid, JumpTooBigInAlternation}
-use Rattle.meaning.specs.Tokens.{left, right, all, Token, Byte, NotByte, MaskedByte, NotMaskedByte, Jump, Alternatives}
+use Rattle.meaning.specs.Tokens.{left, right, all, Token, Lists, Byte, NotByte, MaskedByte, NotMaskedByte, Jump, Alternatives}
 use Rattle.reading.specs.Blanks.{here, skip}
 use Rattle.reading.specs.Pieces.{Seen, found, absent, refused, upTo, _else_, within, digit, Hex, whole, masked, twoDigits, byteAt, oneDigit, maskedAt, hexAt, plainly, negated, notAt, decimals, numeral, numberAt, Range, between, checked, closedAt, upperAt, dashAt, lowerAt, rangeAt, jumpToken, jumped, plainAt}
 use Rattle.reading.proofs.PieceLaws.{within-true}
@@ -194,6 +194,15 @@ Plain (MaskedByte v m) = Unit {0}
 Plain (NotMaskedByte v m) = Unit {0}
 Plain (Jump from to) = Unit {0}
 Plain (Alternatives ls) = ⊥
+
+pub plain-or : (tok : Token) → Plain tok ⊎ ((ls : Lists) × (tok ≡ Alternatives ls))
+unfolding Plain
+plain-or (Byte v) = inl tt
+plain-or (NotByte v) = inl tt
+plain-or (MaskedByte v m) = inl tt
+plain-or (NotMaskedByte v m) = inl tt
+plain-or (Jump from to) = inl tt
+plain-or (Alternatives ls) = inr (ls, refl)
 
 unfoldable pub SpellsPlain : Bool → Token → Language
 SpellsPlain inside tok s = SpellsToken inside tok s × Plain tok

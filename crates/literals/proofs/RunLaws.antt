@@ -44,6 +44,13 @@ pub record Weighed (run : List ℕ) (prior at : ℕ) (top : Pick) : Type 0 where
   pub rest-whole : Whole (drop at run)
   pub same : best unranked (slices (parts (tokensIn run)) nothing) ≡ best (choiceSays run top) (slices (parts (tokensIn (drop at run))) (words run prior at))
 
+-- where an entry is left of a run, so it is of its part from there on, and the first part of that is told
+pub rest-long : (run : List ℕ) (at : ℕ) → 4 ≤ length run - at → 4 ≤ length (take (length run - at) (drop at run))
+rest-long run at h = let e = part-long at run in omega arith
+
+part-there : (run : List ℕ) (at : ℕ) → Whole (drop at run) → 4 ≤ length run - at → Part (drop at run) (partEnd (drop at run)) (eqb (getD (drop at run) 0 0) 0)
+part-there run at w h = first-part (drop at run) w (let d = length-drop at run in omega arith)
+
 module _ (run : List ℕ) (few : length run ≤ 4096) where
   pub weighed-start : Whole run → Weighed run 0 0 Nothing
   weighed-start w =
@@ -68,16 +75,10 @@ module _ (run : List ℕ) (few : length run ≤ 4096) where
     pub placed : 4 ≤ length run - at → Placed run prior at
     placed h = record { few = few; behind = g .behind; here = (omega arith); before-whole = g .before-whole; rest-whole = g .rest-whole }
 
-    here-part : 4 ≤ length run - at → Part (drop at run) (partEnd (drop at run)) (eqb (getD (drop at run) 0 0) 0)
-    here-part h = first-part (drop at run) (g .rest-whole) (let d = length-drop at run in omega arith)
-
-    pub here-long : 4 ≤ length run - at → 4 ≤ length (take (length run - at) (drop at run))
-    here-long h = let e = part-long at run in omega arith
-
     pub here-inside : 4 ≤ length run - at → (n : ℕ) → n ≡ partEnd (take (length run - at) (drop at run)) → (at + n ≤ length run) × (4 ≤ n)
     here-inside h n e =
         let f : n ≡ partEnd (drop at run) = e ∙ ap partEnd (part-all at run) in
-        let q = here-part h in
+        let q = part-there run at (g .rest-whole) h in
         let d = length-drop at run in
         let a = q .fits in
         let b = q .some in
@@ -90,7 +91,7 @@ module _ (run : List ℕ) (few : length run ≤ 4096) where
     unfolding slices literalOnly
     weighed-on h n e s now n-is e-is s-is w =
         let f : n ≡ partEnd (drop at run) = n-is ∙ ap partEnd (part-all at run) in
-        let q = here-part h in
+        let q = part-there run at (g .rest-whole) h in
         let ins = here-inside h n n-is in
         let k : getD (drop at run) 0 0 ≡ getD run at 0 = lib.Seq.getD-drop at run 0 0 ∙ ap (λ (x : ℕ). getD run x 0) (native.Mathlib.Nat.add-zero at) in
         let x : e - at ≡ n = omega arith in
@@ -103,7 +104,7 @@ module _ (run : List ℕ) (few : length run ≤ 4096) where
         go : (b : Bool) → s ≡ cond b at e → isLiteral (words run at e) ≡ b → tokensIn (take (partEnd (drop at run)) (drop at run)) ≡ words run at e → drop (partEnd (drop at run)) (drop at run) ≡ drop e run → Whole (take (e - at) (drop at run))
             → (at + n ≤ length run) × (4 ≤ n) → Weighed run s e now
         go b s-b lit own dr wh ins =
-            let q = here-part h in
+            let q = part-there run at (g .rest-whole) h in
             let ls : s ≤ e = start-le b s-b in
             record {
               behind = ls;
@@ -191,19 +192,13 @@ module _ (run : List ℕ) (few : length run ≤ 4096) where
         let e = tokens-end (drop at run) (let d = length-drop at run in omega arith) in
         sym (ap (λ (o : Option Tokens). aloneOr o unranked) (g .same ∙ ap (λ (x : Tokens). strong (parts x)) e))
 
-    front-part : 4 ≤ length run - at → Part (drop at run) (partEnd (drop at run)) (eqb (getD (drop at run) 0 0) 0)
-    front-part h = first-part (drop at run) (g .rest-whole) (let d = length-drop at run in omega arith)
-
-    pub front-long : 4 ≤ length run - at → 4 ≤ length (take (length run - at) (drop at run))
-    front-long h = let e = part-long at run in omega arith
-
     module _ (h : 4 ≤ length run - at) (n : ℕ) (n-is : n ≡ partEnd (take (length run - at) (drop at run))) where
       n-exact : n ≡ partEnd (drop at run)
       n-exact = n-is ∙ ap partEnd (part-all at run)
 
       pub front-inside : (at + n ≤ length run) × (4 ≤ n)
       front-inside =
-          let q = front-part h in
+          let q = part-there run at (g .rest-whole) h in
           let d = length-drop at run in
           let a = q .fits in
           let b = q .some in
@@ -218,19 +213,19 @@ module _ (run : List ℕ) (few : length run ≤ 4096) where
 
       kind-at : isLiteral (words run at (at + n)) ≡ eqb (getD run at 0) 0
       kind-at =
-          ap isLiteral (sym own-is) ∙ front-part h .kind-is
+          ap isLiteral (sym own-is) ∙ (part-there run at (g .rest-whole) h) .kind-is
           ∙ ap (λ (y : ℕ). eqb y 0) (lib.Seq.getD-drop at run 0 0 ∙ ap (λ (x : ℕ). getD run x 0) (native.Mathlib.Nat.add-zero at))
 
       strong-step : strong (parts (tokensIn (drop at run)))
           ≡ cond (isLiteral (words run at (at + n)) && leb 80 (literalScore (bytesOf (words run at (at + n))))) (some (words run at (at + n))) (strong (parts (tokensIn (drop (at + n) run))))
       unfolding strong
       strong-step =
-          ap strong (front-part h .part-is)
+          ap strong ((part-there run at (g .rest-whole) h) .part-is)
           ∙ ap₂ (λ (p : Tokens) (l : List ℕ). cond (isLiteral p && leb 80 (literalScore (bytesOf p))) (some p) (strong (parts (tokensIn l)))) own-is
           (ap (λ (y : ℕ). drop y (drop at run)) (sym n-exact) ∙ later-words run at n)
 
       pub front-bytes : getD run at 0 ≡ 0 → AllBytes (words run at (at + n))
-      front-bytes k = subst AllBytes own-is (literal-bytes (tokensIn (drop at run)) _ _ (front-part h .part-is) (ap isLiteral own-is ∙ kind-at ∙ eq-eqb (getD run at 0) 0 k))
+      front-bytes k = subst AllBytes own-is (literal-bytes (tokensIn (drop at run)) _ _ ((part-there run at (g .rest-whole) h) .part-is) (ap isLiteral own-is ∙ kind-at ∙ eq-eqb (getD run at 0) 0 k))
 
       pub front-few : length (take ((at + n) - at) (drop at run)) ≤ 4096
       front-few = let a = lib.ListN.length-take ((at + n) - at) (drop at run) in let b = length-drop at run in omega arith
@@ -254,7 +249,7 @@ module _ (run : List ℕ) (few : length run ≤ 4096) where
       passed-by t =
           record {
             inside = front-inside .0;
-            rest-whole = subst Whole (ap (λ (y : ℕ). drop y (drop at run)) (sym n-exact) ∙ later-words run at n) (front-part h .rest-whole);
+            rest-whole = subst Whole (ap (λ (y : ℕ). drop y (drop at run)) (sym n-exact) ∙ later-words run at n) ((part-there run at (g .rest-whole) h) .rest-whole);
             same = g .same ∙ strong-step ∙ ap (λ (b : Bool). cond b (some (words run at (at + n))) (strong (parts (tokensIn (drop (at + n) run))))) t;
           }
 

@@ -52,7 +52,7 @@ part-part-words-end c = search needs
 
 -- src/lib.rt:198:13
 part-words-requires : tie.Need-part-words-requires Inv-loop μ-loop
-part-words-requires c κs = law.here-long (c .before .before .before .before .before .before .before .args .run .now) ((c .before .before .before .before .before .before .before .pre) .0) (c .before .before .before .before .before .loop .prior) (c .before .before .before .before .before .loop .at) (c .before .before .before .before .before .loop .top) (c .before .before .before .before .before .loop .inv) (c .before .before .before .before .loop-test .taken)
+part-words-requires c κs = law.rest-long (c .before .before .before .before .before .before .before .args .run .now) (c .before .before .before .before .before .loop .at) (c .before .before .before .before .loop-test .taken)
 
 -- src/lib.rt:199:17
 add-e : tie.Need-add-e Inv-loop μ-loop

@@ -39,7 +39,7 @@ part-part-words-end c = search needs
 
 -- src/lib.rt:213:13
 part-words-requires : tie.Need-part-words-requires Inv-loop μ-loop
-part-words-requires c κs = law.front-long (c .before .before .before .before .args .run .now) ((c .before .before .before .before .pre) .0) (c .before .before .loop .at) (c .before .before .loop .inv) (c .before .loop-test .taken)
+part-words-requires c κs = law.rest-long (c .before .before .before .before .args .run .now) (c .before .before .loop .at) (c .before .loop-test .taken)
 
 -- src/lib.rt:214:17
 add-e : tie.Need-add-e Inv-loop μ-loop
