@@ -13,4 +13,5 @@ pub mod Cuts
 pub mod Answers
 pub mod Checks
 pub mod Pattern
+pub mod Programs
 pub mod Lines

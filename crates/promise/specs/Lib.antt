@@ -6,5 +6,6 @@ pub mod Winners
 pub mod Outcomes
 pub mod Picks
 pub mod Pattern
+pub mod Programs
 pub mod Checks
 pub mod Lines
