@@ -7,6 +7,7 @@ pub mod Literals
 pub mod Lengths
 pub mod Best
 pub mod Winners
+pub mod Parts
 pub mod Outcomes
 pub mod Picks
 pub mod Cuts

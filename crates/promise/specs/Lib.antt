@@ -2,6 +2,7 @@ pub mod NodeWords
 pub mod Adding
 pub mod Cases
 pub mod Literals
+pub mod Parts
 pub mod Winners
 pub mod Outcomes
 pub mod Picks
