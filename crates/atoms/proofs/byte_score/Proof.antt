@@ -5,11 +5,15 @@ use Rattle.atoms.specs.Score.{common, byteScore}
 
 returns : tie.Need-returns
 unfolding byteScore common
-returns c = rw (among-one (c .before .args .b) common (c .match .keys1))
+returns c =
+    let at-start = c .before in
+    rw (among-one (at-start .args .b) common (c .match .keys1))
 
 returns-2 : tie.Need-returns-2
 unfolding byteScore common
-returns-2 c = rw (among-none (c .before .args .b) common (c .match .rest .1))
+returns-2 c =
+    let at-start = c .before in
+    rw (among-none (at-start .args .b) common (c .match .rest .1))
 
 pub byte-score-spec : {M : Type 1} → statement M
 byte-score-spec = tie.close (tie.spec returns returns-2)

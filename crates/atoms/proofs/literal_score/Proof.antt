@@ -19,7 +19,9 @@ score-requires : tie.Need-score-requires Inv-loop μ-loop
 score-requires c κs = search needs
 
 loop-holds : tie.Need-loop-holds Inv-loop μ-loop
-loop-holds c = (omega arith, best-first (c .before .before .args .lit .now) _ (c .score .ensures))
+loop-holds c =
+    let at-start = c .before .before in
+    (omega arith, best-first (at-start .args .lit .now) _ (c .score .ensures))
 
 sub-loop : tie.Need-sub-loop Inv-loop μ-loop
 sub-loop c = search needs
@@ -46,14 +48,20 @@ loop-less : tie.Need-loop-less Inv-loop μ-loop
 loop-less c = search needs
 
 loop-again : tie.Need-loop-again Inv-loop μ-loop
-loop-again c = (
-  omega arith,
-  best-next (c .before .before .before .before .before .before .before .args .lit .now) (c .before .before .before .before .loop .at) _ _ _
-      (c .before .before .before .before .loop .inv .1) (c .before .score2 .ensures) (c .larger .ensures),
-)
+loop-again c =
+    let at-score2 = c .before .score2 in
+    let at-loop = c .before .before .before .before .loop in
+    let at-start = c .before .before .before .before .before .before .before in (
+      omega arith,
+      best-next (at-start .args .lit .now) (at-loop .at) _ _ _
+          (at-loop .inv .1) (at-score2 .ensures) (c .larger .ensures),
+    )
 
 returns : tie.Need-returns Inv-loop μ-loop
-returns c = best-last (c .before .before .before .before .args .lit .now) (c .before .loop .at) _ (omega arith) (omega arith) (c .before .loop .inv .1)
+returns c =
+    let at-loop = c .before .loop in
+    let at-start = c .before .before .before .before in
+    best-last (at-start .args .lit .now) (at-loop .at) _ (omega arith) (omega arith) (at-loop .inv .1)
 
 pub literal-score-spec : {M : Type 1} → statement M
 literal-score-spec =

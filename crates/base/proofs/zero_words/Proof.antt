@@ -33,8 +33,10 @@ loop-less c = search needs
 
 loop-again : tie.Need-loop-again Inv-loop μ-loop
 loop-again c =
-    let l = c .before .loop in
-    let a = c .before .before .args in (
+    let at-loop = c .before .loop in
+    let at-start = c .before .before in
+    let l = at-loop in
+    let a = at-start .args in (
       omega arith,
       omega arith,
       length-set (l .pool) (l .i) 0 ∙ l .inv .2,
@@ -46,8 +48,10 @@ same-length c = search needs
 
 returns : tie.Need-returns Inv-loop μ-loop
 returns c =
-    let l = c .before .loop in
-    let a = c .before .before .args in
+    let at-loop = c .before .loop in
+    let at-start = c .before .before in
+    let l = at-loop in
+    let a = at-start .args in
     let e : l .i ≡ a .to = omega arith in
     l .inv .3 ∙ ap (λ (n : ℕ). zeroed (a .from) n (a .pool .now)) e
 

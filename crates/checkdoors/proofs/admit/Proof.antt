@@ -7,46 +7,62 @@ use Rattle.checkdoors.proofs.admit.Tie as tie
 
 returns : tie.Need-returns
 returns c =
-    let W = c .before .before .args .words .now in
-    let N = c .before .before .args .len in
-    let S = c .before .before .args .start in
-    let E = c .before .before .args .end in
+    let at-start = c .before .before in
+    let W = at-start .args .words .now in
+    let N = at-start .args .len in
+    let S = at-start .args .start in
+    let E = at-start .args .end in
     law.crossed W N S E (c .if1 .taken)
 
 returns-2 : tie.Need-returns-2
 returns-2 c =
-    let W = c .before .before .before .args .words .now in
-    let N = c .before .before .before .args .len in
-    let S = c .before .before .before .args .start in
-    let E = c .before .before .before .args .end in
-    law.beyond W N S E (c .before .if1 .left) (c .if2 .taken)
+    let at-if1 = c .before .if1 in
+    let at-start = c .before .before .before in
+    let W = at-start .args .words .now in
+    let N = at-start .args .len in
+    let S = at-start .args .start in
+    let E = at-start .args .end in
+    law.beyond W N S E (at-if1 .left) (c .if2 .taken)
 
 returns-3 : tie.Need-returns-3
 returns-3 c =
-    let W = c .before .before .before .before .args .words .now in
-    let N = c .before .before .before .before .args .len in
-    let S = c .before .before .before .before .args .start in
-    let E = c .before .before .before .before .args .end in
-    law.many W N S E (c .before .before .if1 .left) (c .before .if2 .left) (c .if3 .taken)
+    let at-if2 = c .before .if2 in
+    let at-if1 = c .before .before .if1 in
+    let at-start = c .before .before .before .before in
+    let W = at-start .args .words .now in
+    let N = at-start .args .len in
+    let S = at-start .args .start in
+    let E = at-start .args .end in
+    law.many W N S E (at-if1 .left) (at-if2 .left) (c .if3 .taken)
 
 is-sound-requires : tie.Need-is-sound-requires
 is-sound-requires c κs = search needs
 
 returns-4 : tie.Need-returns-4
 returns-4 c =
-    let W = c .before .before .before .before .before .before .args .words .now in
-    let N = c .before .before .before .before .before .before .args .len in
-    let S = c .before .before .before .before .before .before .args .start in
-    let E = c .before .before .before .before .before .before .args .end in
-    law.passed W N S E (c .before .before .before .before .if1 .left) (c .before .before .before .if2 .left) (c .before .before .if3 .left) (sym (c .if4 .taken) ∙ c .before .is-sound .ensures)
+    let at-is-sound = c .before .is-sound in
+    let at-if3 = c .before .before .if3 in
+    let at-if2 = c .before .before .before .if2 in
+    let at-if1 = c .before .before .before .before .if1 in
+    let at-start = c .before .before .before .before .before .before in
+    let W = at-start .args .words .now in
+    let N = at-start .args .len in
+    let S = at-start .args .start in
+    let E = at-start .args .end in
+    law.passed W N S E (at-if1 .left) (at-if2 .left) (at-if3 .left) (sym (c .if4 .taken) ∙ at-is-sound .ensures)
 
 returns-5 : tie.Need-returns-5
 returns-5 c =
-    let W = c .before .before .before .before .before .before .args .words .now in
-    let N = c .before .before .before .before .before .before .args .len in
-    let S = c .before .before .before .before .before .before .args .start in
-    let E = c .before .before .before .before .before .before .args .end in
-    law.unsound W N S E (c .before .before .before .before .if1 .left) (c .before .before .before .if2 .left) (c .before .before .if3 .left) (sym (c .if4 .left) ∙ c .before .is-sound .ensures)
+    let at-is-sound = c .before .is-sound in
+    let at-if3 = c .before .before .if3 in
+    let at-if2 = c .before .before .before .if2 in
+    let at-if1 = c .before .before .before .before .if1 in
+    let at-start = c .before .before .before .before .before .before in
+    let W = at-start .args .words .now in
+    let N = at-start .args .len in
+    let S = at-start .args .start in
+    let E = at-start .args .end in
+    law.unsound W N S E (at-if1 .left) (at-if2 .left) (at-if3 .left) (sym (c .if4 .left) ∙ at-is-sound .ensures)
 
 pub admit-spec : {M : Type 1} → statement M
 admit-spec = tie.close (tie.spec returns returns-2 returns-3 is-sound-requires returns-4 returns-5)

@@ -25,11 +25,14 @@ part-result-end c = search needs
 
 returns : tie.Need-returns
 returns c =
-    let W = c .before .before .before .before .before .before .args .words .now in
-    let H = c .before .before .before .before .before .before .args .hay .now in
-    let S = c .before .before .before .before .before .before .args .start in
-    let E = c .before .before .before .before .before .before .args .end in
-    let why = sym (ap whyNot (c .before .enum-told .given .1)) ∙ c .before .before .before .admit .ensures in
+    let at-enum-told = c .before .enum-told in
+    let at-admit = c .before .before .before .admit in
+    let at-start = c .before .before .before .before .before .before in
+    let W = at-start .args .words .now in
+    let H = at-start .args .hay .now in
+    let S = at-start .args .start in
+    let E = at-start .args .end in
+    let why = sym (ap whyNot (at-enum-told .given .1)) ∙ at-admit .ensures in
     record { left = law.left-refused W H S E _ why; lies = law.lies-on _ _ _ _ (let n = law.left-at-refused W H S E _ why in omega arith) }
 
 enum-told-2 : tie.Need-enum-told-2
@@ -37,41 +40,50 @@ enum-told-2 c = search needs
 
 sub-window : tie.Need-sub-window
 sub-window c =
-    let W = c .before .before .before .before .before .args .words .now in
-    let H = c .before .before .before .before .before .args .hay .now in
-    let S = c .before .before .before .before .before .args .start in
-    let E = c .before .before .before .before .before .args .end in
-    let ok = sym (ap whyNot (c .enum-told2 .given .1)) ∙ c .before .before .admit .ensures in
+    let at-admit = c .before .before .admit in
+    let at-start = c .before .before .before .before .before in
+    let W = at-start .args .words .now in
+    let H = at-start .args .hay .now in
+    let S = at-start .args .start in
+    let E = at-start .args .end in
+    let ok = sym (ap whyNot (c .enum-told2 .given .1)) ∙ at-admit .ensures in
     let fine = law.fine W (length H) S E ok in
     fine .ordered
 
 part-window-start : tie.Need-part-window-start
 part-window-start c =
-    let W = c .before .before .before .before .before .args .words .now in
-    let H = c .before .before .before .before .before .args .hay .now in
-    let S = c .before .before .before .before .before .args .start in
-    let E = c .before .before .before .before .before .args .end in
-    let ok = sym (ap whyNot (c .enum-told2 .given .1)) ∙ c .before .before .admit .ensures in
+    let at-admit = c .before .before .admit in
+    let at-start = c .before .before .before .before .before in
+    let W = at-start .args .words .now in
+    let H = at-start .args .hay .now in
+    let S = at-start .args .start in
+    let E = at-start .args .end in
+    let ok = sym (ap whyNot (c .enum-told2 .given .1)) ∙ at-admit .ensures in
     let fine = law.fine W (length H) S E ok in
     fine .ordered
 
 part-window-end : tie.Need-part-window-end
 part-window-end c =
-    let W = c .before .before .before .before .before .args .words .now in
-    let H = c .before .before .before .before .before .args .hay .now in
-    let S = c .before .before .before .before .before .args .start in
-    let E = c .before .before .before .before .before .args .end in
-    let ok = sym (ap whyNot (c .enum-told2 .given .1)) ∙ c .before .before .admit .ensures in
+    let at-admit = c .before .before .admit in
+    let at-start = c .before .before .before .before .before in
+    let W = at-start .args .words .now in
+    let H = at-start .args .hay .now in
+    let S = at-start .args .start in
+    let E = at-start .args .end in
+    let ok = sym (ap whyNot (c .enum-told2 .given .1)) ∙ at-admit .ensures in
     let fine = law.fine W (length H) S E ok in
     fine .inside
 
 check-requires : tie.Need-check-requires
 check-requires c κs =
-    let W = c .before .before .before .before .before .before .args .words .now in
-    let H = c .before .before .before .before .before .before .args .hay .now in
-    let S = c .before .before .before .before .before .before .args .start in
-    let E = c .before .before .before .before .before .before .args .end in
-    let ok = sym (ap whyNot (c .before .enum-told2 .given .1)) ∙ c .before .before .before .admit .ensures in
+    let at-enum-told2 = c .before .enum-told2 in
+    let at-admit = c .before .before .before .admit in
+    let at-start = c .before .before .before .before .before .before in
+    let W = at-start .args .words .now in
+    let H = at-start .args .hay .now in
+    let S = at-start .args .start in
+    let E = at-start .args .end in
+    let ok = sym (ap whyNot (at-enum-told2 .given .1)) ∙ at-admit .ensures in
     let fine = law.fine W (length H) S E ok in
     law.fine-sound fine
 
@@ -92,22 +104,32 @@ part-result-end-2 c = search needs
 
 returns-2 : tie.Need-returns-2
 returns-2 c =
-    let W = c .before .before .before .before .before .before .before .before .before .before .args .words .now in
-    let H = c .before .before .before .before .before .before .before .before .before .before .args .hay .now in
-    let S = c .before .before .before .before .before .before .before .before .before .before .args .start in
-    let E = c .before .before .before .before .before .before .before .before .before .before .args .end in
-    let ok = sym (ap whyNot (c .before .before .before .before .before .enum-told2 .given .1)) ∙ c .before .before .before .before .before .before .before .admit .ensures in
-    let got = sym (c .before .enum-told3 .given .1) ∙ c .before .before .before .check .ensures in
+    let at-enum-told3 = c .before .enum-told3 in
+    let at-check = c .before .before .before .check in
+    let at-enum-told2 = c .before .before .before .before .before .enum-told2 in
+    let at-admit = c .before .before .before .before .before .before .before .admit in
+    let at-start = c .before .before .before .before .before .before .before .before .before .before in
+    let W = at-start .args .words .now in
+    let H = at-start .args .hay .now in
+    let S = at-start .args .start in
+    let E = at-start .args .end in
+    let ok = sym (ap whyNot (at-enum-told2 .given .1)) ∙ at-admit .ensures in
+    let got = sym (at-enum-told3 .given .1) ∙ at-check .ensures in
     record { left = law.left-none W H S E ok got; lies = law.lies-on _ _ _ _ (let n = law.left-at-none W H S E ok got in omega arith) }
 
 sub-used : tie.Need-sub-used
 sub-used c =
-    let W = c .before .before .before .before .before .before .before .before .before .before .args .words .now in
-    let H = c .before .before .before .before .before .before .before .before .before .before .args .hay .now in
-    let S = c .before .before .before .before .before .before .before .before .before .before .args .start in
-    let E = c .before .before .before .before .before .before .before .before .before .before .args .end in
-    let ok = sym (ap whyNot (c .before .before .before .before .before .enum-told2 .given .1)) ∙ c .before .before .before .before .before .before .before .admit .ensures in
-    let got = sym (c .before .left .given .1) ∙ c .before .before .before .check .ensures in
+    let at-left = c .before .left in
+    let at-check = c .before .before .before .check in
+    let at-enum-told2 = c .before .before .before .before .before .enum-told2 in
+    let at-admit = c .before .before .before .before .before .before .before .admit in
+    let at-start = c .before .before .before .before .before .before .before .before .before .before in
+    let W = at-start .args .words .now in
+    let H = at-start .args .hay .now in
+    let S = at-start .args .start in
+    let E = at-start .args .end in
+    let ok = sym (ap whyNot (at-enum-told2 .given .1)) ∙ at-admit .ensures in
+    let got = sym (at-left .given .1) ∙ at-check .ensures in
     law.left-below W H S E ok _ got
 
 sub-result-3 : tie.Need-sub-result-3
@@ -121,12 +143,17 @@ part-result-end-3 c = search needs
 
 returns-3 : tie.Need-returns-3
 returns-3 c =
-    let W = c .before .before .before .before .before .before .before .before .before .before .before .args .words .now in
-    let H = c .before .before .before .before .before .before .before .before .before .before .before .args .hay .now in
-    let S = c .before .before .before .before .before .before .before .before .before .before .before .args .start in
-    let E = c .before .before .before .before .before .before .before .before .before .before .before .args .end in
-    let ok = sym (ap whyNot (c .before .before .before .before .before .before .enum-told2 .given .1)) ∙ c .before .before .before .before .before .before .before .before .admit .ensures in
-    let got = sym (c .before .before .left .given .1) ∙ c .before .before .before .before .check .ensures in
+    let at-left = c .before .before .left in
+    let at-check = c .before .before .before .before .check in
+    let at-enum-told2 = c .before .before .before .before .before .before .enum-told2 in
+    let at-admit = c .before .before .before .before .before .before .before .before .admit in
+    let at-start = c .before .before .before .before .before .before .before .before .before .before .before in
+    let W = at-start .args .words .now in
+    let H = at-start .args .hay .now in
+    let S = at-start .args .start in
+    let E = at-start .args .end in
+    let ok = sym (ap whyNot (at-enum-told2 .given .1)) ∙ at-admit .ensures in
+    let got = sym (at-left .given .1) ∙ at-check .ensures in
     record { left = law.left-found W H S E ok _ got; lies = law.lies-on _ _ _ _ (let n = law.left-at-found W H S E ok _ got in omega arith) }
 
 pub left-forward-spec : {M : Type 1} → statement M

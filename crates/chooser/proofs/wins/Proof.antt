@@ -5,25 +5,29 @@ use Rattle.chooser.proofs.ShiftLaws as shift
 use Rattle.chooser.proofs.wins.Statement.{statement}
 use Rattle.chooser.proofs.wins.Tie as tie
 
--- src/lib.rt:57:9
 returns : tie.Need-returns
-returns c = shift.higher-wins (c .before .before .before .args .n) (c .before .before .before .args .m) (tokensIn (c .before .before .before .args .new .now)) (tokensIn (c .before .before .before .args .old .now)) (c .if1 .taken)
+returns c =
+    let at-start = c .before .before .before in
+    shift.higher-wins (at-start .args .n) (at-start .args .m) (tokensIn (at-start .args .new .now)) (tokensIn (at-start .args .old .now)) (c .if1 .taken)
 
--- src/lib.rt:60:9
 returns-2 : tie.Need-returns-2
-returns-2 c = shift.lower-loses (c .before .before .before .before .args .n) (c .before .before .before .before .args .m) (tokensIn (c .before .before .before .before .args .new .now)) (tokensIn (c .before .before .before .before .args .old .now)) (c .if2 .taken)
+returns-2 c =
+    let at-start = c .before .before .before .before in
+    shift.lower-loses (at-start .args .n) (at-start .args .m) (tokensIn (at-start .args .new .now)) (tokensIn (at-start .args .old .now)) (c .if2 .taken)
 
--- src/lib.rt:62:5
 shortest-in-requires : tie.Need-shortest-in-requires
 shortest-in-requires c κs = search needs
 
--- src/lib.rt:62:24
 shortest-in-requires-2 : tie.Need-shortest-in-requires-2
 shortest-in-requires-2 c κs = search needs
 
--- src/lib.rt:52:1
 returns-3 : tie.Need-returns-3
-returns-3 c = shift.equal-ranks (c .before .before .before .before .before .before .args .n) (c .before .before .before .before .before .before .args .m) _ _ (tokensIn (c .before .before .before .before .before .before .args .new .now)) (tokensIn (c .before .before .before .before .before .before .args .old .now)) (c .before .before .before .if1 .left) (c .before .before .if2 .left) (c .before .shortest-in .ensures) (c .shortest-in2 .ensures)
+returns-3 c =
+    let at-shortest-in = c .before .shortest-in in
+    let at-if2 = c .before .before .if2 in
+    let at-if1 = c .before .before .before .if1 in
+    let at-start = c .before .before .before .before .before .before in
+    shift.equal-ranks (at-start .args .n) (at-start .args .m) _ _ (tokensIn (at-start .args .new .now)) (tokensIn (at-start .args .old .now)) (at-if1 .left) (at-if2 .left) (at-shortest-in .ensures) (c .shortest-in2 .ensures)
 
 pub wins-spec : {M : Type 1} → statement M
 wins-spec =

@@ -4,45 +4,45 @@ use Rattle.chooser.proofs.BetweenLaws as law
 use Rattle.chooser.proofs.with_run.Statement.{statement}
 use Rattle.chooser.proofs.with_run.Tie as tie
 
--- src/lib.rt:116:9
 returns : tie.Need-returns
-returns c = law.empty-run (c .before .before .args .ws .now) (c .before .before .args .from) (c .before .before .args .to) (c .before .before .args .top) (c .if1 .taken) (c .before .before .pre .1)
+returns c =
+    let at-start = c .before .before in
+    law.empty-run (at-start .args .ws .now) (at-start .args .from) (at-start .args .to) (at-start .args .top) (c .if1 .taken) (at-start .pre .1)
 
--- src/lib.rt:118:30
 mul-in-run : tie.Need-mul-in-run
 mul-in-run c = search needs
 
--- src/lib.rt:118:30
 sub-in-run : tie.Need-sub-in-run
 sub-in-run c = search needs
 
--- src/lib.rt:118:30
 part-in-run-start : tie.Need-part-in-run-start
 part-in-run-start c = search needs
 
--- src/lib.rt:118:30
 part-in-run-end : tie.Need-part-in-run-end
 part-in-run-end c = search needs
 
--- src/lib.rt:118:9
 in-run-requires : tie.Need-in-run-requires
 in-run-requires c κs = search needs
 
--- src/lib.rt:119:38
 sub-shifted : tie.Need-sub-shifted
 sub-shifted c = search needs
 
--- src/lib.rt:119:21
 shifted-requires : tie.Need-shifted-requires
 shifted-requires c κs = search needs
 
--- src/lib.rt:119:5
 better-requires : tie.Need-better-requires
-better-requires c κs = (c .before .before .before .before .before .pre .1, law.shifted-kept (c .before .before .before .before .before .args .ws .now) (c .before .in-run .result) (c .before .before .before .before .before .args .from) (c .before .before .before .before .before .args .to - c .before .before .before .before .before .args .from) (c .shifted .result) (c .shifted .ensures) (law.stretch-in (c .before .before .before .before .before .args .ws .now) (c .before .before .before .before .before .args .from) (c .before .before .before .before .before .args .to) (c .before .before .before .before .before .pre .0)) (c .before .in-run .ensures) (c .before .before .before .before .before .pre .0 .told))
+better-requires c κs =
+    let at-in-run = c .before .in-run in
+    let at-start = c .before .before .before .before .before in
+    (at-start .pre .1, law.shifted-kept (at-start .args .ws .now) (at-in-run .result) (at-start .args .from) (at-start .args .to - at-start .args .from) (c .shifted .result) (c .shifted .ensures) (law.stretch-in (at-start .args .ws .now) (at-start .args .from) (at-start .args .to) (at-start .pre .0)) (at-in-run .ensures) (at-start .pre .0 .told))
 
--- src/lib.rt:111:1
 returns-2 : tie.Need-returns-2
-returns-2 c = law.filled-run (c .before .before .before .before .before .before .args .ws .now) (c .before .before .before .before .before .before .args .from) (c .before .before .before .before .before .before .args .to) (c .before .before .before .before .before .before .pre .0) (c .before .before .before .before .before .before .args .top) (c .before .before .in-run .result) (c .before .shifted .result) (c .better .result) (c .before .before .before .before .if1 .left) (c .before .before .in-run .ensures) (c .before .shifted .ensures) (c .better .ensures)
+returns-2 c =
+    let at-shifted = c .before .shifted in
+    let at-in-run = c .before .before .in-run in
+    let at-if1 = c .before .before .before .before .if1 in
+    let at-start = c .before .before .before .before .before .before in
+    law.filled-run (at-start .args .ws .now) (at-start .args .from) (at-start .args .to) (at-start .pre .0) (at-start .args .top) (at-in-run .result) (at-shifted .result) (c .better .result) (at-if1 .left) (at-in-run .ensures) (at-shifted .ensures) (c .better .ensures)
 
 pub with-run-spec : {M : Type 1} → statement M
 with-run-spec =

@@ -15,49 +15,72 @@ Inv-loop ws starts₀ at₀ n₀ starts at n = (length starts ≡ length starts�
 abbrev μ-loop : tie.MeasureT-loop
 μ-loop ws starts₀ at₀ n₀ starts at n = length ws - at
 
--- src/lib.rt:100:5
 loop-holds : tie.Need-loop-holds Inv-loop μ-loop
-loop-holds c = (refl, λ ts e. law.marked-start (c .before .before .args .ws .now) (c .before .before .args .starts .now) ts e)
+loop-holds c =
+    let at-start = c .before .before in
+    (refl, λ ts e. law.marked-start (at-start .args .ws .now) (at-start .args .starts .now) ts e)
 
--- src/lib.rt:101:21
 cast-starts : tie.Need-cast-starts Inv-loop μ-loop
-cast-starts c = let s = alts.size-least (c .before .before .before .before .args .ws .now) (c .before .loop .at) in let f = law.marked-fits (c .before .before .before .before .args .ws .now) (c .before .before .before .before .args .starts .now) (c .before .loop .starts) (c .before .loop .at) (c .before .loop .n) ((c .before .before .before .before .pre .0) .tokens) (c .loop-test .taken) (c .before .loop .inv .1 ((c .before .before .before .before .pre .0) .tokens) ((c .before .before .before .before .pre .0) .entered)) in let l = (c .before .before .before .before .pre .0) .short in let g = (c .before .loop .inv .1 ((c .before .before .before .before .pre .0) .tokens) ((c .before .before .before .before .pre .0) .entered)) .few in let r = c .before .before .before .before .pre .1 in omega arith
+cast-starts c =
+    let at-loop = c .before .loop in
+    let at-start = c .before .before .before .before in
+    let s = alts.size-least (at-start .args .ws .now) (at-loop .at) in let f = law.marked-fits (at-start .args .ws .now) (at-start .args .starts .now) (at-loop .starts) (at-loop .at) (at-loop .n) ((at-start .pre .0) .tokens) (c .loop-test .taken) (at-loop .inv .1 ((at-start .pre .0) .tokens) ((at-start .pre .0) .entered)) in let l = (at-start .pre .0) .short in let g = (at-loop .inv .1 ((at-start .pre .0) .tokens) ((at-start .pre .0) .entered)) .few in let r = at-start .pre .1 in omega arith
 
--- src/lib.rt:101:9
 mul-starts : tie.Need-mul-starts Inv-loop μ-loop
-mul-starts c = let s = alts.size-least (c .before .before .before .before .args .ws .now) (c .before .loop .at) in let f = law.marked-fits (c .before .before .before .before .args .ws .now) (c .before .before .before .before .args .starts .now) (c .before .loop .starts) (c .before .loop .at) (c .before .loop .n) ((c .before .before .before .before .pre .0) .tokens) (c .loop-test .taken) (c .before .loop .inv .1 ((c .before .before .before .before .pre .0) .tokens) ((c .before .before .before .before .pre .0) .entered)) in let l = (c .before .before .before .before .pre .0) .short in let g = (c .before .loop .inv .1 ((c .before .before .before .before .pre .0) .tokens) ((c .before .before .before .before .pre .0) .entered)) .few in let r = c .before .before .before .before .pre .1 in omega arith
+mul-starts c =
+    let at-loop = c .before .loop in
+    let at-start = c .before .before .before .before in
+    let s = alts.size-least (at-start .args .ws .now) (at-loop .at) in let f = law.marked-fits (at-start .args .ws .now) (at-start .args .starts .now) (at-loop .starts) (at-loop .at) (at-loop .n) ((at-start .pre .0) .tokens) (c .loop-test .taken) (at-loop .inv .1 ((at-start .pre .0) .tokens) ((at-start .pre .0) .entered)) in let l = (at-start .pre .0) .short in let g = (at-loop .inv .1 ((at-start .pre .0) .tokens) ((at-start .pre .0) .entered)) .few in let r = at-start .pre .1 in omega arith
 
--- src/lib.rt:101:9
 slice-write-starts : tie.Need-slice-write-starts Inv-loop μ-loop
-slice-write-starts c = let s = alts.size-least (c .before .before .before .before .args .ws .now) (c .before .loop .at) in let f = law.marked-fits (c .before .before .before .before .args .ws .now) (c .before .before .before .before .args .starts .now) (c .before .loop .starts) (c .before .loop .at) (c .before .loop .n) ((c .before .before .before .before .pre .0) .tokens) (c .loop-test .taken) (c .before .loop .inv .1 ((c .before .before .before .before .pre .0) .tokens) ((c .before .before .before .before .pre .0) .entered)) in let l = (c .before .before .before .before .pre .0) .short in let g = (c .before .loop .inv .1 ((c .before .before .before .before .pre .0) .tokens) ((c .before .before .before .before .pre .0) .entered)) .few in let r = c .before .before .before .before .pre .1 in omega arith
+slice-write-starts c =
+    let at-loop = c .before .loop in
+    let at-start = c .before .before .before .before in
+    let s = alts.size-least (at-start .args .ws .now) (at-loop .at) in let f = law.marked-fits (at-start .args .ws .now) (at-start .args .starts .now) (at-loop .starts) (at-loop .at) (at-loop .n) ((at-start .pre .0) .tokens) (c .loop-test .taken) (at-loop .inv .1 ((at-start .pre .0) .tokens) ((at-start .pre .0) .entered)) in let l = (at-start .pre .0) .short in let g = (at-loop .inv .1 ((at-start .pre .0) .tokens) ((at-start .pre .0) .entered)) .few in let r = at-start .pre .1 in omega arith
 
--- src/lib.rt:102:9
 add-n : tie.Need-add-n Inv-loop μ-loop
-add-n c = let s = alts.size-least (c .before .before .before .before .args .ws .now) (c .before .loop .at) in let f = law.marked-fits (c .before .before .before .before .args .ws .now) (c .before .before .before .before .args .starts .now) (c .before .loop .starts) (c .before .loop .at) (c .before .loop .n) ((c .before .before .before .before .pre .0) .tokens) (c .loop-test .taken) (c .before .loop .inv .1 ((c .before .before .before .before .pre .0) .tokens) ((c .before .before .before .before .pre .0) .entered)) in let l = (c .before .before .before .before .pre .0) .short in let g = (c .before .loop .inv .1 ((c .before .before .before .before .pre .0) .tokens) ((c .before .before .before .before .pre .0) .entered)) .few in let r = c .before .before .before .before .pre .1 in omega arith
+add-n c =
+    let at-loop = c .before .loop in
+    let at-start = c .before .before .before .before in
+    let s = alts.size-least (at-start .args .ws .now) (at-loop .at) in let f = law.marked-fits (at-start .args .ws .now) (at-start .args .starts .now) (at-loop .starts) (at-loop .at) (at-loop .n) ((at-start .pre .0) .tokens) (c .loop-test .taken) (at-loop .inv .1 ((at-start .pre .0) .tokens) ((at-start .pre .0) .entered)) in let l = (at-start .pre .0) .short in let g = (at-loop .inv .1 ((at-start .pre .0) .tokens) ((at-start .pre .0) .entered)) .few in let r = at-start .pre .1 in omega arith
 
--- src/lib.rt:103:19
 token-size-requires : tie.Need-token-size-requires Inv-loop μ-loop
-token-size-requires c κs = let s = alts.size-least (c .before .before .before .before .args .ws .now) (c .before .loop .at) in let f = law.marked-fits (c .before .before .before .before .args .ws .now) (c .before .before .before .before .args .starts .now) (c .before .loop .starts) (c .before .loop .at) (c .before .loop .n) ((c .before .before .before .before .pre .0) .tokens) (c .loop-test .taken) (c .before .loop .inv .1 ((c .before .before .before .before .pre .0) .tokens) ((c .before .before .before .before .pre .0) .entered)) in let l = (c .before .before .before .before .pre .0) .short in let g = (c .before .loop .inv .1 ((c .before .before .before .before .pre .0) .tokens) ((c .before .before .before .before .pre .0) .entered)) .few in let r = c .before .before .before .before .pre .1 in omega arith
+token-size-requires c κs =
+    let at-loop = c .before .loop in
+    let at-start = c .before .before .before .before in
+    let s = alts.size-least (at-start .args .ws .now) (at-loop .at) in let f = law.marked-fits (at-start .args .ws .now) (at-start .args .starts .now) (at-loop .starts) (at-loop .at) (at-loop .n) ((at-start .pre .0) .tokens) (c .loop-test .taken) (at-loop .inv .1 ((at-start .pre .0) .tokens) ((at-start .pre .0) .entered)) in let l = (at-start .pre .0) .short in let g = (at-loop .inv .1 ((at-start .pre .0) .tokens) ((at-start .pre .0) .entered)) .few in let r = at-start .pre .1 in omega arith
 
--- src/lib.rt:103:14
 add-at : tie.Need-add-at Inv-loop μ-loop
-add-at c = let s = alts.size-least (c .before .before .before .before .before .args .ws .now) (c .before .before .loop .at) in let f = law.marked-fits (c .before .before .before .before .before .args .ws .now) (c .before .before .before .before .before .args .starts .now) (c .before .before .loop .starts) (c .before .before .loop .at) (c .before .before .loop .n) ((c .before .before .before .before .before .pre .0) .tokens) (c .before .loop-test .taken) (c .before .before .loop .inv .1 ((c .before .before .before .before .before .pre .0) .tokens) ((c .before .before .before .before .before .pre .0) .entered)) in let l = (c .before .before .before .before .before .pre .0) .short in let g = (c .before .before .loop .inv .1 ((c .before .before .before .before .before .pre .0) .tokens) ((c .before .before .before .before .before .pre .0) .entered)) .few in let r = c .before .before .before .before .before .pre .1 in omega (arith, c .token-size .ensures)
+add-at c =
+    let at-loop-test = c .before .loop-test in
+    let at-loop = c .before .before .loop in
+    let at-start = c .before .before .before .before .before in
+    let s = alts.size-least (at-start .args .ws .now) (at-loop .at) in let f = law.marked-fits (at-start .args .ws .now) (at-start .args .starts .now) (at-loop .starts) (at-loop .at) (at-loop .n) ((at-start .pre .0) .tokens) (at-loop-test .taken) (at-loop .inv .1 ((at-start .pre .0) .tokens) ((at-start .pre .0) .entered)) in let l = (at-start .pre .0) .short in let g = (at-loop .inv .1 ((at-start .pre .0) .tokens) ((at-start .pre .0) .entered)) .few in let r = at-start .pre .1 in omega (arith, c .token-size .ensures)
 
--- src/lib.rt:100:5
 loop-less : tie.Need-loop-less Inv-loop μ-loop
-loop-less c = let s = alts.size-least (c .before .before .before .before .before .args .ws .now) (c .before .before .loop .at) in let f = law.marked-fits (c .before .before .before .before .before .args .ws .now) (c .before .before .before .before .before .args .starts .now) (c .before .before .loop .starts) (c .before .before .loop .at) (c .before .before .loop .n) ((c .before .before .before .before .before .pre .0) .tokens) (c .before .loop-test .taken) (c .before .before .loop .inv .1 ((c .before .before .before .before .before .pre .0) .tokens) ((c .before .before .before .before .before .pre .0) .entered)) in let l = (c .before .before .before .before .before .pre .0) .short in let g = (c .before .before .loop .inv .1 ((c .before .before .before .before .before .pre .0) .tokens) ((c .before .before .before .before .before .pre .0) .entered)) .few in let r = c .before .before .before .before .before .pre .1 in omega (arith, c .token-size .ensures)
+loop-less c =
+    let at-loop-test = c .before .loop-test in
+    let at-loop = c .before .before .loop in
+    let at-start = c .before .before .before .before .before in
+    let s = alts.size-least (at-start .args .ws .now) (at-loop .at) in let f = law.marked-fits (at-start .args .ws .now) (at-start .args .starts .now) (at-loop .starts) (at-loop .at) (at-loop .n) ((at-start .pre .0) .tokens) (at-loop-test .taken) (at-loop .inv .1 ((at-start .pre .0) .tokens) ((at-start .pre .0) .entered)) in let l = (at-start .pre .0) .short in let g = (at-loop .inv .1 ((at-start .pre .0) .tokens) ((at-start .pre .0) .entered)) .few in let r = at-start .pre .1 in omega (arith, c .token-size .ensures)
 
--- src/lib.rt:100:5
 loop-again : tie.Need-loop-again Inv-loop μ-loop
-loop-again c = let s = alts.size-least (c .before .before .before .before .before .args .ws .now) (c .before .before .loop .at) in let f = law.marked-fits (c .before .before .before .before .before .args .ws .now) (c .before .before .before .before .before .args .starts .now) (c .before .before .loop .starts) (c .before .before .loop .at) (c .before .before .loop .n) ((c .before .before .before .before .before .pre .0) .tokens) (c .before .loop-test .taken) (c .before .before .loop .inv .1 ((c .before .before .before .before .before .pre .0) .tokens) ((c .before .before .before .before .before .pre .0) .entered)) in let l = (c .before .before .before .before .before .pre .0) .short in let g = (c .before .before .loop .inv .1 ((c .before .before .before .before .before .pre .0) .tokens) ((c .before .before .before .before .before .pre .0) .entered)) .few in let r = c .before .before .before .before .before .pre .1 in (length-set (c .before .before .loop .starts) (c .before .before .loop .n) _ ∙ c .before .before .loop .inv .0, λ ts e. subst (λ (k : ℕ). law.Marked (c .before .before .before .before .before .args .ws .now) (c .before .before .before .before .before .args .starts .now) (set (c .before .before .loop .starts) (c .before .before .loop .n) (c .before .before .loop .at)) ((c .before .before .loop .at) + k) ((c .before .before .loop .n) + 1) ts) (sym (c .token-size .ensures)) (law.marked-step (c .before .before .before .before .before .args .ws .now) (c .before .before .before .before .before .args .starts .now) (c .before .before .loop .starts) (c .before .before .loop .at) (c .before .before .loop .n) ts (c .before .loop-test .taken) (omega arith) (c .before .before .loop .inv .1 ts e)))
+loop-again c =
+    let at-loop-test = c .before .loop-test in
+    let at-loop = c .before .before .loop in
+    let at-start = c .before .before .before .before .before in
+    let s = alts.size-least (at-start .args .ws .now) (at-loop .at) in let f = law.marked-fits (at-start .args .ws .now) (at-start .args .starts .now) (at-loop .starts) (at-loop .at) (at-loop .n) ((at-start .pre .0) .tokens) (at-loop-test .taken) (at-loop .inv .1 ((at-start .pre .0) .tokens) ((at-start .pre .0) .entered)) in let l = (at-start .pre .0) .short in let g = (at-loop .inv .1 ((at-start .pre .0) .tokens) ((at-start .pre .0) .entered)) .few in let r = at-start .pre .1 in (length-set (at-loop .starts) (at-loop .n) _ ∙ at-loop .inv .0, λ ts e. subst (λ (k : ℕ). law.Marked (at-start .args .ws .now) (at-start .args .starts .now) (set (at-loop .starts) (at-loop .n) (at-loop .at)) ((at-loop .at) + k) ((at-loop .n) + 1) ts) (sym (c .token-size .ensures)) (law.marked-step (at-start .args .ws .now) (at-start .args .starts .now) (at-loop .starts) (at-loop .at) (at-loop .n) ts (at-loop-test .taken) (omega arith) (at-loop .inv .1 ts e)))
 
--- src/lib.rt:93:1
 same-length : tie.Need-same-length Inv-loop μ-loop
-same-length c = c .before .loop .inv .0
+same-length c =
+    let at-loop = c .before .loop in
+    at-loop .inv .0
 
--- src/lib.rt:93:1
 returns : tie.Need-returns Inv-loop μ-loop
-returns c = λ ts e. law.marked-end (c .before .before .before .before .args .ws .now) (c .before .before .before .before .args .starts .now) (c .before .loop .starts) (c .before .loop .at) (c .before .loop .n) ts (c .loop-test .left) (c .before .loop .inv .1 ts e)
+returns c =
+    let at-loop = c .before .loop in
+    let at-start = c .before .before .before .before in
+    λ ts e. law.marked-end (at-start .args .ws .now) (at-start .args .starts .now) (at-loop .starts) (at-loop .at) (at-loop .n) ts (c .loop-test .left) (at-loop .inv .1 ts e)
 
 pub find-starts-spec : {M : Type 1} → statement M
 find-starts-spec =

@@ -3,12 +3,10 @@ use borrow.Author.Tests.{ne-eqb}
 use Rattle.compiler.proofs.jump_near.Statement.{statement}
 use Rattle.compiler.proofs.jump_near.Tie as tie
 
--- src/lib.rt:17:9
 returns : tie.Need-returns
 unfolding jumpNear
 returns c = rw (c .if1 .taken)
 
--- src/lib.rt:13:1
 returns-2 : tie.Need-returns-2
 unfolding jumpNear
 returns-2 c = rw (ne-eqb _ _ (c .if1 .left))

@@ -15,57 +15,55 @@ Inv-loop ws rest₀ rest = (length rest ≤ length ws) × (plainEntries ws ≡ p
 abbrev μ-loop : tie.MeasureT-loop
 μ-loop ws rest₀ rest = length rest
 
--- src/lib.rt:40:5
 loop-holds : tie.Need-loop-holds Inv-loop μ-loop
 loop-holds c = (omega arith, refl)
 
--- src/lib.rt:41:24
 shared-slice-read-plain-entry : tie.Need-shared-slice-read-plain-entry Inv-loop μ-loop
 shared-slice-read-plain-entry c = search needs
 
--- src/lib.rt:41:33
 shared-slice-read-plain-entry-2 : tie.Need-shared-slice-read-plain-entry-2 Inv-loop μ-loop
 shared-slice-read-plain-entry-2 c = search needs
 
--- src/lib.rt:41:42
 shared-slice-read-plain-entry-3 : tie.Need-shared-slice-read-plain-entry-3 Inv-loop μ-loop
 shared-slice-read-plain-entry-3 c = search needs
 
--- src/lib.rt:41:51
 shared-slice-read-plain-entry-4 : tie.Need-shared-slice-read-plain-entry-4 Inv-loop μ-loop
 shared-slice-read-plain-entry-4 c = search needs
 
--- src/lib.rt:41:12
 plain-entry-requires : tie.Need-plain-entry-requires Inv-loop μ-loop
 plain-entry-requires c κs = search needs
 
--- src/lib.rt:42:13
 returns : tie.Need-returns Inv-loop μ-loop
-returns c = sym (c .before .before .before .before .before .before .before .loop .inv .1 ∙ law.plain-step (c .before .before .before .before .before .before .before .loop .rest .now) (c .before .before .before .before .before .before .loop-test .taken) ∙ ap (λ (t : Bool). t && (plainEntries (take (length (c .before .before .before .before .before .before .before .loop .rest .now) - 4) (drop 4 (c .before .before .before .before .before .before .before .loop .rest .now))))) (sym (sym (c .if1 .left) ∙ c .before .plain-entry .ensures)))
+returns c =
+    let at-plain-entry = c .before .plain-entry in
+    let at-loop-test = c .before .before .before .before .before .before .loop-test in
+    let at-loop = c .before .before .before .before .before .before .before .loop in
+    sym (at-loop .inv .1 ∙ law.plain-step (at-loop .rest .now) (at-loop-test .taken) ∙ ap (λ (t : Bool). t && (plainEntries (take (length (at-loop .rest .now) - 4) (drop 4 (at-loop .rest .now))))) (sym (sym (c .if1 .left) ∙ at-plain-entry .ensures)))
 
--- src/lib.rt:44:16
 sub-rest : tie.Need-sub-rest Inv-loop μ-loop
 sub-rest c = search needs
 
--- src/lib.rt:44:16
 part-rest-start : tie.Need-part-rest-start Inv-loop μ-loop
 part-rest-start c = search needs
 
--- src/lib.rt:44:16
 part-rest-end : tie.Need-part-rest-end Inv-loop μ-loop
 part-rest-end c = search needs
 
--- src/lib.rt:40:5
 loop-less : tie.Need-loop-less Inv-loop μ-loop
 loop-less c = simp (length-take, length-drop) (omega arith)
 
--- src/lib.rt:40:5
 loop-again : tie.Need-loop-again Inv-loop μ-loop
-loop-again c = (simp (length-take, length-drop) (omega arith), c .before .before .before .before .before .before .before .before .loop .inv .1 ∙ law.plain-step (c .before .before .before .before .before .before .before .before .loop .rest .now) (c .before .before .before .before .before .before .before .loop-test .taken) ∙ ap (λ (t : Bool). t && (plainEntries (take (length (c .before .before .before .before .before .before .before .before .loop .rest .now) - 4) (drop 4 (c .before .before .before .before .before .before .before .before .loop .rest .now))))) (sym (sym (c .before .if1 .taken) ∙ c .before .before .plain-entry .ensures)))
+loop-again c =
+    let at-if1 = c .before .if1 in
+    let at-plain-entry = c .before .before .plain-entry in
+    let at-loop-test = c .before .before .before .before .before .before .before .loop-test in
+    let at-loop = c .before .before .before .before .before .before .before .before .loop in
+    (simp (length-take, length-drop) (omega arith), at-loop .inv .1 ∙ law.plain-step (at-loop .rest .now) (at-loop-test .taken) ∙ ap (λ (t : Bool). t && (plainEntries (take (length (at-loop .rest .now) - 4) (drop 4 (at-loop .rest .now))))) (sym (sym (at-if1 .taken) ∙ at-plain-entry .ensures)))
 
--- src/lib.rt:36:1
 returns-2 : tie.Need-returns-2 Inv-loop μ-loop
-returns-2 c = sym (c .before .loop .inv .1 ∙ law.plain-end (c .before .loop .rest .now) (c .loop-test .left))
+returns-2 c =
+    let at-loop = c .before .loop in
+    sym (at-loop .inv .1 ∙ law.plain-end (at-loop .rest .now) (c .loop-test .left))
 
 pub plain-entries-spec : {M : Type 1} → statement M
 plain-entries-spec =

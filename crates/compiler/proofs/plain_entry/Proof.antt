@@ -5,21 +5,23 @@ use borrow.Author.Needs.{needs}
 use Rattle.compiler.proofs.plain_entry.Statement.{statement}
 use Rattle.compiler.proofs.plain_entry.Tie as tie
 
--- src/lib.rt:27:12
 jump-near-requires : tie.Need-jump-near-requires
 jump-near-requires c κs = search needs
 
--- src/lib.rt:28:13
 returns : tie.Need-returns
 unfolding plainEntry
-returns c = rw (c .before .before .if1 .taken, sym (sym (c .if2 .taken) ∙ c .before .jump-near .ensures))
+returns c =
+    let at-jump-near = c .before .jump-near in
+    let at-if1 = c .before .before .if1 in
+    rw (at-if1 .taken, sym (sym (c .if2 .taken) ∙ at-jump-near .ensures))
 
--- src/lib.rt:30:9
 returns-2 : tie.Need-returns-2
 unfolding plainEntry
-returns-2 c = rw (c .before .before .if1 .taken, sym (sym (c .if2 .left) ∙ c .before .jump-near .ensures))
+returns-2 c =
+    let at-jump-near = c .before .jump-near in
+    let at-if1 = c .before .before .if1 in
+    rw (at-if1 .taken, sym (sym (c .if2 .left) ∙ at-jump-near .ensures))
 
--- src/lib.rt:23:1
 returns-3 : tie.Need-returns-3
 unfolding plainEntry
 returns-3 c = rw (ne-eqb _ _ (c .if1 .left))

@@ -15,37 +15,60 @@ Inv-loop ws at₀ at = (ts : Tokens) → ws ≡ entries ts → law.Walked ws at 
 abbrev μ-loop : tie.MeasureT-loop
 μ-loop ws at₀ at = length ws - at
 
--- src/lib.rt:83:5
 loop-holds : tie.Need-loop-holds Inv-loop μ-loop
-loop-holds c = λ ts e. law.walk-start (c .before .args .ws .now) ts e
+loop-holds c =
+    let at-start = c .before in
+    λ ts e. law.walk-start (at-start .args .ws .now) ts e
 
--- src/lib.rt:84:12
 simple-at-requires : tie.Need-simple-at-requires Inv-loop μ-loop
-simple-at-requires c κs = (law.walk-step (c .before .before .before .args .ws .now) (c .before .loop .at) ((c .before .before .before .pre) .tokens) (c .loop-test .taken) (c .before .loop .inv ((c .before .before .before .pre) .tokens) ((c .before .before .before .pre) .entered))) .fits
+simple-at-requires c κs =
+    let at-loop = c .before .loop in
+    let at-start = c .before .before .before in
+    (law.walk-step (at-start .args .ws .now) (at-loop .at) ((at-start .pre) .tokens) (c .loop-test .taken) (at-loop .inv ((at-start .pre) .tokens) ((at-start .pre) .entered))) .fits
 
--- src/lib.rt:85:13
 returns : tie.Need-returns Inv-loop μ-loop
-returns c = λ ts e. sym (law.walk-step (c .before .before .before .before .before .args .ws .now) (c .before .before .before .loop .at) ts (c .before .before .loop-test .taken) (c .before .before .before .loop .inv ts e) .fails (sym (c .before .simple-at .ensures) ∙ c .if1 .left))
+returns c =
+    let at-simple-at = c .before .simple-at in
+    let at-loop-test = c .before .before .loop-test in
+    let at-loop = c .before .before .before .loop in
+    let at-start = c .before .before .before .before .before in
+    λ ts e. sym (law.walk-step (at-start .args .ws .now) (at-loop .at) ts (at-loop-test .taken) (at-loop .inv ts e) .fails (sym (at-simple-at .ensures) ∙ c .if1 .left))
 
--- src/lib.rt:87:19
 token-size-requires : tie.Need-token-size-requires Inv-loop μ-loop
-token-size-requires c κs = let s = alts.size-least (c .before .before .before .before .before .args .ws .now) (c .before .before .before .loop .at) in let f = (law.walk-step (c .before .before .before .before .before .args .ws .now) (c .before .before .before .loop .at) ((c .before .before .before .before .before .pre) .tokens) (c .before .before .loop-test .taken) (c .before .before .before .loop .inv ((c .before .before .before .before .before .pre) .tokens) ((c .before .before .before .before .before .pre) .entered))) .fits in let l = (c .before .before .before .before .before .pre) .short in omega arith
+token-size-requires c κs =
+    let at-loop-test = c .before .before .loop-test in
+    let at-loop = c .before .before .before .loop in
+    let at-start = c .before .before .before .before .before in
+    let s = alts.size-least (at-start .args .ws .now) (at-loop .at) in let f = (law.walk-step (at-start .args .ws .now) (at-loop .at) ((at-start .pre) .tokens) (at-loop-test .taken) (at-loop .inv ((at-start .pre) .tokens) ((at-start .pre) .entered))) .fits in let l = (at-start .pre) .short in omega arith
 
--- src/lib.rt:87:14
 add-at : tie.Need-add-at Inv-loop μ-loop
-add-at c = let s = alts.size-least (c .before .before .before .before .before .before .args .ws .now) (c .before .before .before .before .loop .at) in let f = (law.walk-step (c .before .before .before .before .before .before .args .ws .now) (c .before .before .before .before .loop .at) ((c .before .before .before .before .before .before .pre) .tokens) (c .before .before .before .loop-test .taken) (c .before .before .before .before .loop .inv ((c .before .before .before .before .before .before .pre) .tokens) ((c .before .before .before .before .before .before .pre) .entered))) .fits in let l = (c .before .before .before .before .before .before .pre) .short in omega (arith, c .token-size .ensures)
+add-at c =
+    let at-loop-test = c .before .before .before .loop-test in
+    let at-loop = c .before .before .before .before .loop in
+    let at-start = c .before .before .before .before .before .before in
+    let s = alts.size-least (at-start .args .ws .now) (at-loop .at) in let f = (law.walk-step (at-start .args .ws .now) (at-loop .at) ((at-start .pre) .tokens) (at-loop-test .taken) (at-loop .inv ((at-start .pre) .tokens) ((at-start .pre) .entered))) .fits in let l = (at-start .pre) .short in omega (arith, c .token-size .ensures)
 
--- src/lib.rt:83:5
 loop-less : tie.Need-loop-less Inv-loop μ-loop
-loop-less c = let s = alts.size-least (c .before .before .before .before .before .before .args .ws .now) (c .before .before .before .before .loop .at) in let f = (law.walk-step (c .before .before .before .before .before .before .args .ws .now) (c .before .before .before .before .loop .at) ((c .before .before .before .before .before .before .pre) .tokens) (c .before .before .before .loop-test .taken) (c .before .before .before .before .loop .inv ((c .before .before .before .before .before .before .pre) .tokens) ((c .before .before .before .before .before .before .pre) .entered))) .fits in let l = (c .before .before .before .before .before .before .pre) .short in omega (arith, c .token-size .ensures)
+loop-less c =
+    let at-loop-test = c .before .before .before .loop-test in
+    let at-loop = c .before .before .before .before .loop in
+    let at-start = c .before .before .before .before .before .before in
+    let s = alts.size-least (at-start .args .ws .now) (at-loop .at) in let f = (law.walk-step (at-start .args .ws .now) (at-loop .at) ((at-start .pre) .tokens) (at-loop-test .taken) (at-loop .inv ((at-start .pre) .tokens) ((at-start .pre) .entered))) .fits in let l = (at-start .pre) .short in omega (arith, c .token-size .ensures)
 
--- src/lib.rt:83:5
 loop-again : tie.Need-loop-again Inv-loop μ-loop
-loop-again c = λ ts e. subst (λ (n : ℕ). law.Walked (c .before .before .before .before .before .before .args .ws .now) ((c .before .before .before .before .loop .at) + n) ts) (sym (c .token-size .ensures)) (law.walk-step (c .before .before .before .before .before .before .args .ws .now) (c .before .before .before .before .loop .at) ts (c .before .before .before .loop-test .taken) (c .before .before .before .before .loop .inv ts e) .passes (sym (c .before .before .simple-at .ensures) ∙ c .before .if1 .taken))
+loop-again c =
+    let at-if1 = c .before .if1 in
+    let at-simple-at = c .before .before .simple-at in
+    let at-loop-test = c .before .before .before .loop-test in
+    let at-loop = c .before .before .before .before .loop in
+    let at-start = c .before .before .before .before .before .before in
+    λ ts e. subst (λ (n : ℕ). law.Walked (at-start .args .ws .now) ((at-loop .at) + n) ts) (sym (c .token-size .ensures)) (law.walk-step (at-start .args .ws .now) (at-loop .at) ts (at-loop-test .taken) (at-loop .inv ts e) .passes (sym (at-simple-at .ensures) ∙ at-if1 .taken))
 
--- src/lib.rt:78:1
 returns-2 : tie.Need-returns-2 Inv-loop μ-loop
-returns-2 c = λ ts e. sym (law.walk-end (c .before .before .before .args .ws .now) (c .before .loop .at) ts (c .loop-test .left) (c .before .loop .inv ts e))
+returns-2 c =
+    let at-loop = c .before .loop in
+    let at-start = c .before .before .before in
+    λ ts e. sym (law.walk-end (at-start .args .ws .now) (at-loop .at) ts (c .loop-test .left) (at-loop .inv ts e))
 
 pub simple-tokens-spec : {M : Type 1} → statement M
 simple-tokens-spec =

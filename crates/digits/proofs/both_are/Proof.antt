@@ -5,10 +5,14 @@ use Rattle.digits.proofs.both_are.Statement.{statement}
 use Rattle.digits.proofs.both_are.Tie as tie
 
 returns : tie.Need-returns
-returns c = rw (ne-eqb (c .before .args .a) (c .before .args .v) (c .if1 .taken))
+returns c =
+    let at-start = c .before in
+    rw (ne-eqb (at-start .args .a) (at-start .args .v) (c .if1 .taken))
 
 returns-2 : tie.Need-returns-2
-returns-2 c = rw (eq-eqb (c .before .args .a) (c .before .args .v) (c .if1 .left))
+returns-2 c =
+    let at-start = c .before in
+    rw (eq-eqb (at-start .args .a) (at-start .args .v) (c .if1 .left))
 
 pub both-are-spec : {M : Type 1} → statement M
 both-are-spec = tie.close (tie.spec returns returns-2)

@@ -25,10 +25,19 @@ enum-told : tie.Need-enum-told
 enum-told c = search needs
 
 returns : tie.Need-returns
-returns c = sym (byte-none (c .before .before .before .before .before .args .text .now) (c .before .before .before .before .before .args .at) (ap digit (sym (c .before .before .before .peek .ensures)) ∙ sym (c .before .before .hex-digit .ensures) ∙ ap valueOf (c .enum-told .given .1)))
+returns c =
+    let at-hex-digit = c .before .before .hex-digit in
+    let at-peek = c .before .before .before .peek in
+    let at-start = c .before .before .before .before .before in
+    sym (byte-none (at-start .args .text .now) (at-start .args .at) (ap digit (sym (at-peek .ensures)) ∙ sym (at-hex-digit .ensures) ∙ ap valueOf (c .enum-told .given .1)))
 
 add-peek : tie.Need-add-peek
-add-peek c = omega (arith, here-in (c .before .before .before .before .before .before .args .text .now) (c .before .before .before .before .before .before .args .at) ((digit-small (getD (c .before .before .before .before .before .before .args .text .now) (c .before .before .before .before .before .before .args .at) 0) (c .before .high .given .0 .0) (ap digit (sym (c .before .before .before .before .peek .ensures)) ∙ sym (c .before .before .before .hex-digit .ensures) ∙ ap valueOf (c .before .high .given .1))) .1))
+add-peek c =
+    let at-high = c .before .high in
+    let at-hex-digit = c .before .before .before .hex-digit in
+    let at-peek = c .before .before .before .before .peek in
+    let at-start = c .before .before .before .before .before .before in
+    omega (arith, here-in (at-start .args .text .now) (at-start .args .at) ((digit-small (getD (at-start .args .text .now) (at-start .args .at) 0) (at-high .given .0 .0) (ap digit (sym (at-peek .ensures)) ∙ sym (at-hex-digit .ensures) ∙ ap valueOf (at-high .given .1))) .1))
 
 peek-requires-2 : tie.Need-peek-requires-2
 peek-requires-2 c κs = search needs
@@ -43,25 +52,63 @@ enum-told-2 : tie.Need-enum-told-2
 enum-told-2 c = search needs
 
 returns-2 : tie.Need-returns-2
-returns-2 c = sym (byte-half (c .before .before .before .before .before .before .before .before .before .before .args .text .now) (c .before .before .before .before .before .before .before .before .before .before .args .at) (ap digit (sym (c .before .before .before .before .before .before .before .before .peek .ensures)) ∙ sym (c .before .before .before .before .before .before .before .hex-digit .ensures) ∙ ap valueOf (c .before .before .before .before .before .high .given .1)) (ap digit (sym (c .before .before .before .peek2 .ensures)) ∙ sym (c .before .before .hex-digit2 .ensures) ∙ ap valueOf (c .enum-told2 .given .1)))
+returns-2 c =
+    let at-hex-digit2 = c .before .before .hex-digit2 in
+    let at-peek2 = c .before .before .before .peek2 in
+    let at-high = c .before .before .before .before .before .high in
+    let at-hex-digit = c .before .before .before .before .before .before .before .hex-digit in
+    let at-peek = c .before .before .before .before .before .before .before .before .peek in
+    let at-start = c .before .before .before .before .before .before .before .before .before .before in
+    sym (byte-half (at-start .args .text .now) (at-start .args .at) (ap digit (sym (at-peek .ensures)) ∙ sym (at-hex-digit .ensures) ∙ ap valueOf (at-high .given .1)) (ap digit (sym (at-peek2 .ensures)) ∙ sym (at-hex-digit2 .ensures) ∙ ap valueOf (c .enum-told2 .given .1)))
 
 mul-t6 : tie.Need-mul-t6
-mul-t6 c = omega (arith, digit-small (getD (c .before .before .before .before .before .before .before .before .before .before .before .args .text .now) (c .before .before .before .before .before .before .before .before .before .before .before .args .at) 0) (c .before .before .before .before .before .before .high .given .0 .0) (ap digit (sym (c .before .before .before .before .before .before .before .before .before .peek .ensures)) ∙ sym (c .before .before .before .before .before .before .before .before .hex-digit .ensures) ∙ ap valueOf (c .before .before .before .before .before .before .high .given .1)))
+mul-t6 c =
+    let at-high = c .before .before .before .before .before .before .high in
+    let at-hex-digit = c .before .before .before .before .before .before .before .before .hex-digit in
+    let at-peek = c .before .before .before .before .before .before .before .before .before .peek in
+    let at-start = c .before .before .before .before .before .before .before .before .before .before .before in
+    omega (arith, digit-small (getD (at-start .args .text .now) (at-start .args .at) 0) (at-high .given .0 .0) (ap digit (sym (at-peek .ensures)) ∙ sym (at-hex-digit .ensures) ∙ ap valueOf (at-high .given .1)))
 
 add-t9 : tie.Need-add-t9
-add-t9 c = omega (arith, digit-small (getD (c .before .before .before .before .before .before .before .before .before .before .before .args .text .now) (c .before .before .before .before .before .before .before .before .before .before .before .args .at) 0) (c .before .before .before .before .before .before .high .given .0 .0) (ap digit (sym (c .before .before .before .before .before .before .before .before .before .peek .ensures)) ∙ sym (c .before .before .before .before .before .before .before .before .hex-digit .ensures) ∙ ap valueOf (c .before .before .before .before .before .before .high .given .1)), digit-small (getD (c .before .before .before .before .before .before .before .before .before .before .before .args .text .now) ((c .before .before .before .before .before .before .before .before .before .before .before .args .at) + 1) 0) (c .before .low .given .0 .0) (ap digit (sym (c .before .before .before .before .peek2 .ensures)) ∙ sym (c .before .before .before .hex-digit2 .ensures) ∙ ap valueOf (c .before .low .given .1)))
+add-t9 c =
+    let at-low = c .before .low in
+    let at-hex-digit2 = c .before .before .before .hex-digit2 in
+    let at-peek2 = c .before .before .before .before .peek2 in
+    let at-high = c .before .before .before .before .before .before .high in
+    let at-hex-digit = c .before .before .before .before .before .before .before .before .hex-digit in
+    let at-peek = c .before .before .before .before .before .before .before .before .before .peek in
+    let at-start = c .before .before .before .before .before .before .before .before .before .before .before in
+    omega (arith, digit-small (getD (at-start .args .text .now) (at-start .args .at) 0) (at-high .given .0 .0) (ap digit (sym (at-peek .ensures)) ∙ sym (at-hex-digit .ensures) ∙ ap valueOf (at-high .given .1)), digit-small (getD (at-start .args .text .now) ((at-start .args .at) + 1) 0) (at-low .given .0 .0) (ap digit (sym (at-peek2 .ensures)) ∙ sym (at-hex-digit2 .ensures) ∙ ap valueOf (at-low .given .1)))
 
 add-t8 : tie.Need-add-t8
-add-t8 c = omega (arith, here-in (c .before .before .before .before .before .before .before .before .before .before .before .args .text .now) ((c .before .before .before .before .before .before .before .before .before .before .before .args .at) + 1) ((digit-small (getD (c .before .before .before .before .before .before .before .before .before .before .before .args .text .now) ((c .before .before .before .before .before .before .before .before .before .before .before .args .at) + 1) 0) (c .before .low .given .0 .0) (ap digit (sym (c .before .before .before .before .peek2 .ensures)) ∙ sym (c .before .before .before .hex-digit2 .ensures) ∙ ap valueOf (c .before .low .given .1))) .1))
+add-t8 c =
+    let at-low = c .before .low in
+    let at-hex-digit2 = c .before .before .before .hex-digit2 in
+    let at-peek2 = c .before .before .before .before .peek2 in
+    let at-start = c .before .before .before .before .before .before .before .before .before .before .before in
+    omega (arith, here-in (at-start .args .text .now) ((at-start .args .at) + 1) ((digit-small (getD (at-start .args .text .now) ((at-start .args .at) + 1) 0) (at-low .given .0 .0) (ap digit (sym (at-peek2 .ensures)) ∙ sym (at-hex-digit2 .ensures) ∙ ap valueOf (at-low .given .1))) .1))
 
 add-skip-blanks : tie.Need-add-skip-blanks
-add-skip-blanks c = omega (arith, here-in (c .before .before .before .before .before .before .before .before .before .before .before .args .text .now) ((c .before .before .before .before .before .before .before .before .before .before .before .args .at) + 1) ((digit-small (getD (c .before .before .before .before .before .before .before .before .before .before .before .args .text .now) ((c .before .before .before .before .before .before .before .before .before .before .before .args .at) + 1) 0) (c .before .low .given .0 .0) (ap digit (sym (c .before .before .before .before .peek2 .ensures)) ∙ sym (c .before .before .before .hex-digit2 .ensures) ∙ ap valueOf (c .before .low .given .1))) .1))
+add-skip-blanks c =
+    let at-low = c .before .low in
+    let at-hex-digit2 = c .before .before .before .hex-digit2 in
+    let at-peek2 = c .before .before .before .before .peek2 in
+    let at-start = c .before .before .before .before .before .before .before .before .before .before .before in
+    omega (arith, here-in (at-start .args .text .now) ((at-start .args .at) + 1) ((digit-small (getD (at-start .args .text .now) ((at-start .args .at) + 1) 0) (at-low .given .0 .0) (ap digit (sym (at-peek2 .ensures)) ∙ sym (at-hex-digit2 .ensures) ∙ ap valueOf (at-low .given .1))) .1))
 
 skip-blanks-requires : tie.Need-skip-blanks-requires
 skip-blanks-requires c κs = search needs
 
 returns-3 : tie.Need-returns-3
-returns-3 c = ap (λ (e : ℕ). found (whole (16 * (c .before .before .before .before .before .before .before .high .given .0 .0) + c .before .before .low .given .0 .0)) ((c .before .before .before .before .before .before .before .before .before .before .before .before .args .at) + 2) e) (c .skip-blanks .ensures) ∙ sym (byte-both (c .before .before .before .before .before .before .before .before .before .before .before .before .args .text .now) (c .before .before .before .before .before .before .before .before .before .before .before .before .args .at) (ap digit (sym (c .before .before .before .before .before .before .before .before .before .before .peek .ensures)) ∙ sym (c .before .before .before .before .before .before .before .before .before .hex-digit .ensures) ∙ ap valueOf (c .before .before .before .before .before .before .before .high .given .1)) (ap digit (sym (c .before .before .before .before .before .peek2 .ensures)) ∙ sym (c .before .before .before .before .hex-digit2 .ensures) ∙ ap valueOf (c .before .before .low .given .1)))
+returns-3 c =
+    let at-low = c .before .before .low in
+    let at-hex-digit2 = c .before .before .before .before .hex-digit2 in
+    let at-peek2 = c .before .before .before .before .before .peek2 in
+    let at-high = c .before .before .before .before .before .before .before .high in
+    let at-hex-digit = c .before .before .before .before .before .before .before .before .before .hex-digit in
+    let at-peek = c .before .before .before .before .before .before .before .before .before .before .peek in
+    let at-start = c .before .before .before .before .before .before .before .before .before .before .before .before in
+    ap (λ (e : ℕ). found (whole (16 * (at-high .given .0 .0) + at-low .given .0 .0)) ((at-start .args .at) + 2) e) (c .skip-blanks .ensures) ∙ sym (byte-both (at-start .args .text .now) (at-start .args .at) (ap digit (sym (at-peek .ensures)) ∙ sym (at-hex-digit .ensures) ∙ ap valueOf (at-high .given .1)) (ap digit (sym (at-peek2 .ensures)) ∙ sym (at-hex-digit2 .ensures) ∙ ap valueOf (at-low .given .1)))
 
 pub byte-spec : {M : Type 1} → statement M
 byte-spec =

@@ -24,15 +24,27 @@ jump-requires c κs = search needs
 
 returns : tie.Need-returns
 unfolding plainly _else_
-returns c = sym (byte-else (c .before .before .before .before .before .args .text .now) (c .before .before .before .before .before .args .at) (sym (c .before .before .before .hex-byte .ensures) ∙ ap spelled (c .before .h .given .1)) (jumped (c .before .before .before .before .before .args .inside) (c .before .before .before .before .before .args .at) (rangeAt (c .before .before .before .before .before .args .text .now) (c .before .before .before .before .before .args .at))))
+returns c =
+    let at-h = c .before .h in
+    let at-hex-byte = c .before .before .before .hex-byte in
+    let at-start = c .before .before .before .before .before in
+    sym (byte-else (at-start .args .text .now) (at-start .args .at) (sym (at-hex-byte .ensures) ∙ ap spelled (at-h .given .1)) (jumped (at-start .args .inside) (at-start .args .at) (rangeAt (at-start .args .text .now) (at-start .args .at))))
 
 returns-2 : tie.Need-returns-2
 unfolding plainly _else_
-returns-2 c = sym (byte-else (c .before .before .before .before .before .args .text .now) (c .before .before .before .before .before .args .at) (sym (c .before .before .before .hex-byte .ensures) ∙ ap spelled (c .before .h2 .given .1)) (jumped (c .before .before .before .before .before .args .inside) (c .before .before .before .before .before .args .at) (rangeAt (c .before .before .before .before .before .args .text .now) (c .before .before .before .before .before .args .at))))
+returns-2 c =
+    let at-h2 = c .before .h2 in
+    let at-hex-byte = c .before .before .before .hex-byte in
+    let at-start = c .before .before .before .before .before in
+    sym (byte-else (at-start .args .text .now) (at-start .args .at) (sym (at-hex-byte .ensures) ∙ ap spelled (at-h2 .given .1)) (jumped (at-start .args .inside) (at-start .args .at) (rangeAt (at-start .args .text .now) (at-start .args .at))))
 
 returns-3 : tie.Need-returns-3
 unfolding plainly _else_
-returns-3 c = c .jump .ensures ∙ sym (byte-else (c .before .before .before .before .before .args .text .now) (c .before .before .before .before .before .args .at) (sym (c .before .before .before .hex-byte .ensures) ∙ ap spelled (c .before .enum-told .given .1)) (jumped (c .before .before .before .before .before .args .inside) (c .before .before .before .before .before .args .at) (rangeAt (c .before .before .before .before .before .args .text .now) (c .before .before .before .before .before .args .at))))
+returns-3 c =
+    let at-enum-told = c .before .enum-told in
+    let at-hex-byte = c .before .before .before .hex-byte in
+    let at-start = c .before .before .before .before .before in
+    c .jump .ensures ∙ sym (byte-else (at-start .args .text .now) (at-start .args .at) (sym (at-hex-byte .ensures) ∙ ap spelled (at-enum-told .given .1)) (jumped (at-start .args .inside) (at-start .args .at) (rangeAt (at-start .args .text .now) (at-start .args .at))))
 
 pub byte-or-jump-spec : {M : Type 1} → statement M
 byte-or-jump-spec =

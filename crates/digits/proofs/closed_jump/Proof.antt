@@ -13,16 +13,26 @@ peek-requires : tie.Need-peek-requires
 peek-requires c κs = search needs
 
 returns : tie.Need-returns
-returns c = sym (closed-else (c .before .before .before .args .text .now) (c .before .before .before .args .at) (c .before .before .before .args .from) (upperOf (c .before .before .before .args .to)) (c .before .before .before .args .x) (λ z. c .if1 .taken (c .before .peek .ensures ∙ z)))
+returns c =
+    let at-peek = c .before .peek in
+    let at-start = c .before .before .before in
+    sym (closed-else (at-start .args .text .now) (at-start .args .at) (at-start .args .from) (upperOf (at-start .args .to)) (at-start .args .x) (λ z. c .if1 .taken (at-peek .ensures ∙ z)))
 
 add-checked-jump : tie.Need-add-checked-jump
-add-checked-jump c = omega (arith, here-at (c .before .before .before .args .text .now) (c .before .before .before .args .x) 93 (sym (c .before .peek .ensures) ∙ c .if1 .left) (omega arith))
+add-checked-jump c =
+    let at-peek = c .before .peek in
+    let at-start = c .before .before .before in
+    omega (arith, here-at (at-start .args .text .now) (at-start .args .x) 93 (sym (at-peek .ensures) ∙ c .if1 .left) (omega arith))
 
 checked-jump-requires : tie.Need-checked-jump-requires
 checked-jump-requires c κs = search needs
 
 returns-2 : tie.Need-returns-2
-returns-2 c = c .checked-jump .ensures ∙ sym (closed-at (c .before .before .before .before .args .text .now) (c .before .before .before .before .args .at) (c .before .before .before .before .args .from) (upperOf (c .before .before .before .before .args .to)) (c .before .before .before .before .args .x) (sym (c .before .before .peek .ensures) ∙ c .before .if1 .left))
+returns-2 c =
+    let at-if1 = c .before .if1 in
+    let at-peek = c .before .before .peek in
+    let at-start = c .before .before .before .before in
+    c .checked-jump .ensures ∙ sym (closed-at (at-start .args .text .now) (at-start .args .at) (at-start .args .from) (upperOf (at-start .args .to)) (at-start .args .x) (sym (at-peek .ensures) ∙ at-if1 .left))
 
 pub closed-jump-spec : {M : Type 1} → statement M
 closed-jump-spec =

@@ -22,13 +22,25 @@ enum-known-b-2 : tie.Need-enum-known-b-2
 enum-known-b-2 c = search needs
 
 returns : tie.Need-returns
-returns c = c .masked-byte .ensures ∙ sym (hex-masked (c .before .before .before .before .before .args .text .now) (c .before .before .before .before .before .args .at) (sym (c .before .before .before .byte .ensures) ∙ ap spelled (c .before .enum-told .given .1)))
+returns c =
+    let at-enum-told = c .before .enum-told in
+    let at-byte = c .before .before .before .byte in
+    let at-start = c .before .before .before .before .before in
+    c .masked-byte .ensures ∙ sym (hex-masked (at-start .args .text .now) (at-start .args .at) (sym (at-byte .ensures) ∙ ap spelled (at-enum-told .given .1)))
 
 returns-2 : tie.Need-returns-2
-returns-2 c = sym (hex-byte (c .before .before .before .before .before .args .text .now) (c .before .before .before .before .before .args .at) (sym (c .before .before .before .byte .ensures) ∙ ap spelled (c .before .b .given .1)))
+returns-2 c =
+    let at-b = c .before .b in
+    let at-byte = c .before .before .before .byte in
+    let at-start = c .before .before .before .before .before in
+    sym (hex-byte (at-start .args .text .now) (at-start .args .at) (sym (at-byte .ensures) ∙ ap spelled (at-b .given .1)))
 
 returns-3 : tie.Need-returns-3
-returns-3 c = sym (hex-byte (c .before .before .before .before .before .args .text .now) (c .before .before .before .before .before .args .at) (sym (c .before .before .before .byte .ensures) ∙ ap spelled (c .before .b2 .given .1)))
+returns-3 c =
+    let at-b2 = c .before .b2 in
+    let at-byte = c .before .before .before .byte in
+    let at-start = c .before .before .before .before .before in
+    sym (hex-byte (at-start .args .text .now) (at-start .args .at) (sym (at-byte .ensures) ∙ ap spelled (at-b2 .given .1)))
 
 pub hex-byte-spec : {M : Type 1} → statement M
 hex-byte-spec =

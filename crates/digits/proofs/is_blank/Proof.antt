@@ -19,7 +19,11 @@ returns-3 c = rw (c .if3 .taken)
 
 returns-4 : tie.Need-returns-4
 unfolding blank
-returns-4 c = simp (ne-eqb (c .before .before .before .args .c) 32 (c .before .before .if1 .left), ne-eqb (c .before .before .before .args .c) 9 (c .before .if2 .left), ne-eqb (c .before .before .before .args .c) 13 (c .if3 .left))
+returns-4 c =
+    let at-if2 = c .before .if2 in
+    let at-if1 = c .before .before .if1 in
+    let at-start = c .before .before .before in
+    simp (ne-eqb (at-start .args .c) 32 (at-if1 .left), ne-eqb (at-start .args .c) 9 (at-if2 .left), ne-eqb (at-start .args .c) 13 (c .if3 .left))
 
 pub is-blank-spec : {M : Type 1} → statement M
 is-blank-spec = tie.close (tie.spec returns returns-2 returns-3 returns-4)

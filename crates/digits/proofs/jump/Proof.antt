@@ -23,16 +23,32 @@ enum-told : tie.Need-enum-told
 enum-told c = search needs
 
 returns : tie.Need-returns
-returns c = sym (ap (jumped (c .before .before .before .before .before .before .before .before .args .inside) (c .before .before .before .before .before .before .before .before .args .at)) (sym (c .before .before .before .before .before .before .range .ensures) ∙ ap ranged (c .before .before .before .before .b .given .1) ∙ ap (λ (u : Upper). found (between (c .before .before .before .before .b .given .0 .0) (upperOf u)) (c .before .before .before .before .b .given .0 .1 .1 .0) (c .before .before .before .before .b .given .0 .1 .1 .1 .0)) (c .before .enum-told .given .1)) ∙ jumped-unbounded (c .before .before .before .before .before .before .before .before .args .at) (c .before .before .before .before .b .given .0 .0) (c .before .before .before .before .b .given .0 .1 .1 .0) (c .before .before .before .before .b .given .0 .1 .1 .1 .0) (c .before .before .before .before .before .before .before .before .args .inside) (c .if1 .taken))
+returns c =
+    let at-enum-told = c .before .enum-told in
+    let at-b = c .before .before .before .before .b in
+    let at-range = c .before .before .before .before .before .before .range in
+    let at-start = c .before .before .before .before .before .before .before .before in
+    sym (ap (jumped (at-start .args .inside) (at-start .args .at)) (sym (at-range .ensures) ∙ ap ranged (at-b .given .1) ∙ ap (λ (u : Upper). found (between (at-b .given .0 .0) (upperOf u)) (at-b .given .0 .1 .1 .0) (at-b .given .0 .1 .1 .1 .0)) (at-enum-told .given .1)) ∙ jumped-unbounded (at-start .args .at) (at-b .given .0 .0) (at-b .given .0 .1 .1 .0) (at-b .given .0 .1 .1 .1 .0) (at-start .args .inside) (c .if1 .taken))
 
 returns-2 : tie.Need-returns-2
-returns-2 c = sym (ap (jumped (c .before .before .before .before .before .before .before .before .args .inside) (c .before .before .before .before .before .before .before .before .args .at)) (sym (c .before .before .before .before .before .before .range .ensures) ∙ ap ranged (c .before .before .before .before .b .given .1) ∙ ap (λ (u : Upper). found (between (c .before .before .before .before .b .given .0 .0) (upperOf u)) (c .before .before .before .before .b .given .0 .1 .1 .0) (c .before .before .before .before .b .given .0 .1 .1 .1 .0)) (c .before .enum-told .given .1)) ∙ jumped-open (c .before .before .before .before .before .before .before .before .args .at) (c .before .before .before .before .b .given .0 .0) (c .before .before .before .before .b .given .0 .1 .1 .0) (c .before .before .before .before .b .given .0 .1 .1 .1 .0) (c .before .before .before .before .before .before .before .before .args .inside) (c .if1 .left))
+returns-2 c =
+    let at-enum-told = c .before .enum-told in
+    let at-b = c .before .before .before .before .b in
+    let at-range = c .before .before .before .before .before .before .range in
+    let at-start = c .before .before .before .before .before .before .before .before in
+    sym (ap (jumped (at-start .args .inside) (at-start .args .at)) (sym (at-range .ensures) ∙ ap ranged (at-b .given .1) ∙ ap (λ (u : Upper). found (between (at-b .given .0 .0) (upperOf u)) (at-b .given .0 .1 .1 .0) (at-b .given .0 .1 .1 .1 .0)) (at-enum-told .given .1)) ∙ jumped-open (at-start .args .at) (at-b .given .0 .0) (at-b .given .0 .1 .1 .0) (at-b .given .0 .1 .1 .1 .0) (at-start .args .inside) (c .if1 .left))
 
 inside-too-big-requires : tie.Need-inside-too-big-requires
 inside-too-big-requires c κs = search needs
 
 returns-3 : tie.Need-returns-3
-returns-3 c = sym (ap (jumped (c .before .before .before .before .before .before .before .before .before .before .args .inside) (c .before .before .before .before .before .before .before .before .before .before .args .at)) (sym (c .before .before .before .before .before .before .before .before .range .ensures) ∙ ap ranged (c .before .before .before .before .before .before .b .given .1) ∙ ap (λ (u : Upper). found (between (c .before .before .before .before .before .before .b .given .0 .0) (upperOf u)) (c .before .before .before .before .before .before .b .given .0 .1 .1 .0) (c .before .before .before .before .before .before .b .given .0 .1 .1 .1 .0)) (c .before .before .before .to .given .1)) ∙ jumped-big (c .before .before .before .before .before .before .before .before .before .before .args .at) (c .before .before .before .before .before .before .b .given .0 .0) (c .before .before .before .before .before .before .b .given .0 .1 .1 .0) (c .before .before .before .before .before .before .b .given .0 .1 .1 .1 .0) (c .before .before .before .before .before .before .before .before .before .before .args .inside) (c .before .before .before .to .given .0 .0) (sym (c .before .inside-too-big .ensures) ∙ c .if2 .taken))
+returns-3 c =
+    let at-inside-too-big = c .before .inside-too-big in
+    let at-to = c .before .before .before .to in
+    let at-b = c .before .before .before .before .before .before .b in
+    let at-range = c .before .before .before .before .before .before .before .before .range in
+    let at-start = c .before .before .before .before .before .before .before .before .before .before in
+    sym (ap (jumped (at-start .args .inside) (at-start .args .at)) (sym (at-range .ensures) ∙ ap ranged (at-b .given .1) ∙ ap (λ (u : Upper). found (between (at-b .given .0 .0) (upperOf u)) (at-b .given .0 .1 .1 .0) (at-b .given .0 .1 .1 .1 .0)) (at-to .given .1)) ∙ jumped-big (at-start .args .at) (at-b .given .0 .0) (at-b .given .0 .1 .1 .0) (at-b .given .0 .1 .1 .1 .0) (at-start .args .inside) (at-to .given .0 .0) (sym (at-inside-too-big .ensures) ∙ c .if2 .taken))
 
 one-jump-requires : tie.Need-one-jump-requires
 one-jump-requires c κs = search needs
@@ -44,15 +60,29 @@ enum-known-b-2 : tie.Need-enum-known-b-2
 enum-known-b-2 c = search needs
 
 returns-4 : tie.Need-returns-4
-returns-4 c = ap (λ (k : Token). found k (c .before .before .before .before .before .before .before .b .given .0 .1 .1 .0) (c .before .before .before .before .before .before .before .b .given .0 .1 .1 .1 .0)) (c .one-jump .ensures) ∙ sym (ap (jumped (c .before .before .before .before .before .before .before .before .before .before .before .args .inside) (c .before .before .before .before .before .before .before .before .before .before .before .args .at)) (sym (c .before .before .before .before .before .before .before .before .before .range .ensures) ∙ ap ranged (c .before .before .before .before .before .before .before .b .given .1) ∙ ap (λ (u : Upper). found (between (c .before .before .before .before .before .before .before .b .given .0 .0) (upperOf u)) (c .before .before .before .before .before .before .before .b .given .0 .1 .1 .0) (c .before .before .before .before .before .before .before .b .given .0 .1 .1 .1 .0)) (c .before .before .before .before .to .given .1)) ∙ jumped-found (c .before .before .before .before .before .before .before .before .before .before .before .args .at) (c .before .before .before .before .before .before .before .b .given .0 .0) (c .before .before .before .before .before .before .before .b .given .0 .1 .1 .0) (c .before .before .before .before .before .before .before .b .given .0 .1 .1 .1 .0) (c .before .before .before .before .before .before .before .before .before .before .before .args .inside) (c .before .before .before .before .to .given .0 .0) (sym (c .before .before .inside-too-big .ensures) ∙ c .before .if2 .left))
+returns-4 c =
+    let at-if2 = c .before .if2 in
+    let at-inside-too-big = c .before .before .inside-too-big in
+    let at-to = c .before .before .before .before .to in
+    let at-b = c .before .before .before .before .before .before .before .b in
+    let at-range = c .before .before .before .before .before .before .before .before .before .range in
+    let at-start = c .before .before .before .before .before .before .before .before .before .before .before in
+    ap (λ (k : Token). found k (at-b .given .0 .1 .1 .0) (at-b .given .0 .1 .1 .1 .0)) (c .one-jump .ensures) ∙ sym (ap (jumped (at-start .args .inside) (at-start .args .at)) (sym (at-range .ensures) ∙ ap ranged (at-b .given .1) ∙ ap (λ (u : Upper). found (between (at-b .given .0 .0) (upperOf u)) (at-b .given .0 .1 .1 .0) (at-b .given .0 .1 .1 .1 .0)) (at-to .given .1)) ∙ jumped-found (at-start .args .at) (at-b .given .0 .0) (at-b .given .0 .1 .1 .0) (at-b .given .0 .1 .1 .1 .0) (at-start .args .inside) (at-to .given .0 .0) (sym (at-inside-too-big .ensures) ∙ at-if2 .left))
 
 returns-5 : tie.Need-returns-5
 unfolding jumped
-returns-5 c = sym (ap (jumped (c .before .before .before .before .args .inside) (c .before .before .before .before .args .at)) (sym (c .before .before .range .ensures) ∙ ap ranged (c .enum-told2 .given .1)))
+returns-5 c =
+    let at-range = c .before .before .range in
+    let at-start = c .before .before .before .before in
+    sym (ap (jumped (at-start .args .inside) (at-start .args .at)) (sym (at-range .ensures) ∙ ap ranged (c .enum-told2 .given .1)))
 
 returns-6 : tie.Need-returns-6
 unfolding jumped
-returns-6 c = sym (ap (jumped (c .before .before .before .before .before .args .inside) (c .before .before .before .before .before .args .at)) (sym (c .before .before .before .range .ensures) ∙ ap ranged (c .before .b2 .given .1)))
+returns-6 c =
+    let at-b2 = c .before .b2 in
+    let at-range = c .before .before .before .range in
+    let at-start = c .before .before .before .before .before in
+    sym (ap (jumped (at-start .args .inside) (at-start .args .at)) (sym (at-range .ensures) ∙ ap ranged (at-b2 .given .1)))
 
 pub jump-spec : {M : Type 1} → statement M
 jump-spec =

@@ -17,22 +17,37 @@ peek-requires : tie.Need-peek-requires
 peek-requires c κs = search needs
 
 add-peek : tie.Need-add-peek
-add-peek c = omega (arith, here-at (c .before .before .before .args .text .now) (c .before .before .before .args .at) 63 (sym (c .before .peek .ensures) ∙ c .if1 .taken) (omega arith))
+add-peek c =
+    let at-peek = c .before .peek in
+    let at-start = c .before .before .before in
+    omega (arith, here-at (at-start .args .text .now) (at-start .args .at) 63 (sym (at-peek .ensures) ∙ c .if1 .taken) (omega arith))
 
 peek-requires-2 : tie.Need-peek-requires-2
 peek-requires-2 c κs = search needs
 
 add-t11 : tie.Need-add-t11
-add-t11 c = omega (arith, here-at (c .before .before .before .before .before .args .text .now) ((c .before .before .before .before .before .args .at) + 1) 63 (sym (c .before .peek2 .ensures) ∙ c .if2 .taken) (omega arith))
+add-t11 c =
+    let at-peek2 = c .before .peek2 in
+    let at-start = c .before .before .before .before .before in
+    omega (arith, here-at (at-start .args .text .now) ((at-start .args .at) + 1) 63 (sym (at-peek2 .ensures) ∙ c .if2 .taken) (omega arith))
 
 add-skip-blanks : tie.Need-add-skip-blanks
-add-skip-blanks c = omega (arith, here-at (c .before .before .before .before .before .args .text .now) ((c .before .before .before .before .before .args .at) + 1) 63 (sym (c .before .peek2 .ensures) ∙ c .if2 .taken) (omega arith))
+add-skip-blanks c =
+    let at-peek2 = c .before .peek2 in
+    let at-start = c .before .before .before .before .before in
+    omega (arith, here-at (at-start .args .text .now) ((at-start .args .at) + 1) 63 (sym (at-peek2 .ensures) ∙ c .if2 .taken) (omega arith))
 
 skip-blanks-requires : tie.Need-skip-blanks-requires
 skip-blanks-requires c κs = search needs
 
 returns : tie.Need-returns
-returns c = ap (λ (e : ℕ). found (masked 0 all) ((c .before .before .before .before .before .before .args .at) + 2) e) (c .skip-blanks .ensures) ∙ sym (masked-all (c .before .before .before .before .before .before .args .text .now) (c .before .before .before .before .before .before .args .at) (sym (c .before .before .before .before .peek .ensures) ∙ c .before .before .before .if1 .taken) (sym (c .before .before .peek2 .ensures) ∙ c .before .if2 .taken))
+returns c =
+    let at-if2 = c .before .if2 in
+    let at-peek2 = c .before .before .peek2 in
+    let at-if1 = c .before .before .before .if1 in
+    let at-peek = c .before .before .before .before .peek in
+    let at-start = c .before .before .before .before .before .before in
+    ap (λ (e : ℕ). found (masked 0 all) ((at-start .args .at) + 2) e) (c .skip-blanks .ensures) ∙ sym (masked-all (at-start .args .text .now) (at-start .args .at) (sym (at-peek .ensures) ∙ at-if1 .taken) (sym (at-peek2 .ensures) ∙ at-if2 .taken))
 
 hex-digit-requires : tie.Need-hex-digit-requires
 hex-digit-requires c κs = search needs
@@ -44,19 +59,44 @@ enum-told : tie.Need-enum-told
 enum-told c = search needs
 
 returns-2 : tie.Need-returns-2
-returns-2 c = sym (masked-no-left (c .before .before .before .before .before .before .before .before .args .text .now) (c .before .before .before .before .before .before .before .before .args .at) (sym (c .before .before .before .before .before .before .peek .ensures) ∙ c .before .before .before .before .before .if1 .taken) (λ z. c .before .before .before .if2 .left (c .before .before .before .before .peek2 .ensures ∙ z)) (ap digit (sym (c .before .before .before .before .peek2 .ensures)) ∙ sym (c .before .before .hex-digit .ensures) ∙ ap valueOf (c .enum-told .given .1)))
+returns-2 c =
+    let at-hex-digit = c .before .before .hex-digit in
+    let at-if2 = c .before .before .before .if2 in
+    let at-peek2 = c .before .before .before .before .peek2 in
+    let at-if1 = c .before .before .before .before .before .if1 in
+    let at-peek = c .before .before .before .before .before .before .peek in
+    let at-start = c .before .before .before .before .before .before .before .before in
+    sym (masked-no-left (at-start .args .text .now) (at-start .args .at) (sym (at-peek .ensures) ∙ at-if1 .taken) (λ z. at-if2 .left (at-peek2 .ensures ∙ z)) (ap digit (sym (at-peek2 .ensures)) ∙ sym (at-hex-digit .ensures) ∙ ap valueOf (c .enum-told .given .1)))
 
 add-t8 : tie.Need-add-t8
-add-t8 c = omega (arith, here-in (c .before .before .before .before .before .before .before .before .before .args .text .now) ((c .before .before .before .before .before .before .before .before .before .args .at) + 1) (digit-small (getD (c .before .before .before .before .before .before .before .before .before .args .text .now) ((c .before .before .before .before .before .before .before .before .before .args .at) + 1) 0) (c .before .low .given .0 .0) (ap digit (sym (c .before .before .before .before .before .peek2 .ensures)) ∙ sym (c .before .before .before .hex-digit .ensures) ∙ ap valueOf (c .before .low .given .1)) .1))
+add-t8 c =
+    let at-low = c .before .low in
+    let at-hex-digit = c .before .before .before .hex-digit in
+    let at-peek2 = c .before .before .before .before .before .peek2 in
+    let at-start = c .before .before .before .before .before .before .before .before .before in
+    omega (arith, here-in (at-start .args .text .now) ((at-start .args .at) + 1) (digit-small (getD (at-start .args .text .now) ((at-start .args .at) + 1) 0) (at-low .given .0 .0) (ap digit (sym (at-peek2 .ensures)) ∙ sym (at-hex-digit .ensures) ∙ ap valueOf (at-low .given .1)) .1))
 
 add-skip-blanks-2 : tie.Need-add-skip-blanks-2
-add-skip-blanks-2 c = omega (arith, here-in (c .before .before .before .before .before .before .before .before .before .args .text .now) ((c .before .before .before .before .before .before .before .before .before .args .at) + 1) (digit-small (getD (c .before .before .before .before .before .before .before .before .before .args .text .now) ((c .before .before .before .before .before .before .before .before .before .args .at) + 1) 0) (c .before .low .given .0 .0) (ap digit (sym (c .before .before .before .before .before .peek2 .ensures)) ∙ sym (c .before .before .before .hex-digit .ensures) ∙ ap valueOf (c .before .low .given .1)) .1))
+add-skip-blanks-2 c =
+    let at-low = c .before .low in
+    let at-hex-digit = c .before .before .before .hex-digit in
+    let at-peek2 = c .before .before .before .before .before .peek2 in
+    let at-start = c .before .before .before .before .before .before .before .before .before in
+    omega (arith, here-in (at-start .args .text .now) ((at-start .args .at) + 1) (digit-small (getD (at-start .args .text .now) ((at-start .args .at) + 1) 0) (at-low .given .0 .0) (ap digit (sym (at-peek2 .ensures)) ∙ sym (at-hex-digit .ensures) ∙ ap valueOf (at-low .given .1)) .1))
 
 skip-blanks-requires-2 : tie.Need-skip-blanks-requires-2
 skip-blanks-requires-2 c κs = search needs
 
 returns-3 : tie.Need-returns-3
-returns-3 c = ap (λ (e : ℕ). found (masked (c .before .before .low .given .0 .0) left) ((c .before .before .before .before .before .before .before .before .before .before .args .at) + 2) e) (c .skip-blanks2 .ensures) ∙ sym (masked-left (c .before .before .before .before .before .before .before .before .before .before .args .text .now) (c .before .before .before .before .before .before .before .before .before .before .args .at) (sym (c .before .before .before .before .before .before .before .before .peek .ensures) ∙ c .before .before .before .before .before .before .before .if1 .taken) (λ z. c .before .before .before .before .before .if2 .left (c .before .before .before .before .before .before .peek2 .ensures ∙ z)) (ap digit (sym (c .before .before .before .before .before .before .peek2 .ensures)) ∙ sym (c .before .before .before .before .hex-digit .ensures) ∙ ap valueOf (c .before .before .low .given .1)))
+returns-3 c =
+    let at-low = c .before .before .low in
+    let at-hex-digit = c .before .before .before .before .hex-digit in
+    let at-if2 = c .before .before .before .before .before .if2 in
+    let at-peek2 = c .before .before .before .before .before .before .peek2 in
+    let at-if1 = c .before .before .before .before .before .before .before .if1 in
+    let at-peek = c .before .before .before .before .before .before .before .before .peek in
+    let at-start = c .before .before .before .before .before .before .before .before .before .before in
+    ap (λ (e : ℕ). found (masked (at-low .given .0 .0) left) ((at-start .args .at) + 2) e) (c .skip-blanks2 .ensures) ∙ sym (masked-left (at-start .args .text .now) (at-start .args .at) (sym (at-peek .ensures) ∙ at-if1 .taken) (λ z. at-if2 .left (at-peek2 .ensures ∙ z)) (ap digit (sym (at-peek2 .ensures)) ∙ sym (at-hex-digit .ensures) ∙ ap valueOf (at-low .given .1)))
 
 hex-digit-requires-2 : tie.Need-hex-digit-requires-2
 hex-digit-requires-2 c κs = search needs
@@ -68,28 +108,57 @@ enum-told-2 : tie.Need-enum-told-2
 enum-told-2 c = search needs
 
 returns-4 : tie.Need-returns-4
-returns-4 c = sym (masked-no-right (c .before .before .before .before .before .before .args .text .now) (c .before .before .before .before .before .before .args .at) (λ z. c .before .before .before .if1 .left (c .before .before .before .before .peek .ensures ∙ z)) (ap digit (sym (c .before .before .before .before .peek .ensures)) ∙ sym (c .before .before .hex-digit2 .ensures) ∙ ap valueOf (c .enum-told2 .given .1)))
+returns-4 c =
+    let at-hex-digit2 = c .before .before .hex-digit2 in
+    let at-if1 = c .before .before .before .if1 in
+    let at-peek = c .before .before .before .before .peek in
+    let at-start = c .before .before .before .before .before .before in
+    sym (masked-no-right (at-start .args .text .now) (at-start .args .at) (λ z. at-if1 .left (at-peek .ensures ∙ z)) (ap digit (sym (at-peek .ensures)) ∙ sym (at-hex-digit2 .ensures) ∙ ap valueOf (c .enum-told2 .given .1)))
 
 add-peek-2 : tie.Need-add-peek-2
-add-peek-2 c = omega (arith, here-in (c .before .before .before .before .before .before .before .args .text .now) (c .before .before .before .before .before .before .before .args .at) (digit-small (getD (c .before .before .before .before .before .before .before .args .text .now) (c .before .before .before .before .before .before .before .args .at) 0) (c .before .high .given .0 .0) (ap digit (sym (c .before .before .before .before .before .peek .ensures)) ∙ sym (c .before .before .before .hex-digit2 .ensures) ∙ ap valueOf (c .before .high .given .1)) .1))
+add-peek-2 c =
+    let at-high = c .before .high in
+    let at-hex-digit2 = c .before .before .before .hex-digit2 in
+    let at-peek = c .before .before .before .before .before .peek in
+    let at-start = c .before .before .before .before .before .before .before in
+    omega (arith, here-in (at-start .args .text .now) (at-start .args .at) (digit-small (getD (at-start .args .text .now) (at-start .args .at) 0) (at-high .given .0 .0) (ap digit (sym (at-peek .ensures)) ∙ sym (at-hex-digit2 .ensures) ∙ ap valueOf (at-high .given .1)) .1))
 
 peek-requires-3 : tie.Need-peek-requires-3
 peek-requires-3 c κs = search needs
 
 returns-5 : tie.Need-returns-5
-returns-5 c = sym (masked-other (c .before .before .before .before .before .before .before .before .before .args .text .now) (c .before .before .before .before .before .before .before .before .before .args .at) (λ z. c .before .before .before .before .before .before .if1 .left (c .before .before .before .before .before .before .before .peek .ensures ∙ z)) (λ z. c .if3 .taken (c .before .peek3 .ensures ∙ z)))
+returns-5 c =
+    let at-peek3 = c .before .peek3 in
+    let at-if1 = c .before .before .before .before .before .before .if1 in
+    let at-peek = c .before .before .before .before .before .before .before .peek in
+    let at-start = c .before .before .before .before .before .before .before .before .before in
+    sym (masked-other (at-start .args .text .now) (at-start .args .at) (λ z. at-if1 .left (at-peek .ensures ∙ z)) (λ z. c .if3 .taken (at-peek3 .ensures ∙ z)))
 
 add-t20 : tie.Need-add-t20
-add-t20 c = omega (arith, here-at (c .before .before .before .before .before .before .before .before .before .args .text .now) ((c .before .before .before .before .before .before .before .before .before .args .at) + 1) 63 (sym (c .before .peek3 .ensures) ∙ c .if3 .left) (omega arith))
+add-t20 c =
+    let at-peek3 = c .before .peek3 in
+    let at-start = c .before .before .before .before .before .before .before .before .before in
+    omega (arith, here-at (at-start .args .text .now) ((at-start .args .at) + 1) 63 (sym (at-peek3 .ensures) ∙ c .if3 .left) (omega arith))
 
 add-skip-blanks-3 : tie.Need-add-skip-blanks-3
-add-skip-blanks-3 c = omega (arith, here-at (c .before .before .before .before .before .before .before .before .before .args .text .now) ((c .before .before .before .before .before .before .before .before .before .args .at) + 1) 63 (sym (c .before .peek3 .ensures) ∙ c .if3 .left) (omega arith))
+add-skip-blanks-3 c =
+    let at-peek3 = c .before .peek3 in
+    let at-start = c .before .before .before .before .before .before .before .before .before in
+    omega (arith, here-at (at-start .args .text .now) ((at-start .args .at) + 1) 63 (sym (at-peek3 .ensures) ∙ c .if3 .left) (omega arith))
 
 skip-blanks-requires-3 : tie.Need-skip-blanks-requires-3
 skip-blanks-requires-3 c κs = search needs
 
 returns-6 : tie.Need-returns-6
-returns-6 c = ap (λ (e : ℕ). found (masked (c .before .before .before .before .high .given .0 .0) right) ((c .before .before .before .before .before .before .before .before .before .before .args .at) + 2) e) (c .skip-blanks3 .ensures) ∙ sym (masked-right (c .before .before .before .before .before .before .before .before .before .before .args .text .now) (c .before .before .before .before .before .before .before .before .before .before .args .at) (λ z. c .before .before .before .before .before .before .before .if1 .left (c .before .before .before .before .before .before .before .before .peek .ensures ∙ z)) (ap digit (sym (c .before .before .before .before .before .before .before .before .peek .ensures)) ∙ sym (c .before .before .before .before .before .before .hex-digit2 .ensures) ∙ ap valueOf (c .before .before .before .before .high .given .1)) (sym (c .before .before .peek3 .ensures) ∙ c .before .if3 .left))
+returns-6 c =
+    let at-if3 = c .before .if3 in
+    let at-peek3 = c .before .before .peek3 in
+    let at-high = c .before .before .before .before .high in
+    let at-hex-digit2 = c .before .before .before .before .before .before .hex-digit2 in
+    let at-if1 = c .before .before .before .before .before .before .before .if1 in
+    let at-peek = c .before .before .before .before .before .before .before .before .peek in
+    let at-start = c .before .before .before .before .before .before .before .before .before .before in
+    ap (λ (e : ℕ). found (masked (at-high .given .0 .0) right) ((at-start .args .at) + 2) e) (c .skip-blanks3 .ensures) ∙ sym (masked-right (at-start .args .text .now) (at-start .args .at) (λ z. at-if1 .left (at-peek .ensures ∙ z)) (ap digit (sym (at-peek .ensures)) ∙ sym (at-hex-digit2 .ensures) ∙ ap valueOf (at-high .given .1)) (sym (at-peek3 .ensures) ∙ at-if3 .left))
 
 pub masked-byte-spec : {M : Type 1} → statement M
 masked-byte-spec =

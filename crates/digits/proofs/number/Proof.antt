@@ -25,7 +25,11 @@ in-range-requires : tie.Need-in-range-requires Inv-loop μ-loop
 in-range-requires c κs = search needs
 
 returns : tie.Need-returns Inv-loop μ-loop
-returns c = sym (number-absent (c .before .before .before .before .args .text .now) (c .before .before .before .before .args .at) (ap (within 48 57) (sym (c .before .before .peek .ensures)) ∙ sym (c .before .in-range .ensures) ∙ not-true (c .before .in-range .result) (c .if1 .taken)))
+returns c =
+    let at-in-range = c .before .in-range in
+    let at-peek = c .before .before .peek in
+    let at-start = c .before .before .before .before in
+    sym (number-absent (at-start .args .text .now) (at-start .args .at) (ap (within 48 57) (sym (at-peek .ensures)) ∙ sym (at-in-range .ensures) ∙ not-true (at-in-range .result) (c .if1 .taken)))
 
 loop-holds : tie.Need-loop-holds Inv-loop μ-loop
 loop-holds c = (refl, refl, omega arith)
@@ -37,37 +41,90 @@ in-range-requires-2 : tie.Need-in-range-requires-2 Inv-loop μ-loop
 in-range-requires-2 c κs = search needs
 
 cast-t11 : tie.Need-cast-t11 Inv-loop μ-loop
-cast-t11 c = let l = c .before .before .before .loop .inv .2 in omega arith
+cast-t11 c =
+    let at-loop = c .before .before .before .loop in
+    let l = at-loop .inv .2 in omega arith
 
 skip-blanks-requires : tie.Need-skip-blanks-requires Inv-loop μ-loop
 skip-blanks-requires c κs = search needs
 
 returns-2 : tie.Need-returns-2 Inv-loop μ-loop
-returns-2 c = let z = number-none (c .before .before .before .before .before .before .before .before .before .args .text .now) (c .before .before .before .before .loop .value) (c .before .before .before .before .loop .i) (ap (within 48 57) (sym (c .before .before .before .peek2 .ensures)) ∙ sym (c .before .before .in-range2 .ensures) ∙ not-true (c .before .before .in-range2 .result) (c .before .if2 .taken)) in let w = c .before .before .before .before .loop .inv .1 in let q : (c .before .before .before .before .before .before .before .before .before .args .at) + decimals (drop (c .before .before .before .before .before .before .before .before .before .args .at) (c .before .before .before .before .before .before .before .before .before .args .text .now)) ≡ (c .before .before .before .before .loop .i) = omega arith in ap (λ (e : ℕ). found (c .before .before .before .before .loop .value) (c .before .before .before .before .loop .i) e) (c .skip-blanks .ensures) ∙ sym (number-found (c .before .before .before .before .before .before .before .before .before .args .text .now) (c .before .before .before .before .before .before .before .before .before .args .at) (ap (within 48 57) (sym (c .before .before .before .before .before .before .before .peek .ensures)) ∙ sym (c .before .before .before .before .before .before .in-range .ensures) ∙ not-false (c .before .before .before .before .before .before .in-range .result) (c .before .before .before .before .before .if1 .left)) (c .before .before .before .before .loop .inv .0 ∙ z .1) q (c .before .before .before .before .loop .inv .2))
+returns-2 c =
+    let at-if2 = c .before .if2 in
+    let at-in-range2 = c .before .before .in-range2 in
+    let at-peek2 = c .before .before .before .peek2 in
+    let at-loop = c .before .before .before .before .loop in
+    let at-if1 = c .before .before .before .before .before .if1 in
+    let at-in-range = c .before .before .before .before .before .before .in-range in
+    let at-peek = c .before .before .before .before .before .before .before .peek in
+    let at-start = c .before .before .before .before .before .before .before .before .before in
+    let z = number-none (at-start .args .text .now) (at-loop .value) (at-loop .i) (ap (within 48 57) (sym (at-peek2 .ensures)) ∙ sym (at-in-range2 .ensures) ∙ not-true (at-in-range2 .result) (at-if2 .taken)) in let w = at-loop .inv .1 in let q : (at-start .args .at) + decimals (drop (at-start .args .at) (at-start .args .text .now)) ≡ (at-loop .i) = omega arith in ap (λ (e : ℕ). found (at-loop .value) (at-loop .i) e) (c .skip-blanks .ensures) ∙ sym (number-found (at-start .args .text .now) (at-start .args .at) (ap (within 48 57) (sym (at-peek .ensures)) ∙ sym (at-in-range .ensures) ∙ not-false (at-in-range .result) (at-if1 .left)) (at-loop .inv .0 ∙ z .1) q (at-loop .inv .2))
 
 mul-value : tie.Need-mul-value Inv-loop μ-loop
-mul-value c = let l = c .before .before .before .loop .inv .2 in omega arith
+mul-value c =
+    let at-loop = c .before .before .before .loop in
+    let l = at-loop .inv .2 in omega arith
 
 sub-wide : tie.Need-sub-wide Inv-loop μ-loop
-sub-wide c = let p = c .before .before .peek2 .ensures in let d = within-true 48 57 (getD (c .before .before .before .before .before .before .before .before .args .text .now) (c .before .before .before .loop .i) 0) (ap (within 48 57) (sym (c .before .before .peek2 .ensures)) ∙ sym (c .before .in-range2 .ensures) ∙ not-false (c .before .in-range2 .result) (c .if2 .left)) in let l = c .before .before .before .loop .inv .2 in omega arith
+sub-wide c =
+    let at-in-range2 = c .before .in-range2 in
+    let at-peek2 = c .before .before .peek2 in
+    let at-loop = c .before .before .before .loop in
+    let at-start = c .before .before .before .before .before .before .before .before in
+    let p = at-peek2 .ensures in let d = within-true 48 57 (getD (at-start .args .text .now) (at-loop .i) 0) (ap (within 48 57) (sym (at-peek2 .ensures)) ∙ sym (at-in-range2 .ensures) ∙ not-false (at-in-range2 .result) (c .if2 .left)) in let l = at-loop .inv .2 in omega arith
 
 wide-requires : tie.Need-wide-requires Inv-loop μ-loop
 wide-requires c κs = search needs
 
 add-value : tie.Need-add-value Inv-loop μ-loop
-add-value c = let p = c .before .before .before .peek2 .ensures in let d = within-true 48 57 (getD (c .before .before .before .before .before .before .before .before .before .args .text .now) (c .before .before .before .before .loop .i) 0) (ap (within 48 57) (sym (c .before .before .before .peek2 .ensures)) ∙ sym (c .before .before .in-range2 .ensures) ∙ not-false (c .before .before .in-range2 .result) (c .before .if2 .left)) in let l = c .before .before .before .before .loop .inv .2 in let w = c .wide .ensures in omega arith
+add-value c =
+    let at-if2 = c .before .if2 in
+    let at-in-range2 = c .before .before .in-range2 in
+    let at-peek2 = c .before .before .before .peek2 in
+    let at-loop = c .before .before .before .before .loop in
+    let at-start = c .before .before .before .before .before .before .before .before .before in
+    let p = at-peek2 .ensures in let d = within-true 48 57 (getD (at-start .args .text .now) (at-loop .i) 0) (ap (within 48 57) (sym (at-peek2 .ensures)) ∙ sym (at-in-range2 .ensures) ∙ not-false (at-in-range2 .result) (at-if2 .left)) in let l = at-loop .inv .2 in let w = c .wide .ensures in omega arith
 
 returns-3 : tie.Need-returns-3 Inv-loop μ-loop
-returns-3 c = let p = c .before .before .before .before .peek2 .ensures in let d = within-true 48 57 (getD (c .before .before .before .before .before .before .before .before .before .before .args .text .now) (c .before .before .before .before .before .loop .i) 0) (ap (within 48 57) (sym (c .before .before .before .before .peek2 .ensures)) ∙ sym (c .before .before .before .in-range2 .ensures) ∙ not-false (c .before .before .before .in-range2 .result) (c .before .before .if2 .left)) in let l = c .before .before .before .before .before .loop .inv .2 in let w = c .before .wide .ensures in let n = number-next (c .before .before .before .before .before .before .before .before .before .before .args .text .now) (c .before .before .before .before .before .loop .value) (c .before .before .before .before .before .loop .i) (ap (within 48 57) (sym (c .before .before .before .before .peek2 .ensures)) ∙ sym (c .before .before .before .in-range2 .ensures) ∙ not-false (c .before .before .before .in-range2 .result) (c .before .before .if2 .left)) in let m = numeral-from (10 * (c .before .before .before .before .before .loop .value) + (getD (c .before .before .before .before .before .before .before .before .before .before .args .text .now) (c .before .before .before .before .before .loop .i) 0 - 48)) (drop ((c .before .before .before .before .before .loop .i) + 1) (c .before .before .before .before .before .before .before .before .before .before .args .text .now)) in let k = c .before .before .before .before .before .loop .inv .0 in let h = c .if3 .taken in let b : 4294967295 < numeral 0 (drop (c .before .before .before .before .before .before .before .before .before .before .args .at) (c .before .before .before .before .before .before .before .before .before .before .args .text .now)) = omega arith in sym (number-big (c .before .before .before .before .before .before .before .before .before .before .args .text .now) (c .before .before .before .before .before .before .before .before .before .before .args .at) (ap (within 48 57) (sym (c .before .before .before .before .before .before .before .before .peek .ensures)) ∙ sym (c .before .before .before .before .before .before .before .in-range .ensures) ∙ not-false (c .before .before .before .before .before .before .before .in-range .result) (c .before .before .before .before .before .before .if1 .left)) b)
+returns-3 c =
+    let at-wide = c .before .wide in
+    let at-if2 = c .before .before .if2 in
+    let at-in-range2 = c .before .before .before .in-range2 in
+    let at-peek2 = c .before .before .before .before .peek2 in
+    let at-loop = c .before .before .before .before .before .loop in
+    let at-if1 = c .before .before .before .before .before .before .if1 in
+    let at-in-range = c .before .before .before .before .before .before .before .in-range in
+    let at-peek = c .before .before .before .before .before .before .before .before .peek in
+    let at-start = c .before .before .before .before .before .before .before .before .before .before in
+    let p = at-peek2 .ensures in let d = within-true 48 57 (getD (at-start .args .text .now) (at-loop .i) 0) (ap (within 48 57) (sym (at-peek2 .ensures)) ∙ sym (at-in-range2 .ensures) ∙ not-false (at-in-range2 .result) (at-if2 .left)) in let l = at-loop .inv .2 in let w = at-wide .ensures in let n = number-next (at-start .args .text .now) (at-loop .value) (at-loop .i) (ap (within 48 57) (sym (at-peek2 .ensures)) ∙ sym (at-in-range2 .ensures) ∙ not-false (at-in-range2 .result) (at-if2 .left)) in let m = numeral-from (10 * (at-loop .value) + (getD (at-start .args .text .now) (at-loop .i) 0 - 48)) (drop ((at-loop .i) + 1) (at-start .args .text .now)) in let k = at-loop .inv .0 in let h = c .if3 .taken in let b : 4294967295 < numeral 0 (drop (at-start .args .at) (at-start .args .text .now)) = omega arith in sym (number-big (at-start .args .text .now) (at-start .args .at) (ap (within 48 57) (sym (at-peek .ensures)) ∙ sym (at-in-range .ensures) ∙ not-false (at-in-range .result) (at-if1 .left)) b)
 
 add-i : tie.Need-add-i Inv-loop μ-loop
-add-i c = omega (arith, here-in (c .before .before .before .before .before .before .before .before .before .before .args .text .now) (c .before .before .before .before .before .loop .i) (omega (arith, within-true 48 57 (getD (c .before .before .before .before .before .before .before .before .before .before .args .text .now) (c .before .before .before .before .before .loop .i) 0) (ap (within 48 57) (sym (c .before .before .before .before .peek2 .ensures)) ∙ sym (c .before .before .before .in-range2 .ensures) ∙ not-false (c .before .before .before .in-range2 .result) (c .before .before .if2 .left)))))
+add-i c =
+    let at-if2 = c .before .before .if2 in
+    let at-in-range2 = c .before .before .before .in-range2 in
+    let at-peek2 = c .before .before .before .before .peek2 in
+    let at-loop = c .before .before .before .before .before .loop in
+    let at-start = c .before .before .before .before .before .before .before .before .before .before in
+    omega (arith, here-in (at-start .args .text .now) (at-loop .i) (omega (arith, within-true 48 57 (getD (at-start .args .text .now) (at-loop .i) 0) (ap (within 48 57) (sym (at-peek2 .ensures)) ∙ sym (at-in-range2 .ensures) ∙ not-false (at-in-range2 .result) (at-if2 .left)))))
 
 loop-less : tie.Need-loop-less Inv-loop μ-loop
-loop-less c = omega (arith, here-in (c .before .before .before .before .before .before .before .before .before .before .args .text .now) (c .before .before .before .before .before .loop .i) (omega (arith, within-true 48 57 (getD (c .before .before .before .before .before .before .before .before .before .before .args .text .now) (c .before .before .before .before .before .loop .i) 0) (ap (within 48 57) (sym (c .before .before .before .before .peek2 .ensures)) ∙ sym (c .before .before .before .in-range2 .ensures) ∙ not-false (c .before .before .before .in-range2 .result) (c .before .before .if2 .left)))))
+loop-less c =
+    let at-if2 = c .before .before .if2 in
+    let at-in-range2 = c .before .before .before .in-range2 in
+    let at-peek2 = c .before .before .before .before .peek2 in
+    let at-loop = c .before .before .before .before .before .loop in
+    let at-start = c .before .before .before .before .before .before .before .before .before .before in
+    omega (arith, here-in (at-start .args .text .now) (at-loop .i) (omega (arith, within-true 48 57 (getD (at-start .args .text .now) (at-loop .i) 0) (ap (within 48 57) (sym (at-peek2 .ensures)) ∙ sym (at-in-range2 .ensures) ∙ not-false (at-in-range2 .result) (at-if2 .left)))))
 
 loop-again : tie.Need-loop-again Inv-loop μ-loop
-loop-again c = let p = c .before .before .before .before .peek2 .ensures in let d = within-true 48 57 (getD (c .before .before .before .before .before .before .before .before .before .before .args .text .now) (c .before .before .before .before .before .loop .i) 0) (ap (within 48 57) (sym (c .before .before .before .before .peek2 .ensures)) ∙ sym (c .before .before .before .in-range2 .ensures) ∙ not-false (c .before .before .before .in-range2 .result) (c .before .before .if2 .left)) in let l = c .before .before .before .before .before .loop .inv .2 in let w = c .before .wide .ensures in let n = number-next (c .before .before .before .before .before .before .before .before .before .before .args .text .now) (c .before .before .before .before .before .loop .value) (c .before .before .before .before .before .loop .i) (ap (within 48 57) (sym (c .before .before .before .before .peek2 .ensures)) ∙ sym (c .before .before .before .in-range2 .ensures) ∙ not-false (c .before .before .before .in-range2 .result) (c .before .before .if2 .left)) in let k = c .before .before .before .before .before .loop .inv .1 in let q : 10 * (c .before .before .before .before .before .loop .value) + (getD (c .before .before .before .before .before .before .before .before .before .before .args .text .now) (c .before .before .before .before .before .loop .i) 0 - 48) ≡ 10 * (c .before .before .before .before .before .loop .value) + c .before .wide .result = omega arith in (c .before .before .before .before .before .loop .inv .0 ∙ n .1 ∙ ap (λ (m : ℕ). numeral m (drop ((c .before .before .before .before .before .loop .i) + 1) (c .before .before .before .before .before .before .before .before .before .before .args .text .now))) q, omega arith, c .if3 .left)
+loop-again c =
+    let at-wide = c .before .wide in
+    let at-if2 = c .before .before .if2 in
+    let at-in-range2 = c .before .before .before .in-range2 in
+    let at-peek2 = c .before .before .before .before .peek2 in
+    let at-loop = c .before .before .before .before .before .loop in
+    let at-start = c .before .before .before .before .before .before .before .before .before .before in
+    let p = at-peek2 .ensures in let d = within-true 48 57 (getD (at-start .args .text .now) (at-loop .i) 0) (ap (within 48 57) (sym (at-peek2 .ensures)) ∙ sym (at-in-range2 .ensures) ∙ not-false (at-in-range2 .result) (at-if2 .left)) in let l = at-loop .inv .2 in let w = at-wide .ensures in let n = number-next (at-start .args .text .now) (at-loop .value) (at-loop .i) (ap (within 48 57) (sym (at-peek2 .ensures)) ∙ sym (at-in-range2 .ensures) ∙ not-false (at-in-range2 .result) (at-if2 .left)) in let k = at-loop .inv .1 in let q : 10 * (at-loop .value) + (getD (at-start .args .text .now) (at-loop .i) 0 - 48) ≡ 10 * (at-loop .value) + at-wide .result = omega arith in (at-loop .inv .0 ∙ n .1 ∙ ap (λ (m : ℕ). numeral m (drop ((at-loop .i) + 1) (at-start .args .text .now))) q, omega arith, c .if3 .left)
 
 pub number-spec : {M : Type 1} → statement M
 number-spec =

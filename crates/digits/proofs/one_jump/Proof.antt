@@ -11,11 +11,15 @@ both-are-requires c κs = search needs
 
 returns : tie.Need-returns
 unfolding jumpToken
-returns c = sym (rw (sym (c .before .both-are .ensures) ∙ c .if1 .taken))
+returns c =
+    let at-both-are = c .before .both-are in
+    sym (rw (sym (at-both-are .ensures) ∙ c .if1 .taken))
 
 returns-2 : tie.Need-returns-2
 unfolding jumpToken
-returns-2 c = sym (rw (sym (c .before .both-are .ensures) ∙ c .if1 .left))
+returns-2 c =
+    let at-both-are = c .before .both-are in
+    sym (rw (sym (at-both-are .ensures) ∙ c .if1 .left))
 
 pub one-jump-spec : {M : Type 1} → statement M
 one-jump-spec = tie.close (tie.spec both-are-requires returns returns-2)

@@ -13,7 +13,9 @@ returns : tie.Need-returns
 returns c = search needs
 
 returns-2 : tie.Need-returns-2
-returns-2 c = sym (List·getD-eq-default (c .before .args .text .now) 0 (c .if1 .left))
+returns-2 c =
+    let at-start = c .before in
+    sym (List·getD-eq-default (at-start .args .text .now) 0 (c .if1 .left))
 
 pub peek-spec : {M : Type 1} → statement M
 peek-spec = tie.close (tie.spec shared-slice-read-result returns returns-2)

@@ -24,15 +24,27 @@ enum-known-n-2 c = search needs
 
 returns : tie.Need-returns
 unfolding _else_
-returns c = sym (plain-not (c .before .before .before .before .before .args .text .now) (c .before .before .before .before .before .args .at) (c .before .before .before .before .before .args .inside) (sym (c .before .before .before .not-token .ensures) ∙ ap pieceOf (c .before .n .given .1)))
+returns c =
+    let at-n = c .before .n in
+    let at-not-token = c .before .before .before .not-token in
+    let at-start = c .before .before .before .before .before in
+    sym (plain-not (at-start .args .text .now) (at-start .args .at) (at-start .args .inside) (sym (at-not-token .ensures) ∙ ap pieceOf (at-n .given .1)))
 
 returns-2 : tie.Need-returns-2
 unfolding _else_
-returns-2 c = c .byte-or-jump .ensures ∙ sym (plain-not (c .before .before .before .before .before .args .text .now) (c .before .before .before .before .before .args .at) (c .before .before .before .before .before .args .inside) (sym (c .before .before .before .not-token .ensures) ∙ ap pieceOf (c .before .enum-told .given .1)))
+returns-2 c =
+    let at-enum-told = c .before .enum-told in
+    let at-not-token = c .before .before .before .not-token in
+    let at-start = c .before .before .before .before .before in
+    c .byte-or-jump .ensures ∙ sym (plain-not (at-start .args .text .now) (at-start .args .at) (at-start .args .inside) (sym (at-not-token .ensures) ∙ ap pieceOf (at-enum-told .given .1)))
 
 returns-3 : tie.Need-returns-3
 unfolding _else_
-returns-3 c = sym (plain-not (c .before .before .before .before .before .args .text .now) (c .before .before .before .before .before .args .at) (c .before .before .before .before .before .args .inside) (sym (c .before .before .before .not-token .ensures) ∙ ap pieceOf (c .before .n2 .given .1)))
+returns-3 c =
+    let at-n2 = c .before .n2 in
+    let at-not-token = c .before .before .before .not-token in
+    let at-start = c .before .before .before .before .before in
+    sym (plain-not (at-start .args .text .now) (at-start .args .at) (at-start .args .inside) (sym (at-not-token .ensures) ∙ ap pieceOf (at-n2 .given .1)))
 
 pub plain-token-spec : {M : Type 1} → statement M
 plain-token-spec =

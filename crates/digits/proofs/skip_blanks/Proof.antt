@@ -27,16 +27,36 @@ is-blank-requires : tie.Need-is-blank-requires Inv-loop μ-loop
 is-blank-requires c κs = search needs
 
 returns : tie.Need-returns Inv-loop μ-loop
-returns c = skip-none (c .before .before .before .before .before .args .text .now) (c .before .before .before .loop .i) (ap blank (sym (c .before .before .peek .ensures)) ∙ sym (c .before .is-blank .ensures) ∙ not-true (c .before .is-blank .result) (c .if1 .taken)) ∙ sym (c .before .before .before .loop .inv)
+returns c =
+    let at-is-blank = c .before .is-blank in
+    let at-peek = c .before .before .peek in
+    let at-loop = c .before .before .before .loop in
+    let at-start = c .before .before .before .before .before in
+    skip-none (at-start .args .text .now) (at-loop .i) (ap blank (sym (at-peek .ensures)) ∙ sym (at-is-blank .ensures) ∙ not-true (at-is-blank .result) (c .if1 .taken)) ∙ sym (at-loop .inv)
 
 add-i : tie.Need-add-i Inv-loop μ-loop
-add-i c = omega (arith, here-in (c .before .before .before .before .before .args .text .now) (c .before .before .before .loop .i) (omega (arith, blank-pos (getD (c .before .before .before .before .before .args .text .now) (c .before .before .before .loop .i) 0) (ap blank (sym (c .before .before .peek .ensures)) ∙ sym (c .before .is-blank .ensures) ∙ not-false (c .before .is-blank .result) (c .if1 .left)))))
+add-i c =
+    let at-is-blank = c .before .is-blank in
+    let at-peek = c .before .before .peek in
+    let at-loop = c .before .before .before .loop in
+    let at-start = c .before .before .before .before .before in
+    omega (arith, here-in (at-start .args .text .now) (at-loop .i) (omega (arith, blank-pos (getD (at-start .args .text .now) (at-loop .i) 0) (ap blank (sym (at-peek .ensures)) ∙ sym (at-is-blank .ensures) ∙ not-false (at-is-blank .result) (c .if1 .left)))))
 
 loop-less : tie.Need-loop-less Inv-loop μ-loop
-loop-less c = omega (arith, here-in (c .before .before .before .before .before .args .text .now) (c .before .before .before .loop .i) (omega (arith, blank-pos (getD (c .before .before .before .before .before .args .text .now) (c .before .before .before .loop .i) 0) (ap blank (sym (c .before .before .peek .ensures)) ∙ sym (c .before .is-blank .ensures) ∙ not-false (c .before .is-blank .result) (c .if1 .left)))))
+loop-less c =
+    let at-is-blank = c .before .is-blank in
+    let at-peek = c .before .before .peek in
+    let at-loop = c .before .before .before .loop in
+    let at-start = c .before .before .before .before .before in
+    omega (arith, here-in (at-start .args .text .now) (at-loop .i) (omega (arith, blank-pos (getD (at-start .args .text .now) (at-loop .i) 0) (ap blank (sym (at-peek .ensures)) ∙ sym (at-is-blank .ensures) ∙ not-false (at-is-blank .result) (c .if1 .left)))))
 
 loop-again : tie.Need-loop-again Inv-loop μ-loop
-loop-again c = c .before .before .before .loop .inv ∙ skip-next (c .before .before .before .before .before .args .text .now) (c .before .before .before .loop .i) (ap blank (sym (c .before .before .peek .ensures)) ∙ sym (c .before .is-blank .ensures) ∙ not-false (c .before .is-blank .result) (c .if1 .left))
+loop-again c =
+    let at-is-blank = c .before .is-blank in
+    let at-peek = c .before .before .peek in
+    let at-loop = c .before .before .before .loop in
+    let at-start = c .before .before .before .before .before in
+    at-loop .inv ∙ skip-next (at-start .args .text .now) (at-loop .i) (ap blank (sym (at-peek .ensures)) ∙ sym (at-is-blank .ensures) ∙ not-false (at-is-blank .result) (c .if1 .left))
 
 pub skip-blanks-spec : {M : Type 1} → statement M
 skip-blanks-spec =

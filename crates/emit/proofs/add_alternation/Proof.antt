@@ -6,105 +6,128 @@ use borrow.Author.Needs.{needs}
 use Rattle.emit.proofs.add_alternation.Statement.{statement}
 use Rattle.emit.proofs.add_alternation.Tie as tie
 
--- src/lib.rt:233:24
 add-lists : tie.Need-add-lists
-add-lists c = let f = law.alt-fits (c .before .before .args .tokens .now) (c .before .before .args .at) (c .before .before .pre .0) (c .before .before .pre .1) in let s = law.size-five (c .before .before .args .tokens .now) (c .before .before .args .at) (c .before .before .pre .1) in let pre = c .before .before .pre in omega arith
+add-lists c =
+    let at-start = c .before .before in
+    let f = law.alt-fits (at-start .args .tokens .now) (at-start .args .at) (at-start .pre .0) (at-start .pre .1) in let s = law.size-five (at-start .args .tokens .now) (at-start .args .at) (at-start .pre .1) in let pre = at-start .pre in omega arith
 
--- src/lib.rt:233:17
 mul-lists : tie.Need-mul-lists
-mul-lists c = let f = law.alt-fits (c .before .before .args .tokens .now) (c .before .before .args .at) (c .before .before .pre .0) (c .before .before .pre .1) in let s = law.size-five (c .before .before .args .tokens .now) (c .before .before .args .at) (c .before .before .pre .1) in let pre = c .before .before .pre in omega arith
+mul-lists c =
+    let at-start = c .before .before in
+    let f = law.alt-fits (at-start .args .tokens .now) (at-start .args .at) (at-start .pre .0) (at-start .pre .1) in let s = law.size-five (at-start .args .tokens .now) (at-start .args .at) (at-start .pre .1) in let pre = at-start .pre in omega arith
 
--- src/lib.rt:233:17
 shared-slice-read-lists : tie.Need-shared-slice-read-lists
-shared-slice-read-lists c = let f = law.alt-fits (c .before .before .before .args .tokens .now) (c .before .before .before .args .at) (c .before .before .before .pre .0) (c .before .before .before .pre .1) in let s = law.size-five (c .before .before .before .args .tokens .now) (c .before .before .before .args .at) (c .before .before .before .pre .1) in let pre = c .before .before .before .pre in omega arith
+shared-slice-read-lists c =
+    let at-start = c .before .before .before in
+    let f = law.alt-fits (at-start .args .tokens .now) (at-start .args .at) (at-start .pre .0) (at-start .pre .1) in let s = law.size-five (at-start .args .tokens .now) (at-start .args .at) (at-start .pre .1) in let pre = at-start .pre in omega arith
 
--- src/lib.rt:233:17
 cast-lists : tie.Need-cast-lists
-cast-lists c = omega (arith, c .shared-slice-known2 .given ((c .before .before .before .args .at) + 1))
+cast-lists c =
+    let at-start = c .before .before .before in
+    omega (arith, c .shared-slice-known2 .given ((at-start .args .at) + 1))
 
--- src/lib.rt:234:16
 add-from : tie.Need-add-from
-add-from c = let f = law.alt-fits (c .before .before .before .args .tokens .now) (c .before .before .before .args .at) (c .before .before .before .pre .0) (c .before .before .before .pre .1) in let s = law.size-five (c .before .before .before .args .tokens .now) (c .before .before .before .args .at) (c .before .before .before .pre .1) in let pre = c .before .before .before .pre in omega arith
+add-from c =
+    let at-start = c .before .before .before in
+    let f = law.alt-fits (at-start .args .tokens .now) (at-start .args .at) (at-start .pre .0) (at-start .pre .1) in let s = law.size-five (at-start .args .tokens .now) (at-start .args .at) (at-start .pre .1) in let pre = at-start .pre in omega arith
 
--- src/lib.rt:235:33
 add-to : tie.Need-add-to
-add-to c = let f = law.alt-fits (c .before .before .before .args .tokens .now) (c .before .before .before .args .at) (c .before .before .before .pre .0) (c .before .before .before .pre .1) in let s = law.size-five (c .before .before .before .args .tokens .now) (c .before .before .before .args .at) (c .before .before .before .pre .1) in let pre = c .before .before .before .pre in omega arith
+add-to c =
+    let at-start = c .before .before .before in
+    let f = law.alt-fits (at-start .args .tokens .now) (at-start .args .at) (at-start .pre .0) (at-start .pre .1) in let s = law.size-five (at-start .args .tokens .now) (at-start .args .at) (at-start .pre .1) in let pre = at-start .pre in omega arith
 
--- src/lib.rt:235:26
 mul-to : tie.Need-mul-to
-mul-to c = let f = law.alt-fits (c .before .before .before .args .tokens .now) (c .before .before .before .args .at) (c .before .before .before .pre .0) (c .before .before .before .pre .1) in let s = law.size-five (c .before .before .before .args .tokens .now) (c .before .before .before .args .at) (c .before .before .before .pre .1) in let pre = c .before .before .before .pre in omega arith
+mul-to c =
+    let at-start = c .before .before .before in
+    let f = law.alt-fits (at-start .args .tokens .now) (at-start .args .at) (at-start .pre .0) (at-start .pre .1) in let s = law.size-five (at-start .args .tokens .now) (at-start .args .at) (at-start .pre .1) in let pre = at-start .pre in omega arith
 
--- src/lib.rt:235:26
 shared-slice-read-to : tie.Need-shared-slice-read-to
-shared-slice-read-to c = let f = law.alt-fits (c .before .before .before .before .args .tokens .now) (c .before .before .before .before .args .at) (c .before .before .before .before .pre .0) (c .before .before .before .before .pre .1) in let s = law.size-five (c .before .before .before .before .args .tokens .now) (c .before .before .before .before .args .at) (c .before .before .before .before .pre .1) in let pre = c .before .before .before .before .pre in omega arith
+shared-slice-read-to c =
+    let at-start = c .before .before .before .before in
+    let f = law.alt-fits (at-start .args .tokens .now) (at-start .args .at) (at-start .pre .0) (at-start .pre .1) in let s = law.size-five (at-start .args .tokens .now) (at-start .args .at) (at-start .pre .1) in let pre = at-start .pre in omega arith
 
--- src/lib.rt:235:26
 cast-to : tie.Need-cast-to
-cast-to c = let f = law.alt-fits (c .before .before .before .before .args .tokens .now) (c .before .before .before .before .args .at) (c .before .before .before .before .pre .0) (c .before .before .before .before .pre .1) in let s = law.size-five (c .before .before .before .before .args .tokens .now) (c .before .before .before .before .args .at) (c .before .before .before .before .pre .1) in let pre = c .before .before .before .before .pre in omega arith
+cast-to c =
+    let at-start = c .before .before .before .before in
+    let f = law.alt-fits (at-start .args .tokens .now) (at-start .args .at) (at-start .pre .0) (at-start .pre .1) in let s = law.size-five (at-start .args .tokens .now) (at-start .args .at) (at-start .pre .1) in let pre = at-start .pre in omega arith
 
--- src/lib.rt:235:21
 mul-to-2 : tie.Need-mul-to-2
-mul-to-2 c = let f = law.alt-fits (c .before .before .before .before .args .tokens .now) (c .before .before .before .before .args .at) (c .before .before .before .before .pre .0) (c .before .before .before .before .pre .1) in let s = law.size-five (c .before .before .before .before .args .tokens .now) (c .before .before .before .before .args .at) (c .before .before .before .before .pre .1) in let pre = c .before .before .before .before .pre in omega arith
+mul-to-2 c =
+    let at-start = c .before .before .before .before in
+    let f = law.alt-fits (at-start .args .tokens .now) (at-start .args .at) (at-start .pre .0) (at-start .pre .1) in let s = law.size-five (at-start .args .tokens .now) (at-start .args .at) (at-start .pre .1) in let pre = at-start .pre in omega arith
 
--- src/lib.rt:235:14
 add-to-2 : tie.Need-add-to-2
-add-to-2 c = let f = law.alt-fits (c .before .before .before .before .args .tokens .now) (c .before .before .before .before .args .at) (c .before .before .before .before .pre .0) (c .before .before .before .before .pre .1) in let s = law.size-five (c .before .before .before .before .args .tokens .now) (c .before .before .before .before .args .at) (c .before .before .before .before .pre .1) in let pre = c .before .before .before .before .pre in omega arith
+add-to-2 c =
+    let at-start = c .before .before .before .before in
+    let f = law.alt-fits (at-start .args .tokens .now) (at-start .args .at) (at-start .pre .0) (at-start .pre .1) in let s = law.size-five (at-start .args .tokens .now) (at-start .args .at) (at-start .pre .1) in let pre = at-start .pre in omega arith
 
--- src/lib.rt:236:23
 mul-add-lists : tie.Need-mul-add-lists
-mul-add-lists c = let f = law.alt-fits (c .before .before .before .before .args .tokens .now) (c .before .before .before .before .args .at) (c .before .before .before .before .pre .0) (c .before .before .before .before .pre .1) in let s = law.size-five (c .before .before .before .before .args .tokens .now) (c .before .before .before .before .args .at) (c .before .before .before .before .pre .1) in let pre = c .before .before .before .before .pre in omega arith
+mul-add-lists c =
+    let at-start = c .before .before .before .before in
+    let f = law.alt-fits (at-start .args .tokens .now) (at-start .args .at) (at-start .pre .0) (at-start .pre .1) in let s = law.size-five (at-start .args .tokens .now) (at-start .args .at) (at-start .pre .1) in let pre = at-start .pre in omega arith
 
--- src/lib.rt:236:23
 sub-add-lists : tie.Need-sub-add-lists
-sub-add-lists c = let f = law.alt-fits (c .before .before .before .before .args .tokens .now) (c .before .before .before .before .args .at) (c .before .before .before .before .pre .0) (c .before .before .before .before .pre .1) in let s = law.size-five (c .before .before .before .before .args .tokens .now) (c .before .before .before .before .args .at) (c .before .before .before .before .pre .1) in let pre = c .before .before .before .before .pre in omega arith
+sub-add-lists c =
+    let at-start = c .before .before .before .before in
+    let f = law.alt-fits (at-start .args .tokens .now) (at-start .args .at) (at-start .pre .0) (at-start .pre .1) in let s = law.size-five (at-start .args .tokens .now) (at-start .args .at) (at-start .pre .1) in let pre = at-start .pre in omega arith
 
--- src/lib.rt:236:23
 part-add-lists-start : tie.Need-part-add-lists-start
-part-add-lists-start c = let f = law.alt-fits (c .before .before .before .before .args .tokens .now) (c .before .before .before .before .args .at) (c .before .before .before .before .pre .0) (c .before .before .before .before .pre .1) in let s = law.size-five (c .before .before .before .before .args .tokens .now) (c .before .before .before .before .args .at) (c .before .before .before .before .pre .1) in let pre = c .before .before .before .before .pre in omega arith
+part-add-lists-start c =
+    let at-start = c .before .before .before .before in
+    let f = law.alt-fits (at-start .args .tokens .now) (at-start .args .at) (at-start .pre .0) (at-start .pre .1) in let s = law.size-five (at-start .args .tokens .now) (at-start .args .at) (at-start .pre .1) in let pre = at-start .pre in omega arith
 
--- src/lib.rt:236:23
 part-add-lists-end : tie.Need-part-add-lists-end
-part-add-lists-end c = let f = law.alt-fits (c .before .before .before .before .args .tokens .now) (c .before .before .before .before .args .at) (c .before .before .before .before .pre .0) (c .before .before .before .before .pre .1) in let s = law.size-five (c .before .before .before .before .args .tokens .now) (c .before .before .before .before .args .at) (c .before .before .before .before .pre .1) in let pre = c .before .before .before .before .pre in omega arith
+part-add-lists-end c =
+    let at-start = c .before .before .before .before in
+    let f = law.alt-fits (at-start .args .tokens .now) (at-start .args .at) (at-start .pre .0) (at-start .pre .1) in let s = law.size-five (at-start .args .tokens .now) (at-start .args .at) (at-start .pre .1) in let pre = at-start .pre in omega arith
 
--- src/lib.rt:236:60
 sub-add-lists-2 : tie.Need-sub-add-lists-2
-sub-add-lists-2 c = let f = law.alt-fits (c .before .before .before .before .before .args .tokens .now) (c .before .before .before .before .before .args .at) (c .before .before .before .before .before .pre .0) (c .before .before .before .before .before .pre .1) in let s = law.size-five (c .before .before .before .before .before .args .tokens .now) (c .before .before .before .before .before .args .at) (c .before .before .before .before .before .pre .1) in let pre = c .before .before .before .before .before .pre in omega arith
+sub-add-lists-2 c =
+    let at-start = c .before .before .before .before .before in
+    let f = law.alt-fits (at-start .args .tokens .now) (at-start .args .at) (at-start .pre .0) (at-start .pre .1) in let s = law.size-five (at-start .args .tokens .now) (at-start .args .at) (at-start .pre .1) in let pre = at-start .pre in omega arith
 
--- src/lib.rt:236:60
 part-add-lists-start-2 : tie.Need-part-add-lists-start-2
-part-add-lists-start-2 c = let f = law.alt-fits (c .before .before .before .before .before .args .tokens .now) (c .before .before .before .before .before .args .at) (c .before .before .before .before .before .pre .0) (c .before .before .before .before .before .pre .1) in let s = law.size-five (c .before .before .before .before .before .args .tokens .now) (c .before .before .before .before .before .args .at) (c .before .before .before .before .before .pre .1) in let pre = c .before .before .before .before .before .pre in omega arith
+part-add-lists-start-2 c =
+    let at-start = c .before .before .before .before .before in
+    let f = law.alt-fits (at-start .args .tokens .now) (at-start .args .at) (at-start .pre .0) (at-start .pre .1) in let s = law.size-five (at-start .args .tokens .now) (at-start .args .at) (at-start .pre .1) in let pre = at-start .pre in omega arith
 
--- src/lib.rt:236:60
 part-add-lists-end-2 : tie.Need-part-add-lists-end-2
-part-add-lists-end-2 c = let f = law.alt-fits (c .before .before .before .before .before .args .tokens .now) (c .before .before .before .before .before .args .at) (c .before .before .before .before .before .pre .0) (c .before .before .before .before .before .pre .1) in let s = law.size-five (c .before .before .before .before .before .args .tokens .now) (c .before .before .before .before .before .args .at) (c .before .before .before .before .before .pre .1) in let pre = c .before .before .before .before .before .pre in omega arith
+part-add-lists-end-2 c =
+    let at-start = c .before .before .before .before .before in
+    let f = law.alt-fits (at-start .args .tokens .now) (at-start .args .at) (at-start .pre .0) (at-start .pre .1) in let s = law.size-five (at-start .args .tokens .now) (at-start .args .at) (at-start .pre .1) in let pre = at-start .pre in omega arith
 
--- src/lib.rt:236:9
 add-lists-requires : tie.Need-add-lists-requires
-add-lists-requires c κs = let f = law.alt-fits (c .before .before .before .before .before .before .args .tokens .now) (c .before .before .before .before .before .before .args .at) (c .before .before .before .before .before .before .pre .0) (c .before .before .before .before .before .before .pre .1) in let s = law.size-five (c .before .before .before .before .before .before .args .tokens .now) (c .before .before .before .before .before .before .args .at) (c .before .before .before .before .before .before .pre .1) in let pre = c .before .before .before .before .before .before .pre in let p = law.handed-long (c .before .before .before .before .before .before .args .tokens .now) (c .before .before .before .before .before .before .args .at) (c .before .before .before .before .before .before .pre .0) (c .before .before .before .before .before .before .pre .1) in (law.handed-listed (c .before .before .before .before .before .before .args .tokens .now) (c .before .before .before .before .before .before .args .at) (c .before .before .before .before .before .before .pre .0) (c .before .before .before .before .before .before .pre .1), omega arith, simp (length-take, length-drop) (omega arith))
+add-lists-requires c κs =
+    let at-start = c .before .before .before .before .before .before in
+    let f = law.alt-fits (at-start .args .tokens .now) (at-start .args .at) (at-start .pre .0) (at-start .pre .1) in let s = law.size-five (at-start .args .tokens .now) (at-start .args .at) (at-start .pre .1) in let pre = at-start .pre in let p = law.handed-long (at-start .args .tokens .now) (at-start .args .at) (at-start .pre .0) (at-start .pre .1) in (law.handed-listed (at-start .args .tokens .now) (at-start .args .at) (at-start .pre .0) (at-start .pre .1), omega arith, simp (length-take, length-drop) (omega arith))
 
--- src/lib.rt:238:42
 cast-t23 : tie.Need-cast-t23
-cast-t23 c = let f = law.alt-fits (c .before .before .before .before .before .before .before .before .before .args .tokens .now) (c .before .before .before .before .before .before .before .before .before .args .at) (c .before .before .before .before .before .before .before .before .before .pre .0) (c .before .before .before .before .before .before .before .before .before .pre .1) in let s = law.size-five (c .before .before .before .before .before .before .before .before .before .args .tokens .now) (c .before .before .before .before .before .before .before .before .before .args .at) (c .before .before .before .before .before .before .before .before .before .pre .1) in let pre = c .before .before .before .before .before .before .before .before .before .pre in omega (arith, law.handed-few (c .before .before .before .before .before .before .before .before .before .args .tokens .now) (c .before .before .before .before .before .before .before .before .before .args .at) (c .before .before .before .before .before .before .before .before .before .pre .0) (c .before .before .before .before .before .before .before .before .before .pre .1) (c .before .before .before .before .before .before .before .before .before .args .backwards), c .before .before .add-lists .ensures .0)
+cast-t23 c =
+    let at-add-lists = c .before .before .add-lists in
+    let at-start = c .before .before .before .before .before .before .before .before .before in
+    let f = law.alt-fits (at-start .args .tokens .now) (at-start .args .at) (at-start .pre .0) (at-start .pre .1) in let s = law.size-five (at-start .args .tokens .now) (at-start .args .at) (at-start .pre .1) in let pre = at-start .pre in omega (arith, law.handed-few (at-start .args .tokens .now) (at-start .args .at) (at-start .pre .0) (at-start .pre .1) (at-start .args .backwards), at-add-lists .ensures .0)
 
--- src/lib.rt:238:14
 node-word-requires : tie.Need-node-word-requires
 node-word-requires c κs = search needs
 
--- src/lib.rt:238:5
 slice-write-out : tie.Need-slice-write-out
-slice-write-out c = let f = law.alt-fits (c .before .before .before .before .before .before .before .before .before .before .args .tokens .now) (c .before .before .before .before .before .before .before .before .before .before .args .at) (c .before .before .before .before .before .before .before .before .before .before .pre .0) (c .before .before .before .before .before .before .before .before .before .before .pre .1) in let s = law.size-five (c .before .before .before .before .before .before .before .before .before .before .args .tokens .now) (c .before .before .before .before .before .before .before .before .before .before .args .at) (c .before .before .before .before .before .before .before .before .before .before .pre .1) in let pre = c .before .before .before .before .before .before .before .before .before .before .pre in omega arith
+slice-write-out c =
+    let at-start = c .before .before .before .before .before .before .before .before .before .before in
+    let f = law.alt-fits (at-start .args .tokens .now) (at-start .args .at) (at-start .pre .0) (at-start .pre .1) in let s = law.size-five (at-start .args .tokens .now) (at-start .args .at) (at-start .pre .1) in let pre = at-start .pre in omega arith
 
--- src/lib.rt:239:23
 add-t15 : tie.Need-add-t15
-add-t15 c = let f = law.alt-fits (c .before .before .before .before .before .before .before .before .before .before .args .tokens .now) (c .before .before .before .before .before .before .before .before .before .before .args .at) (c .before .before .before .before .before .before .before .before .before .before .pre .0) (c .before .before .before .before .before .before .before .before .before .before .pre .1) in let s = law.size-five (c .before .before .before .before .before .before .before .before .before .before .args .tokens .now) (c .before .before .before .before .before .before .before .before .before .before .args .at) (c .before .before .before .before .before .before .before .before .before .before .pre .1) in let pre = c .before .before .before .before .before .before .before .before .before .before .pre in omega arith
+add-t15 c =
+    let at-start = c .before .before .before .before .before .before .before .before .before .before in
+    let f = law.alt-fits (at-start .args .tokens .now) (at-start .args .at) (at-start .pre .0) (at-start .pre .1) in let s = law.size-five (at-start .args .tokens .now) (at-start .args .at) (at-start .pre .1) in let pre = at-start .pre in omega arith
 
--- src/lib.rt:226:1
 same-length : tie.Need-same-length
 same-length c = search needs
 
--- src/lib.rt:226:1
 returns : tie.Need-returns
-returns c = let f = law.alt-fits (c .before .before .before .before .before .before .before .before .before .before .args .tokens .now) (c .before .before .before .before .before .before .before .before .before .before .args .at) (c .before .before .before .before .before .before .before .before .before .before .pre .0) (c .before .before .before .before .before .before .before .before .before .before .pre .1) in let s = law.size-five (c .before .before .before .before .before .before .before .before .before .before .args .tokens .now) (c .before .before .before .before .before .before .before .before .before .before .args .at) (c .before .before .before .before .before .before .before .before .before .before .pre .1) in let pre = c .before .before .before .before .before .before .before .before .before .before .pre in law.alternation (c .before .before .before .before .before .before .before .before .before .before .args .tokens .now) (c .before .before .before .before .before .before .before .before .before .before .args .at) (c .before .before .before .before .before .before .before .before .before .before .pre .0) (c .before .before .before .before .before .before .before .before .before .before .pre .1) (c .before .before .before .before .before .before .before .before .before .before .args .backwards) (c .before .before .before .before .before .before .before .before .before .before .args .out .now) (c .before .before .before .add-lists .last .1 .1 .1 .0) (c .before .before .before .add-lists .result .count) (c .node-word .result) (c .before .before .before .add-lists .result .long) (omega arith) (c .before .before .before .add-lists .ensures .0) (c .before .before .before .add-lists .ensures .1) (c .before .before .before .add-lists .ensures .2) (c .node-word .ensures)
+returns c =
+    let at-add-lists = c .before .before .before .add-lists in
+    let at-start = c .before .before .before .before .before .before .before .before .before .before in
+    let f = law.alt-fits (at-start .args .tokens .now) (at-start .args .at) (at-start .pre .0) (at-start .pre .1) in let s = law.size-five (at-start .args .tokens .now) (at-start .args .at) (at-start .pre .1) in let pre = at-start .pre in law.alternation (at-start .args .tokens .now) (at-start .args .at) (at-start .pre .0) (at-start .pre .1) (at-start .args .backwards) (at-start .args .out .now) (at-add-lists .last .1 .1 .1 .0) (at-add-lists .result .count) (c .node-word .result) (at-add-lists .result .long) (omega arith) (at-add-lists .ensures .0) (at-add-lists .ensures .1) (at-add-lists .ensures .2) (c .node-word .ensures)
 
 pub add-alternation-spec : {M : Type 1} → statement M
 add-alternation-spec =

@@ -15,82 +15,78 @@ Inv-loop entries backwards out₀ count n₀ last₀ k₀ out n last k = (k ≤ 
 abbrev μ-loop : tie.MeasureT-loop
 μ-loop entries backwards out₀ count n₀ last₀ k₀ out n last k = length entries / 4 - k
 
--- src/lib.rt:159:5
 loop-holds : tie.Need-loop-holds Inv-loop μ-loop
-loop-holds c = (omega arith, omega arith, refl, law.added-none (listItem (c .before .before .args .backwards) (c .before .before .args .entries .now)) (c .before .before .args .out .now))
+loop-holds c =
+    let at-start = c .before .before in
+    (omega arith, omega arith, refl, law.added-none (listItem (at-start .args .backwards) (at-start .args .entries .now)) (at-start .args .out .now))
 
--- src/lib.rt:160:22
 place-requires : tie.Need-place-requires Inv-loop μ-loop
 place-requires c κs = search needs
 
--- src/lib.rt:160:18
 mul-at : tie.Need-mul-at Inv-loop μ-loop
 mul-at c = search needs
 
--- src/lib.rt:161:33
 mul-entry-piece : tie.Need-mul-entry-piece Inv-loop μ-loop
 mul-entry-piece c = search needs
 
--- src/lib.rt:161:33
 shared-slice-read-entry-piece : tie.Need-shared-slice-read-entry-piece Inv-loop μ-loop
 shared-slice-read-entry-piece c = search needs
 
--- src/lib.rt:161:54
 add-entry-piece : tie.Need-add-entry-piece Inv-loop μ-loop
 add-entry-piece c = search needs
 
--- src/lib.rt:161:46
 mul-entry-piece-2 : tie.Need-mul-entry-piece-2 Inv-loop μ-loop
 mul-entry-piece-2 c = search needs
 
--- src/lib.rt:161:46
 shared-slice-read-entry-piece-2 : tie.Need-shared-slice-read-entry-piece-2 Inv-loop μ-loop
 shared-slice-read-entry-piece-2 c = search needs
 
--- src/lib.rt:161:71
 add-entry-piece-2 : tie.Need-add-entry-piece-2 Inv-loop μ-loop
 add-entry-piece-2 c = search needs
 
--- src/lib.rt:161:63
 mul-entry-piece-3 : tie.Need-mul-entry-piece-3 Inv-loop μ-loop
 mul-entry-piece-3 c = search needs
 
--- src/lib.rt:161:63
 shared-slice-read-entry-piece-3 : tie.Need-shared-slice-read-entry-piece-3 Inv-loop μ-loop
 shared-slice-read-entry-piece-3 c = search needs
 
--- src/lib.rt:161:13
 entry-piece-requires : tie.Need-entry-piece-requires Inv-loop μ-loop
 entry-piece-requires c κs = search needs
 
--- src/lib.rt:162:13
 add-piece-requires : tie.Need-add-piece-requires Inv-loop μ-loop
-add-piece-requires c κs = (omega (arith, c .before .before .before .before .before .before .before .before .before .before .pre), hold.holds-behind _ (c .before .before .before .before .before .before .before .before .before .before .args .out .now) (c .before .before .before .before .before .before .before .loop .out) (c .before .before .before .before .before .before .before .loop .n) (c .before .before .before .before .before .before .before .loop .last) (c .before .before .before .before .before .before .before .loop .inv .3))
+add-piece-requires c κs =
+    let at-loop = c .before .before .before .before .before .before .before .loop in
+    let at-start = c .before .before .before .before .before .before .before .before .before .before in
+    (omega (arith, at-start .pre), hold.holds-behind _ (at-start .args .out .now) (at-loop .out) (at-loop .n) (at-loop .last) (at-loop .inv .3))
 
--- src/lib.rt:165:9
 add-k : tie.Need-add-k Inv-loop μ-loop
 add-k c = search needs
 
--- src/lib.rt:159:5
 loop-less : tie.Need-loop-less Inv-loop μ-loop
 loop-less c = search needs
 
--- src/lib.rt:159:5
 loop-again : tie.Need-loop-again Inv-loop μ-loop
-loop-again c = let l = c .before .before .before .before .before .before .before .before .before .before .loop in
-    let p : c .before .before .before .before .entry-piece .result ≡ _ = law.list-piece (c .before .before .before .before .before .before .before .before .before .before .before .before .before .args .backwards) (c .before .before .before .before .before .before .before .before .before .before .before .before .before .args .entries .now) (l .k) (c .before .before .before .before .entry-piece .result) (4 * c .before .before .before .before .before .before .before .before .place .result) (c .before .before .before .before .before .before .before .before .place .result) refl (c .before .before .before .before .before .before .before .before .place .ensures .0) (c .before .before .before .before .entry-piece .ensures) in
-    let r : l .n < length (l .out) = omega (arith, c .before .before .before .before .before .before .before .before .before .before .before .before .before .pre) in
-    let h = law.added-more (listItem (c .before .before .before .before .before .before .before .before .before .before .before .before .before .args .backwards) (c .before .before .before .before .before .before .before .before .before .before .before .before .before .args .entries .now)) (l .k) (c .before .before .before .before .before .before .before .before .before .before .before .before .before .args .out .now) (l .out) (l .n) (l .last) (c .before .before .before .before .entry-piece .result) _ _ _ (law.list-single (c .before .before .before .before .before .before .before .before .before .before .before .before .before .args .backwards) (c .before .before .before .before .before .before .before .before .before .before .before .before .before .args .entries .now) (l .k)) p r (l .inv .3) (c .before .before .add-piece .ensures) in
-    (omega arith, omega (arith, hold.put-count-le (l .n) (l .last) (c .before .before .before .before .entry-piece .result), c .before .before .add-piece .ensures .0), (c .before .before .add-piece .kept .0) ∙ l .inv .2, h)
+loop-again c =
+    let at-add-piece = c .before .before .add-piece in
+    let at-entry-piece = c .before .before .before .before .entry-piece in
+    let at-place = c .before .before .before .before .before .before .before .before .place in
+    let at-loop = c .before .before .before .before .before .before .before .before .before .before .loop in
+    let at-start = c .before .before .before .before .before .before .before .before .before .before .before .before .before in
+    let l = at-loop in
+    let p : at-entry-piece .result ≡ _ = law.list-piece (at-start .args .backwards) (at-start .args .entries .now) (l .k) (at-entry-piece .result) (4 * at-place .result) (at-place .result) refl (at-place .ensures .0) (at-entry-piece .ensures) in
+    let r : l .n < length (l .out) = omega (arith, at-start .pre) in
+    let h = law.added-more (listItem (at-start .args .backwards) (at-start .args .entries .now)) (l .k) (at-start .args .out .now) (l .out) (l .n) (l .last) (at-entry-piece .result) _ _ _ (law.list-single (at-start .args .backwards) (at-start .args .entries .now) (l .k)) p r (l .inv .3) (at-add-piece .ensures) in
+    (omega arith, omega (arith, hold.put-count-le (l .n) (l .last) (at-entry-piece .result), at-add-piece .ensures .0), (at-add-piece .kept .0) ∙ l .inv .2, h)
 
--- src/lib.rt:150:1
 same-length : tie.Need-same-length Inv-loop μ-loop
 same-length c = search needs
 
--- src/lib.rt:150:1
 returns : tie.Need-returns Inv-loop μ-loop
-returns c = let l = c .before .loop in
-    let h = law.list-done (c .before .before .before .before .args .backwards) (c .before .before .before .before .args .entries .now) (l .k) (c .before .before .before .before .args .out .now) (l .out) (l .n) (l .last) (omega arith) (l .inv .3) in
+returns c =
+    let at-loop = c .before .loop in
+    let at-start = c .before .before .before .before in
+    let l = at-loop in
+    let h = law.list-done (at-start .args .backwards) (at-start .args .entries .now) (l .k) (at-start .args .out .now) (l .out) (l .n) (l .last) (omega arith) (l .inv .3) in
     (h .count, h .front)
 
 pub add-list-spec : {M : Type 1} → statement M

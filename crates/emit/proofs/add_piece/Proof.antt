@@ -5,45 +5,42 @@ use borrow.Author.Needs.{needs}
 use Rattle.emit.proofs.add_piece.Statement.{statement}
 use Rattle.emit.proofs.add_piece.Tie as tie
 
--- src/lib.rt:109:21
 enum-known-piece : tie.Need-enum-known-piece
 enum-known-piece c = search needs
 
--- src/lib.rt:110:13
 mul-out : tie.Need-mul-out
 mul-out c = search needs
 
--- src/lib.rt:110:13
 slice-write-out : tie.Need-slice-write-out
 slice-write-out c = search needs
 
--- src/lib.rt:111:27
 add-t8 : tie.Need-add-t8
 add-t8 c = search needs
 
--- src/lib.rt:113:20
 enum-known-piece-2 : tie.Need-enum-known-piece-2
 enum-known-piece-2 c = search needs
 
--- src/lib.rt:113:28
 add-jump-requires : tie.Need-add-jump-requires
 add-jump-requires c κs = search needs
 
--- src/lib.rt:103:1
 same-length : tie.Need-same-length
 same-length c = search needs
 
--- src/lib.rt:103:1
 returns : tie.Need-returns
-returns c = law.put-word (c .before .before .before .before .args .out .now) (c .before .before .before .before .args .n) (c .before .before .before .before .args .last) (c .before .before .before .before .args .piece) (c .before .piece .given .0 .0) (c .before .piece .given .1)
+returns c =
+    let at-piece = c .before .piece in
+    let at-start = c .before .before .before .before in
+    law.put-word (at-start .args .out .now) (at-start .args .n) (at-start .args .last) (at-start .args .piece) (at-piece .given .0 .0) (at-piece .given .1)
 
--- src/lib.rt:103:1
 same-length-2 : tie.Need-same-length-2
 same-length-2 c = search needs
 
--- src/lib.rt:103:1
 returns-2 : tie.Need-returns-2
-returns-2 c = subst (λ (x : Piece). law.Puts (c .before .before .before .before .before .before .before .before .args .out .now) (c .before .before .before .before .before .before .before .before .args .n) (c .before .before .before .before .before .before .before .before .args .last) x (c .before .before .add-jump .result .count) (c .before .before .add-jump .result .last) (c .before .before .add-jump .last .0)) (sym (c .before .before .before .before .before .piece2 .given .1)) (c .before .before .add-jump .ensures)
+returns-2 c =
+    let at-add-jump = c .before .before .add-jump in
+    let at-piece2 = c .before .before .before .before .before .piece2 in
+    let at-start = c .before .before .before .before .before .before .before .before in
+    subst (λ (x : Piece). law.Puts (at-start .args .out .now) (at-start .args .n) (at-start .args .last) x (at-add-jump .result .count) (at-add-jump .result .last) (at-add-jump .last .0)) (sym (at-piece2 .given .1)) (at-add-jump .ensures)
 
 pub add-piece-spec : {M : Type 1} → statement M
 add-piece-spec =

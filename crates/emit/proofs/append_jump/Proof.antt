@@ -5,29 +5,25 @@ use borrow.Author.Needs.{needs}
 use Rattle.emit.proofs.append_jump.Statement.{statement}
 use Rattle.emit.proofs.append_jump.Tie as tie
 
--- src/lib.rt:91:14
 node-word-requires : tie.Need-node-word-requires
 node-word-requires c κs = search needs
 
--- src/lib.rt:91:5
 mul-out : tie.Need-mul-out
 mul-out c = search needs
 
--- src/lib.rt:91:5
 slice-write-out : tie.Need-slice-write-out
 slice-write-out c = search needs
 
--- src/lib.rt:92:19
 add-t6 : tie.Need-add-t6
 add-t6 c = search needs
 
--- src/lib.rt:87:1
 same-length : tie.Need-same-length
 same-length c = search needs
 
--- src/lib.rt:87:1
 returns : tie.Need-returns
-returns c = (refl, refl, ap (λ (w : ℕ). set (c .before .before .args .out .now) (c .before .before .args .n) w) (c .node-word .ensures))
+returns c =
+    let at-start = c .before .before in
+    (refl, refl, ap (λ (w : ℕ). set (at-start .args .out .now) (at-start .args .n) w) (c .node-word .ensures))
 
 pub append-jump-spec : {M : Type 1} → statement M
 append-jump-spec =

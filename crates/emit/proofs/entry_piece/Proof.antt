@@ -7,58 +7,56 @@ use borrow.Author.Needs.{needs}
 use Rattle.emit.proofs.entry_piece.Statement.{statement}
 use Rattle.emit.proofs.entry_piece.Tie as tie
 
--- src/lib.rt:73:13
 cast-v : tie.Need-cast-v
 cast-v c = search needs
 
--- src/lib.rt:75:26
 node-word-requires : tie.Need-node-word-requires
 node-word-requires c κs = search needs
 
--- src/lib.rt:76:26
 node-word-requires-2 : tie.Need-node-word-requires-2
 node-word-requires-2 c κs = search needs
 
--- src/lib.rt:77:14
 mask-piece-requires : tie.Need-mask-piece-requires
 mask-piece-requires c κs = search needs
 
--- src/lib.rt:78:14
 not-mask-piece-requires : tie.Need-not-mask-piece-requires
 not-mask-piece-requires c κs = search needs
 
--- src/lib.rt:79:28
 cast-jump-piece : tie.Need-cast-jump-piece
 cast-jump-piece c = search needs
 
--- src/lib.rt:79:14
 jump-piece-requires : tie.Need-jump-piece-requires
 jump-piece-requires c κs = search needs
 
--- src/lib.rt:70:1
 returns : tie.Need-returns
 unfolding pieceOf wordFor entryItem
-returns c = rw (c .before .match .keys1) (ap Word (c .node-word .ensures))
+returns c =
+    let at-match = c .before .match in
+    rw (at-match .keys1) (ap Word (c .node-word .ensures))
 
--- src/lib.rt:70:1
 returns-2 : tie.Need-returns-2
 unfolding pieceOf wordFor entryItem
-returns-2 c = rw (c .before .match .keys2) (ap Word (c .node-word2 .ensures))
+returns-2 c =
+    let at-match = c .before .match in
+    rw (at-match .keys2) (ap Word (c .node-word2 .ensures))
 
--- src/lib.rt:70:1
 returns-3 : tie.Need-returns-3
 unfolding entryItem
-returns-3 c = rw (c .before .match .keys3) (c .mask-piece .ensures)
+returns-3 c =
+    let at-match = c .before .match in
+    rw (at-match .keys3) (c .mask-piece .ensures)
 
--- src/lib.rt:70:1
 returns-4 : tie.Need-returns-4
 unfolding entryItem
-returns-4 c = rw (c .before .match .keys4) (c .not-mask-piece .ensures)
+returns-4 c =
+    let at-match = c .before .match in
+    rw (at-match .keys4) (c .not-mask-piece .ensures)
 
--- src/lib.rt:70:1
 returns-5 : tie.Need-returns-5
 unfolding entryItem
-returns-5 c = rw (ne-eqb _ 0 (c .before .match .rest .0 .0 .0 .1), ne-eqb _ 1 (c .before .match .rest .0 .0 .1), ne-eqb _ 2 (c .before .match .rest .0 .1), ne-eqb _ 3 (c .before .match .rest .1)) (c .jump-piece .ensures)
+returns-5 c =
+    let at-match = c .before .match in
+    rw (ne-eqb _ 0 (at-match .rest .0 .0 .0 .1), ne-eqb _ 1 (at-match .rest .0 .0 .1), ne-eqb _ 2 (at-match .rest .0 .1), ne-eqb _ 3 (at-match .rest .1)) (c .jump-piece .ensures)
 
 pub entry-piece-spec : {M : Type 1} → statement M
 entry-piece-spec =

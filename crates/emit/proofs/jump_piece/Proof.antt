@@ -7,16 +7,15 @@ use borrow.Author.Needs.{needs}
 use Rattle.emit.proofs.jump_piece.Statement.{statement}
 use Rattle.emit.proofs.jump_piece.Tie as tie
 
--- src/lib.rt:63:28
 node-word-requires : tie.Need-node-word-requires
 node-word-requires c κs = search needs
 
--- src/lib.rt:63:9
 returns : tie.Need-returns
 unfolding pieceOf wordFor jumpItem
-returns c = rw (lt-ltb _ _ (c .before .if1 .taken)) (ap Word (c .node-word .ensures))
+returns c =
+    let at-if1 = c .before .if1 in
+    rw (lt-ltb _ _ (at-if1 .taken)) (ap Word (c .node-word .ensures))
 
--- src/lib.rt:59:1
 returns-2 : tie.Need-returns-2
 unfolding pieceOf wordFor jumpItem
 returns-2 c = rw (le-ltb _ _ (c .if1 .left))

@@ -4,7 +4,6 @@ use mathlib.Core.Path.{_≡_, refl}
 use Rattle.emit.proofs.longer.Statement.{statement}
 use Rattle.emit.proofs.longer.Tie as tie
 
--- src/lib.rt:191:9
 returns : tie.Need-returns
 returns c = rw (lt-leb _ _ (c .if1 .taken)) (go (c .before .args .long))
   where
@@ -12,7 +11,6 @@ returns c = rw (lt-leb _ _ (c .if1 .taken)) (go (c .before .args .long))
     go true = refl
     go false = refl
 
--- src/lib.rt:187:1
 returns-2 : tie.Need-returns-2
 returns-2 c = rw (le-leb _ _ (c .if1 .left)) (go (c .before .args .long))
   where

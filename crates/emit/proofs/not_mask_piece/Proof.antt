@@ -7,40 +7,39 @@ use borrow.Author.Needs.{needs}
 use Rattle.emit.proofs.not_mask_piece.Statement.{statement}
 use Rattle.emit.proofs.not_mask_piece.Tie as tie
 
--- src/lib.rt:49:13
 cast-v : tie.Need-cast-v
 cast-v c = search needs
 
--- src/lib.rt:51:28
 node-word-requires : tie.Need-node-word-requires
 node-word-requires c κs = search needs
 
--- src/lib.rt:51:9
 returns : tie.Need-returns
 unfolding pieceOf wordFor notMaskItem
-returns c = rw (c .before .if1 .taken) (ap Word (c .node-word .ensures))
+returns c =
+    let at-if1 = c .before .if1 in
+    rw (at-if1 .taken) (ap Word (c .node-word .ensures))
 
--- src/lib.rt:54:70
 mul-t10 : tie.Need-mul-t10
 mul-t10 c = search needs
 
--- src/lib.rt:54:28
 node-word-requires-2 : tie.Need-node-word-requires-2
 node-word-requires-2 c κs = search needs
 
--- src/lib.rt:54:9
 returns-2 : tie.Need-returns-2
 unfolding pieceOf wordFor notMaskItem
-returns-2 c = rw (c .before .if2 .taken) (ap Word (c .node-word2 .ensures))
+returns-2 c =
+    let at-if2 = c .before .if2 in
+    rw (at-if2 .taken) (ap Word (c .node-word2 .ensures))
 
--- src/lib.rt:56:17
 node-word-requires-3 : tie.Need-node-word-requires-3
 node-word-requires-3 c κs = search needs
 
--- src/lib.rt:46:1
 returns-3 : tie.Need-returns-3
 unfolding pieceOf wordFor notMaskItem
-returns-3 c = rw (ne-eqb _ _ (c .before .before .if1 .left), ne-eqb _ _ (c .before .if2 .left)) (ap Word (c .node-word3 .ensures))
+returns-3 c =
+    let at-if2 = c .before .if2 in
+    let at-if1 = c .before .before .if1 in
+    rw (ne-eqb _ _ (at-if1 .left), ne-eqb _ _ (at-if2 .left)) (ap Word (c .node-word3 .ensures))
 
 pub not-mask-piece-spec : {M : Type 1} → statement M
 not-mask-piece-spec =

@@ -133,16 +133,22 @@ module _ (t : ℕ) where
 
   branches-sub-bs : branches-lts.Need-sub-bs (branches-claims t) (branches-at t) branches.Post branches-Inv-loop branches-μ-loop branches-Inv-branches branches-μ-branches
   branches-sub-bs c =
-      let L = c .before .before .before .before .branches .bs .now in
-      let W = c .before .w .given .0 .0 in
-      let e = sym (c .before .before .before .first-word .ensures) ∙ c .before .w .given .1 in
+      let at-w = c .before .w in
+      let at-first-word = c .before .before .before .first-word in
+      let at-branches = c .before .before .before .before .branches in
+      let L = at-branches .bs .now in
+      let W = at-w .given .0 .0 in
+      let e = sym (at-first-word .ensures) ∙ at-w .given .1 in
       word-pos L W e
 
   branches-part-bs-start : branches-lts.Need-part-bs-start (branches-claims t) (branches-at t) branches.Post branches-Inv-loop branches-μ-loop branches-Inv-branches branches-μ-branches
   branches-part-bs-start c =
-      let L = c .before .before .before .before .branches .bs .now in
-      let W = c .before .w .given .0 .0 in
-      let e = sym (c .before .before .before .first-word .ensures) ∙ c .before .w .given .1 in
+      let at-w = c .before .w in
+      let at-first-word = c .before .before .before .first-word in
+      let at-branches = c .before .before .before .before .branches in
+      let L = at-branches .bs .now in
+      let W = at-w .given .0 .0 in
+      let e = sym (at-first-word .ensures) ∙ at-w .given .1 in
       word-pos L W e
 
   branches-part-bs-end : branches-lts.Need-part-bs-end (branches-claims t) (branches-at t) branches.Post branches-Inv-loop branches-μ-loop branches-Inv-branches branches-μ-branches
@@ -153,19 +159,25 @@ module _ (t : ℕ) where
 
   branches-slice-aggregate-flat : branches-lts.Need-slice-aggregate-flat (branches-claims t) (branches-at t) branches.Post branches-Inv-loop branches-μ-loop branches-Inv-branches branches-μ-branches
   branches-slice-aggregate-flat c =
-      let L = c .before .before .before .before .before .before .branches .bs .now in
-      let W = c .before .before .before .w .given .0 .0 in
-      let e = sym (c .before .before .before .before .before .first-word .ensures) ∙ c .before .before .before .w .given .1 in
-      let sb = c .before .before .before .before .before .before .branches .inv .0 in
+      let at-w = c .before .before .before .w in
+      let at-first-word = c .before .before .before .before .before .first-word in
+      let at-branches = c .before .before .before .before .before .before .branches in
+      let L = at-branches .bs .now in
+      let W = at-w .given .0 .0 in
+      let e = sym (at-first-word .ensures) ∙ at-w .given .1 in
+      let sb = at-branches .inv .0 in
       let marked = alts.head-marked L W e sb in
       sym (length-take-le _ _ (marked .fits))
 
   branches-flat-requires : branches-lts.Need-flat-requires (branches-claims t) (branches-at t) branches.Post branches-Inv-loop branches-μ-loop branches-Inv-branches branches-μ-branches
   branches-flat-requires c κs =
-      let L = c .before .before .before .before .before .before .branches .bs .now in
-      let W = c .before .before .before .w .given .0 .0 in
-      let e = sym (c .before .before .before .before .before .first-word .ensures) ∙ c .before .before .before .w .given .1 in
-      let sb = c .before .before .before .before .before .before .branches .inv .0 in
+      let at-w = c .before .before .before .w in
+      let at-first-word = c .before .before .before .before .before .first-word in
+      let at-branches = c .before .before .before .before .before .before .branches in
+      let L = at-branches .bs .now in
+      let W = at-w .given .0 .0 in
+      let e = sym (at-first-word .ensures) ∙ at-w .given .1 in
+      let sb = at-branches .inv .0 in
       let marked = alts.head-marked L W e sb in
       marked .inside
 
@@ -174,8 +186,11 @@ module _ (t : ℕ) where
 
   branches-sub-used : branches-lts.Need-sub-used (branches-claims t) (branches-at t) branches.Post branches-Inv-loop branches-μ-loop branches-Inv-branches branches-μ-branches
   branches-sub-used c =
-      let M = c .before .before .before .before .before .before .before .before .before .before .before .before .before .before .args .mem .now in
-      let fits = sym (c .before .got .given .1) ∙ c .before .before .before .flat .ensures in
+      let at-got = c .before .got in
+      let at-flat = c .before .before .before .flat in
+      let at-start = c .before .before .before .before .before .before .before .before .before .before .before .before .before .before in
+      let M = at-start .args .mem .now in
+      let fits = sym (at-got .given .1) ∙ at-flat .ensures in
       left-fits short _ M _ fits
 
   branches-sub-tail : branches-lts.Need-sub-tail (branches-claims t) (branches-at t) branches.Post branches-Inv-loop branches-μ-loop branches-Inv-branches branches-μ-branches
@@ -210,8 +225,9 @@ module _ (t : ℕ) where
 
   branches-check-requires : branches-lts.Need-check-requires (branches-claims t) (branches-at t) branches.Post branches-Inv-loop branches-μ-loop branches-Inv-branches branches-μ-branches
   branches-check-requires c κs =
-      let R = c .before .before .before .before .before .before .before .before .before .before .before .before .before .before .before .before .before .before .before .before .args .rest .now in
-      (omega (arith, length-from 0 R, c .before .before .before .before .before .before .before .before .before .before .before .before .before .before .before .before .before .before .before .before .pre .0), subst Sound (sym (whole R)) (c .before .before .before .before .before .before .before .before .before .before .before .before .before .before .before .before .before .before .before .before .pre .1 .1))
+      let at-start = c .before .before .before .before .before .before .before .before .before .before .before .before .before .before .before .before .before .before .before .before in
+      let R = at-start .args .rest .now in
+      (omega (arith, length-from 0 R, at-start .pre .0), subst Sound (sym (whole R)) (at-start .pre .1 .1))
 
   branches-enum-known-got-2 : branches-lts.Need-enum-known-got-2 (branches-claims t) (branches-at t) branches.Post branches-Inv-loop branches-μ-loop branches-Inv-branches branches-μ-branches
   branches-enum-known-got-2 c = search needs
@@ -227,13 +243,19 @@ module _ (t : ℕ) where
 
   branches-loop-again : branches-lts.Need-loop-again (branches-claims t) (branches-at t) branches.Post branches-Inv-loop branches-μ-loop branches-Inv-branches branches-μ-branches
   branches-loop-again c =
-      let p = prog (c .before .before .before .before .before .before .before .before .before .before .before .before .before .before .before .before .before .before .before .before .before .before .before .args .rest .now) in
-      let M = c .before .before .before .before .before .before .before .before .before .before .before .before .before .before .before .before .before .before .before .before .before .before .before .args .mem .now in
-      let N = from (length M - c .before .before .before .before .before .before .before .before .before .before .got .given .0 .0) M in
-      let T = c .before .before .before .before .before .before .before .before .before .before .before .before .before .before .before .before .before .before .before .before .before .before .before .args .to in
-      let R = c .before .before .before .before .before .before .before .before .before .before .before .before .before .before .before .before .before .before .before .before .before .before .before .args .rest .now in
-      let tried = c .before .before .check .ensures ∙ ap (λ (l : List ℕ). answer (forward (prog l) (from (c .before .before .before .before .before .before .before .loop .n) N))) (whole R) in
-      c .before .before .before .before .before .before .before .loop .inv ∙ ranges.range-next p N _ (c .before .before .before .before .before .before .before .loop .n) T (to-end (c .before .before .before .before .before .before .before .loop .n) N) (c .before .before .before .before .before .before .loop-test .taken) (c .before .before .before .before .before .if1 .left) (sym (c .enum-told2 .given .1) ∙ tried)
+      let at-check = c .before .before .check in
+      let at-if1 = c .before .before .before .before .before .if1 in
+      let at-loop-test = c .before .before .before .before .before .before .loop-test in
+      let at-loop = c .before .before .before .before .before .before .before .loop in
+      let at-got = c .before .before .before .before .before .before .before .before .before .before .got in
+      let at-start = c .before .before .before .before .before .before .before .before .before .before .before .before .before .before .before .before .before .before .before .before .before .before .before in
+      let p = prog (at-start .args .rest .now) in
+      let M = at-start .args .mem .now in
+      let N = from (length M - at-got .given .0 .0) M in
+      let T = at-start .args .to in
+      let R = at-start .args .rest .now in
+      let tried = at-check .ensures ∙ ap (λ (l : List ℕ). answer (forward (prog l) (from (at-loop .n) N))) (whole R) in
+      at-loop .inv ∙ ranges.range-next p N _ (at-loop .n) T (to-end (at-loop .n) N) (at-loop-test .taken) (at-if1 .left) (sym (c .enum-told2 .given .1) ∙ tried)
 
   branches-enum-told-3 : branches-lts.Need-enum-told-3 (branches-claims t) (branches-at t) branches.Post branches-Inv-loop branches-μ-loop branches-Inv-branches branches-μ-branches
   branches-enum-told-3 c = search needs
@@ -243,19 +265,25 @@ module _ (t : ℕ) where
 
   branches-sub-bs-2 : branches-lts.Need-sub-bs-2 (branches-claims t) (branches-at t) branches.Post branches-Inv-loop branches-μ-loop branches-Inv-branches branches-μ-branches
   branches-sub-bs-2 c =
-      let L = c .before .before .before .before .before .before .before .before .branches .bs .now in
-      let W = c .before .before .before .before .before .w .given .0 .0 in
-      let e = sym (c .before .before .before .before .before .before .before .first-word .ensures) ∙ c .before .before .before .before .before .w .given .1 in
-      let sb = c .before .before .before .before .before .before .before .before .branches .inv .0 in
+      let at-w = c .before .before .before .before .before .w in
+      let at-first-word = c .before .before .before .before .before .before .before .first-word in
+      let at-branches = c .before .before .before .before .before .before .before .before .branches in
+      let L = at-branches .bs .now in
+      let W = at-w .given .0 .0 in
+      let e = sym (at-first-word .ensures) ∙ at-w .given .1 in
+      let sb = at-branches .inv .0 in
       let marked = alts.head-marked L W e sb in
       marked .fits
 
   branches-part-bs-start-2 : branches-lts.Need-part-bs-start-2 (branches-claims t) (branches-at t) branches.Post branches-Inv-loop branches-μ-loop branches-Inv-branches branches-μ-branches
   branches-part-bs-start-2 c =
-      let L = c .before .before .before .before .before .before .before .before .branches .bs .now in
-      let W = c .before .before .before .before .before .w .given .0 .0 in
-      let e = sym (c .before .before .before .before .before .before .before .first-word .ensures) ∙ c .before .before .before .before .before .w .given .1 in
-      let sb = c .before .before .before .before .before .before .before .before .branches .inv .0 in
+      let at-w = c .before .before .before .before .before .w in
+      let at-first-word = c .before .before .before .before .before .before .before .first-word in
+      let at-branches = c .before .before .before .before .before .before .before .before .branches in
+      let L = at-branches .bs .now in
+      let W = at-w .given .0 .0 in
+      let e = sym (at-first-word .ensures) ∙ at-w .given .1 in
+      let sb = at-branches .inv .0 in
       let marked = alts.head-marked L W e sb in
       marked .fits
 
@@ -264,55 +292,78 @@ module _ (t : ℕ) where
 
   branches-branches-less : branches-lts.Need-branches-less (branches-claims t) (branches-at t) branches.Post branches-Inv-loop branches-μ-loop branches-Inv-branches branches-μ-branches
   branches-branches-less c =
-      let L = c .before .before .before .before .before .before .before .before .before .branches .bs .now in
-      let W = c .before .before .before .before .before .before .w .given .0 .0 in
-      let e = sym (c .before .before .before .before .before .before .before .before .first-word .ensures) ∙ c .before .before .before .before .before .before .w .given .1 in
+      let at-w = c .before .before .before .before .before .before .w in
+      let at-first-word = c .before .before .before .before .before .before .before .before .first-word in
+      let at-branches = c .before .before .before .before .before .before .before .before .before .branches in
+      let L = at-branches .bs .now in
+      let W = at-w .given .0 .0 in
+      let e = sym (at-first-word .ensures) ∙ at-w .given .1 in
       omega (arith, word-pos L W e, length-from 1 L, length-from (W / 256 % 256) (from 1 L))
 
   branches-branches-again : branches-lts.Need-branches-again (branches-claims t) (branches-at t) branches.Post branches-Inv-loop branches-μ-loop branches-Inv-branches branches-μ-branches
   branches-branches-again c =
-      let L = c .before .before .before .before .before .before .before .before .before .branches .bs .now in
-      let W = c .before .before .before .before .before .before .w .given .0 .0 in
-      let e = sym (c .before .before .before .before .before .before .before .before .first-word .ensures) ∙ c .before .before .before .before .before .before .w .given .1 in
-      let sb = c .before .before .before .before .before .before .before .before .before .branches .inv .0 in
-      let p = prog (c .before .before .before .before .before .before .before .before .before .before .before .before .before .args .rest .now) in
-      let q = range (c .before .before .before .before .before .before .before .before .before .before .before .before .before .args .from) (c .before .before .before .before .before .before .before .before .before .before .before .before .before .args .to) ▹ p in
-      let M = c .before .before .before .before .before .before .before .before .before .before .before .before .before .args .mem .now in
-      let T = c .before .before .before .before .before .before .before .before .before .before .before .before .before .args .to in (
+      let at-match2 = c .before .match2 in
+      let at-flat = c .before .before .flat in
+      let at-w = c .before .before .before .before .before .before .w in
+      let at-first-word = c .before .before .before .before .before .before .before .before .first-word in
+      let at-branches = c .before .before .before .before .before .before .before .before .before .branches in
+      let at-start = c .before .before .before .before .before .before .before .before .before .before .before .before .before in
+      let L = at-branches .bs .now in
+      let W = at-w .given .0 .0 in
+      let e = sym (at-first-word .ensures) ∙ at-w .given .1 in
+      let sb = at-branches .inv .0 in
+      let p = prog (at-start .args .rest .now) in
+      let q = range (at-start .args .from) (at-start .args .to) ▹ p in
+      let M = at-start .args .mem .now in
+      let T = at-start .args .to in (
         alts.head-after L W e sb,
-        c .before .before .before .before .before .before .before .before .before .branches .inv .1 ∙ ⊎-elim
-            (λ w. alts.head-skip L W e sb short q M _ _ (to-end _ M) (sym (w .1 .given .1) ∙ c .before .before .flat .ensures) (w .4 .inv ∙ run-range-empty p _ short (w .4 .n) T (w .5 .left)))
+        at-branches .inv .1 ∙ ⊎-elim
+            (λ w. alts.head-skip L W e sb short q M _ _ (to-end _ M) (sym (w .1 .given .1) ∙ at-flat .ensures) (w .4 .inv ∙ run-range-empty p _ short (w .4 .n) T (w .5 .left)))
             (λ v. ⊎-elim
-            (λ w. alts.head-skip L W e sb short q M _ _ (to-end _ M) (sym (w .1 .given .1) ∙ c .before .before .flat .ensures) (w .4 .inv ∙ ranges.range-short p _ (w .4 .n) T (w .6 .taken)))
-            (λ w. alts.head-none L W e sb short q M (sym (w .1 .given .1) ∙ c .before .before .flat .ensures)) v)
-            (c .before .match2 .came),
+            (λ w. alts.head-skip L W e sb short q M _ _ (to-end _ M) (sym (w .1 .given .1) ∙ at-flat .ensures) (w .4 .inv ∙ ranges.range-short p _ (w .4 .n) T (w .6 .taken)))
+            (λ w. alts.head-none L W e sb short q M (sym (w .1 .given .1) ∙ at-flat .ensures)) v)
+            (at-match2 .came),
       )
 
   branches-returns : branches-lts.Need-returns (branches-claims t) (branches-at t) branches.Post branches-Inv-loop branches-μ-loop branches-Inv-branches branches-μ-branches
   branches-returns c =
-      let L = c .before .before .before .branches .bs .now in
-      let p = prog (c .before .before .before .before .before .before .before .args .rest .now) in
-      let q = range (c .before .before .before .before .before .before .before .args .from) (c .before .before .before .before .before .before .before .args .to) ▹ p in
-      let M = c .before .before .before .before .before .before .before .args .mem .now in
-      ap answer (sym (c .before .before .before .branches .inv .1 ∙ alts.heads-over short L q M (sym (c .before .before .first-word .ensures) ∙ c .enum-told .given .1)))
+      let at-first-word = c .before .before .first-word in
+      let at-branches = c .before .before .before .branches in
+      let at-start = c .before .before .before .before .before .before .before in
+      let L = at-branches .bs .now in
+      let p = prog (at-start .args .rest .now) in
+      let q = range (at-start .args .from) (at-start .args .to) ▹ p in
+      let M = at-start .args .mem .now in
+      ap answer (sym (at-branches .inv .1 ∙ alts.heads-over short L q M (sym (at-first-word .ensures) ∙ c .enum-told .given .1)))
 
   branches-returns-2 : branches-lts.Need-returns-2 (branches-claims t) (branches-at t) branches.Post branches-Inv-loop branches-μ-loop branches-Inv-branches branches-μ-branches
   branches-returns-2 c =
-      let L = c .before .before .before .before .before .before .before .before .before .before .before .before .before .before .before .before .before .before .before .before .branches .bs .now in
-      let W = c .before .before .before .before .before .before .before .before .before .before .before .before .before .before .before .before .before .w .given .0 .0 in
-      let e = sym (c .before .before .before .before .before .before .before .before .before .before .before .before .before .before .before .before .before .before .before .first-word .ensures) ∙ c .before .before .before .before .before .before .before .before .before .before .before .before .before .before .before .before .before .w .given .1 in
-      let sb = c .before .before .before .before .before .before .before .before .before .before .before .before .before .before .before .before .before .before .before .before .branches .inv .0 in
-      let p = prog (c .before .before .before .before .before .before .before .before .before .before .before .before .before .before .before .before .before .before .before .before .before .before .before .before .args .rest .now) in
-      let q = range (c .before .before .before .before .before .before .before .before .before .before .before .before .before .before .before .before .before .before .before .before .before .before .before .before .args .from) (c .before .before .before .before .before .before .before .before .before .before .before .before .before .before .before .before .before .before .before .before .before .before .before .before .args .to) ▹ p in
-      let M = c .before .before .before .before .before .before .before .before .before .before .before .before .before .before .before .before .before .before .before .before .before .before .before .before .args .mem .now in
-      let fits = sym (c .before .before .before .before .before .before .before .before .before .before .before .got .given .1) ∙ c .before .before .before .before .before .before .before .before .before .before .before .before .before .flat .ensures in
-      let N = from (length M - c .before .before .before .before .before .before .before .before .before .before .before .got .given .0 .0) M in
-      let T = c .before .before .before .before .before .before .before .before .before .before .before .before .before .before .before .before .before .before .before .before .before .before .before .before .args .to in
-      let R = c .before .before .before .before .before .before .before .before .before .before .before .before .before .before .before .before .before .before .before .before .before .before .before .before .args .rest .now in
-      let tried = c .before .before .before .check .ensures ∙ ap (λ (l : List ℕ). answer (forward (prog l) (from (c .before .before .before .before .before .before .before .before .loop .n) N))) (whole R) in
+      let at-got2 = c .before .got2 in
+      let at-check = c .before .before .before .check in
+      let at-if1 = c .before .before .before .before .before .before .if1 in
+      let at-loop-test = c .before .before .before .before .before .before .before .loop-test in
+      let at-loop = c .before .before .before .before .before .before .before .before .loop in
+      let at-got = c .before .before .before .before .before .before .before .before .before .before .before .got in
+      let at-flat = c .before .before .before .before .before .before .before .before .before .before .before .before .before .flat in
+      let at-w = c .before .before .before .before .before .before .before .before .before .before .before .before .before .before .before .before .before .w in
+      let at-first-word = c .before .before .before .before .before .before .before .before .before .before .before .before .before .before .before .before .before .before .before .first-word in
+      let at-branches = c .before .before .before .before .before .before .before .before .before .before .before .before .before .before .before .before .before .before .before .before .branches in
+      let at-start = c .before .before .before .before .before .before .before .before .before .before .before .before .before .before .before .before .before .before .before .before .before .before .before .before in
+      let L = at-branches .bs .now in
+      let W = at-w .given .0 .0 in
+      let e = sym (at-first-word .ensures) ∙ at-w .given .1 in
+      let sb = at-branches .inv .0 in
+      let p = prog (at-start .args .rest .now) in
+      let q = range (at-start .args .from) (at-start .args .to) ▹ p in
+      let M = at-start .args .mem .now in
+      let fits = sym (at-got .given .1) ∙ at-flat .ensures in
+      let N = from (length M - at-got .given .0 .0) M in
+      let T = at-start .args .to in
+      let R = at-start .args .rest .now in
+      let tried = at-check .ensures ∙ ap (λ (l : List ℕ). answer (forward (prog l) (from (at-loop .n) N))) (whole R) in
       alts.head-take L W e sb short q M _ _ (to-end _ M) fits _
-      (ranges.range-take p N _ (c .before .before .before .before .before .before .before .before .loop .n) T (to-end (c .before .before .before .before .before .before .before .before .loop .n) N) (c .before .before .before .before .before .before .before .loop-test .taken) (c .before .before .before .before .before .before .if1 .left) _ (sym (c .before .got2 .given .1) ∙ tried) ∙ ap answer (sym (c .before .before .before .before .before .before .before .before .loop .inv)))
-      ∙ ap answer (sym (c .before .before .before .before .before .before .before .before .before .before .before .before .before .before .before .before .before .before .before .before .branches .inv .1))
+      (ranges.range-take p N _ (at-loop .n) T (to-end (at-loop .n) N) (at-loop-test .taken) (at-if1 .left) _ (sym (at-got2 .given .1) ∙ tried) ∙ ap answer (sym (at-loop .inv)))
+      ∙ ap answer (sym (at-branches .inv .1))
 
   check-loop-holds : check-lts.Need-loop-holds (check-claims t) (check-at t) check.Post check-Inv-loop check-μ-loop
   check-loop-holds c = search needs
@@ -328,23 +379,31 @@ module _ (t : ℕ) where
 
   check-returns : check-lts.Need-returns (check-claims t) (check-at t) check.Post check-Inv-loop check-μ-loop
   check-returns c =
-      let inv = c .before .before .before .loop .inv .2 in
-      let L = c .before .before .before .loop .ns .now in
-      let M = c .before .before .before .loop .m .now in
-      ap answer (sym (inv ∙ turns.end-left short L M (sym (c .before .before .first-word .ensures) ∙ c .enum-told .given .1)))
+      let at-first-word = c .before .before .first-word in
+      let at-loop = c .before .before .before .loop in
+      let inv = at-loop .inv .2 in
+      let L = at-loop .ns .now in
+      let M = at-loop .m .now in
+      ap answer (sym (inv ∙ turns.end-left short L M (sym (at-first-word .ensures) ∙ c .enum-told .given .1)))
 
   check-sub-ns : check-lts.Need-sub-ns (check-claims t) (check-at t) check.Post check-Inv-loop check-μ-loop
   check-sub-ns c =
-      let L = c .before .before .before .before .loop .ns .now in
-      let W = c .before .w .given .0 .0 in
-      let e = sym (c .before .before .before .first-word .ensures) ∙ c .before .w .given .1 in
+      let at-w = c .before .w in
+      let at-first-word = c .before .before .before .first-word in
+      let at-loop = c .before .before .before .before .loop in
+      let L = at-loop .ns .now in
+      let W = at-w .given .0 .0 in
+      let e = sym (at-first-word .ensures) ∙ at-w .given .1 in
       word-pos L W e
 
   check-part-ns-start : check-lts.Need-part-ns-start (check-claims t) (check-at t) check.Post check-Inv-loop check-μ-loop
   check-part-ns-start c =
-      let L = c .before .before .before .before .loop .ns .now in
-      let W = c .before .w .given .0 .0 in
-      let e = sym (c .before .before .before .first-word .ensures) ∙ c .before .w .given .1 in
+      let at-w = c .before .w in
+      let at-first-word = c .before .before .before .first-word in
+      let at-loop = c .before .before .before .before .loop in
+      let L = at-loop .ns .now in
+      let W = at-w .given .0 .0 in
+      let e = sym (at-first-word .ensures) ∙ at-w .given .1 in
       word-pos L W e
 
   check-part-ns-end : check-lts.Need-part-ns-end (check-claims t) (check-at t) check.Post check-Inv-loop check-μ-loop
@@ -364,26 +423,38 @@ module _ (t : ℕ) where
 
   check-returns-2 : check-lts.Need-returns-2 (check-claims t) (check-at t) check.Post check-Inv-loop check-μ-loop
   check-returns-2 c =
-      let inv = c .before .before .before .before .before .before .before .before .before .before .loop .inv .2 in
-      let L = c .before .before .before .before .before .before .before .before .before .before .loop .ns .now in
-      let W = c .before .before .before .before .before .before .before .w .given .0 .0 in
-      let e = sym (c .before .before .before .before .before .before .before .before .before .first-word .ensures) ∙ c .before .before .before .before .before .before .before .w .given .1 in
-      let M = c .before .before .before .before .before .before .before .before .before .before .loop .m .now in
-      let test = is-test W (sym (c .before .before .before .if1 .taken) ∙ c .before .before .before .before .tests-byte .ensures) in
-      ap answer (sym (inv ∙ turns.stop-short L W e short M (test .0) (test .1) (sym (c .before .before .first-byte .ensures) ∙ c .enum-told2 .given .1)))
+      let at-first-byte = c .before .before .first-byte in
+      let at-if1 = c .before .before .before .if1 in
+      let at-tests-byte = c .before .before .before .before .tests-byte in
+      let at-w = c .before .before .before .before .before .before .before .w in
+      let at-first-word = c .before .before .before .before .before .before .before .before .before .first-word in
+      let at-loop = c .before .before .before .before .before .before .before .before .before .before .loop in
+      let inv = at-loop .inv .2 in
+      let L = at-loop .ns .now in
+      let W = at-w .given .0 .0 in
+      let e = sym (at-first-word .ensures) ∙ at-w .given .1 in
+      let M = at-loop .m .now in
+      let test = is-test W (sym (at-if1 .taken) ∙ at-tests-byte .ensures) in
+      ap answer (sym (inv ∙ turns.stop-short L W e short M (test .0) (test .1) (sym (at-first-byte .ensures) ∙ c .enum-told2 .given .1)))
 
   check-sub-m : check-lts.Need-sub-m (check-claims t) (check-at t) check.Post check-Inv-loop check-μ-loop
   check-sub-m c =
-      let M = c .before .before .before .before .before .before .before .before .before .before .before .loop .m .now in
-      let B = c .before .b .given .0 .0 in
-      let f = sym (c .before .before .before .first-byte .ensures) ∙ c .before .b .given .1 in
+      let at-b = c .before .b in
+      let at-first-byte = c .before .before .before .first-byte in
+      let at-loop = c .before .before .before .before .before .before .before .before .before .before .before .loop in
+      let M = at-loop .m .now in
+      let B = at-b .given .0 .0 in
+      let f = sym (at-first-byte .ensures) ∙ at-b .given .1 in
       byte-pos M B f
 
   check-part-m-start : check-lts.Need-part-m-start (check-claims t) (check-at t) check.Post check-Inv-loop check-μ-loop
   check-part-m-start c =
-      let M = c .before .before .before .before .before .before .before .before .before .before .before .loop .m .now in
-      let B = c .before .b .given .0 .0 in
-      let f = sym (c .before .before .before .first-byte .ensures) ∙ c .before .b .given .1 in
+      let at-b = c .before .b in
+      let at-first-byte = c .before .before .before .first-byte in
+      let at-loop = c .before .before .before .before .before .before .before .before .before .before .before .loop in
+      let M = at-loop .m .now in
+      let B = at-b .given .0 .0 in
+      let f = sym (at-first-byte .ensures) ∙ at-b .given .1 in
       byte-pos M B f
 
   check-part-m-end : check-lts.Need-part-m-end (check-claims t) (check-at t) check.Post check-Inv-loop check-μ-loop
@@ -394,47 +465,70 @@ module _ (t : ℕ) where
 
   check-loop-less : check-lts.Need-loop-less (check-claims t) (check-at t) check.Post check-Inv-loop check-μ-loop
   check-loop-less c =
-      let L = c .before .before .before .before .before .before .before .before .before .before .before .before .before .before .loop .ns .now in
-      let W = c .before .before .before .before .before .before .before .before .before .before .before .w .given .0 .0 in
-      let e = sym (c .before .before .before .before .before .before .before .before .before .before .before .before .before .first-word .ensures) ∙ c .before .before .before .before .before .before .before .before .before .before .before .w .given .1 in
-      omega (arith, word-pos L W e, length-from 1 L, c .before .before .before .before .before .before .before .before .before .before .before .before .before .before .loop .inv .0)
+      let at-w = c .before .before .before .before .before .before .before .before .before .before .before .w in
+      let at-first-word = c .before .before .before .before .before .before .before .before .before .before .before .before .before .first-word in
+      let at-loop = c .before .before .before .before .before .before .before .before .before .before .before .before .before .before .loop in
+      let L = at-loop .ns .now in
+      let W = at-w .given .0 .0 in
+      let e = sym (at-first-word .ensures) ∙ at-w .given .1 in
+      omega (arith, word-pos L W e, length-from 1 L, at-loop .inv .0)
 
   check-loop-again : check-lts.Need-loop-again (check-claims t) (check-at t) check.Post check-Inv-loop check-μ-loop
   check-loop-again c =
-      let L = c .before .before .before .before .before .before .before .before .before .before .before .before .before .before .loop .ns .now in
-      let W = c .before .before .before .before .before .before .before .before .before .before .before .w .given .0 .0 in
-      let e = sym (c .before .before .before .before .before .before .before .before .before .before .before .before .before .first-word .ensures) ∙ c .before .before .before .before .before .before .before .before .before .before .before .w .given .1 in
-      let test = is-test W (sym (c .before .before .before .before .before .before .before .if1 .taken) ∙ c .before .before .before .before .before .before .before .before .tests-byte .ensures) in
-      let sound = c .before .before .before .before .before .before .before .before .before .before .before .before .before .before .loop .inv .1 in
-      let inv = c .before .before .before .before .before .before .before .before .before .before .before .before .before .before .loop .inv .2 in
-      let M = c .before .before .before .before .before .before .before .before .before .before .before .before .before .before .loop .m .now in
-      let B = c .before .before .before .before .b .given .0 .0 in
-      let f = sym (c .before .before .before .before .before .before .first-byte .ensures) ∙ c .before .before .before .before .b .given .1 in
-      (omega (arith, word-pos L W e, length-from 1 L, c .before .before .before .before .before .before .before .before .before .before .before .before .before .before .loop .inv .0), turns.tail-sound L W e (test .1) sound, inv ∙ turns.turn-one L W e short M _ (to-end 1 M) (test .0) B (test .1) f (passes-as W B (test .0) (test .1) (sym (c .if2 .taken) ∙ c .before .word-passes .ensures)))
+      let at-word-passes = c .before .word-passes in
+      let at-b = c .before .before .before .before .b in
+      let at-first-byte = c .before .before .before .before .before .before .first-byte in
+      let at-if1 = c .before .before .before .before .before .before .before .if1 in
+      let at-tests-byte = c .before .before .before .before .before .before .before .before .tests-byte in
+      let at-w = c .before .before .before .before .before .before .before .before .before .before .before .w in
+      let at-first-word = c .before .before .before .before .before .before .before .before .before .before .before .before .before .first-word in
+      let at-loop = c .before .before .before .before .before .before .before .before .before .before .before .before .before .before .loop in
+      let L = at-loop .ns .now in
+      let W = at-w .given .0 .0 in
+      let e = sym (at-first-word .ensures) ∙ at-w .given .1 in
+      let test = is-test W (sym (at-if1 .taken) ∙ at-tests-byte .ensures) in
+      let sound = at-loop .inv .1 in
+      let inv = at-loop .inv .2 in
+      let M = at-loop .m .now in
+      let B = at-b .given .0 .0 in
+      let f = sym (at-first-byte .ensures) ∙ at-b .given .1 in
+      (omega (arith, word-pos L W e, length-from 1 L, at-loop .inv .0), turns.tail-sound L W e (test .1) sound, inv ∙ turns.turn-one L W e short M _ (to-end 1 M) (test .0) B (test .1) f (passes-as W B (test .0) (test .1) (sym (c .if2 .taken) ∙ at-word-passes .ensures)))
 
   check-returns-3 : check-lts.Need-returns-3 (check-claims t) (check-at t) check.Post check-Inv-loop check-μ-loop
   check-returns-3 c =
-      let inv = c .before .before .before .before .before .before .before .before .before .before .before .before .before .before .loop .inv .2 in
-      let L = c .before .before .before .before .before .before .before .before .before .before .before .before .before .before .loop .ns .now in
-      let W = c .before .before .before .before .before .before .before .before .before .before .before .w .given .0 .0 in
-      let e = sym (c .before .before .before .before .before .before .before .before .before .before .before .before .before .first-word .ensures) ∙ c .before .before .before .before .before .before .before .before .before .before .before .w .given .1 in
-      let M = c .before .before .before .before .before .before .before .before .before .before .before .before .before .before .loop .m .now in
-      let test = is-test W (sym (c .before .before .before .before .before .before .before .if1 .taken) ∙ c .before .before .before .before .before .before .before .before .tests-byte .ensures) in
-      let B = c .before .before .before .before .b .given .0 .0 in
-      let f = sym (c .before .before .before .before .before .before .first-byte .ensures) ∙ c .before .before .before .before .b .given .1 in
-      ap answer (sym (inv ∙ turns.stop-one L W e short M (test .0) B (test .1) f (passes-as W B (test .0) (test .1) (sym (c .if2 .left) ∙ c .before .word-passes .ensures))))
+      let at-word-passes = c .before .word-passes in
+      let at-b = c .before .before .before .before .b in
+      let at-first-byte = c .before .before .before .before .before .before .first-byte in
+      let at-if1 = c .before .before .before .before .before .before .before .if1 in
+      let at-tests-byte = c .before .before .before .before .before .before .before .before .tests-byte in
+      let at-w = c .before .before .before .before .before .before .before .before .before .before .before .w in
+      let at-first-word = c .before .before .before .before .before .before .before .before .before .before .before .before .before .first-word in
+      let at-loop = c .before .before .before .before .before .before .before .before .before .before .before .before .before .before .loop in
+      let inv = at-loop .inv .2 in
+      let L = at-loop .ns .now in
+      let W = at-w .given .0 .0 in
+      let e = sym (at-first-word .ensures) ∙ at-w .given .1 in
+      let M = at-loop .m .now in
+      let test = is-test W (sym (at-if1 .taken) ∙ at-tests-byte .ensures) in
+      let B = at-b .given .0 .0 in
+      let f = sym (at-first-byte .ensures) ∙ at-b .given .1 in
+      ap answer (sym (inv ∙ turns.stop-one L W e short M (test .0) B (test .1) f (passes-as W B (test .0) (test .1) (sym (c .if2 .left) ∙ at-word-passes .ensures))))
 
   check-cast-n : check-lts.Need-cast-n (check-claims t) (check-at t) check.Post check-Inv-loop check-μ-loop
   check-cast-n c = search needs
 
   check-returns-4 : check-lts.Need-returns-4 (check-claims t) (check-at t) check.Post check-Inv-loop check-μ-loop
   check-returns-4 c =
-      let inv = c .before .before .before .before .before .before .before .before .before .loop .inv .2 in
-      let L = c .before .before .before .before .before .before .before .before .before .loop .ns .now in
-      let W = c .before .before .before .before .before .before .w .given .0 .0 in
-      let e = sym (c .before .before .before .before .before .before .before .before .first-word .ensures) ∙ c .before .before .before .before .before .before .w .given .1 in
-      let M = c .before .before .before .before .before .before .before .before .before .loop .m .now in
-      let kind = kind-jump W (c .before .if3 .taken) in
+      let at-if3 = c .before .if3 in
+      let at-w = c .before .before .before .before .before .before .w in
+      let at-first-word = c .before .before .before .before .before .before .before .before .first-word in
+      let at-loop = c .before .before .before .before .before .before .before .before .before .loop in
+      let inv = at-loop .inv .2 in
+      let L = at-loop .ns .now in
+      let W = at-w .given .0 .0 in
+      let e = sym (at-first-word .ensures) ∙ at-w .given .1 in
+      let M = at-loop .m .now in
+      let kind = kind-jump W (at-if3 .taken) in
       ap answer (sym (inv ∙ turns.stop-jump L W e short M _ kind (c .if4 .taken)))
 
   check-sub-m-2 : check-lts.Need-sub-m-2 (check-claims t) (check-at t) check.Post check-Inv-loop check-μ-loop
@@ -448,21 +542,29 @@ module _ (t : ℕ) where
 
   check-loop-less-2 : check-lts.Need-loop-less-2 (check-claims t) (check-at t) check.Post check-Inv-loop check-μ-loop
   check-loop-less-2 c =
-      let L = c .before .before .before .before .before .before .before .before .before .before .loop .ns .now in
-      let W = c .before .before .before .before .before .before .before .w .given .0 .0 in
-      let e = sym (c .before .before .before .before .before .before .before .before .before .first-word .ensures) ∙ c .before .before .before .before .before .before .before .w .given .1 in
-      omega (arith, word-pos L W e, length-from 1 L, c .before .before .before .before .before .before .before .before .before .before .loop .inv .0)
+      let at-w = c .before .before .before .before .before .before .before .w in
+      let at-first-word = c .before .before .before .before .before .before .before .before .before .first-word in
+      let at-loop = c .before .before .before .before .before .before .before .before .before .before .loop in
+      let L = at-loop .ns .now in
+      let W = at-w .given .0 .0 in
+      let e = sym (at-first-word .ensures) ∙ at-w .given .1 in
+      omega (arith, word-pos L W e, length-from 1 L, at-loop .inv .0)
 
   check-loop-again-2 : check-lts.Need-loop-again-2 (check-claims t) (check-at t) check.Post check-Inv-loop check-μ-loop
   check-loop-again-2 c =
-      let L = c .before .before .before .before .before .before .before .before .before .before .loop .ns .now in
-      let W = c .before .before .before .before .before .before .before .w .given .0 .0 in
-      let e = sym (c .before .before .before .before .before .before .before .before .before .first-word .ensures) ∙ c .before .before .before .before .before .before .before .w .given .1 in
-      let kind = kind-jump W (c .before .before .if3 .taken) in
-      let sound = c .before .before .before .before .before .before .before .before .before .before .loop .inv .1 in
-      let inv = c .before .before .before .before .before .before .before .before .before .before .loop .inv .2 in
-      let M = c .before .before .before .before .before .before .before .before .before .before .loop .m .now in
-      (omega (arith, word-pos L W e, length-from 1 L, c .before .before .before .before .before .before .before .before .before .before .loop .inv .0), turns.tail-sound L W e kind sound, inv ∙ turns.turn-jump L W e short M _ _ (to-end _ M) kind (c .before .if4 .left))
+      let at-if4 = c .before .if4 in
+      let at-if3 = c .before .before .if3 in
+      let at-w = c .before .before .before .before .before .before .before .w in
+      let at-first-word = c .before .before .before .before .before .before .before .before .before .first-word in
+      let at-loop = c .before .before .before .before .before .before .before .before .before .before .loop in
+      let L = at-loop .ns .now in
+      let W = at-w .given .0 .0 in
+      let e = sym (at-first-word .ensures) ∙ at-w .given .1 in
+      let kind = kind-jump W (at-if3 .taken) in
+      let sound = at-loop .inv .1 in
+      let inv = at-loop .inv .2 in
+      let M = at-loop .m .now in
+      (omega (arith, word-pos L W e, length-from 1 L, at-loop .inv .0), turns.tail-sound L W e kind sound, inv ∙ turns.turn-jump L W e short M _ _ (to-end _ M) kind (at-if4 .left))
 
   check-sub-choices : check-lts.Need-sub-choices (check-claims t) (check-at t) check.Post check-Inv-loop check-μ-loop
   check-sub-choices c = search needs
@@ -484,19 +586,29 @@ module _ (t : ℕ) where
 
   check-choices-requires : check-lts.Need-choices-requires (check-claims t) (check-at t) check.Post check-Inv-loop check-μ-loop
   check-choices-requires c κs =
-      let L = c .before .before .before .before .before .before .before .before .before .before .loop .ns .now in
-      let W = c .before .before .before .before .before .before .before .w .given .0 .0 in
-      let e = sym (c .before .before .before .before .before .before .before .before .before .first-word .ensures) ∙ c .before .before .before .before .before .before .before .w .given .1 in
-      let sound = c .before .before .before .before .before .before .before .before .before .before .loop .inv .1 in
-      (omega (arith, word-pos L W e, length-from 1 L, c .before .before .before .before .before .before .before .before .before .before .loop .inv .0, length-from 0 (from 1 L), c .before .before .before .before .before .before .before .before .before .before .before .before .before .pre .0), (subst Sound (sym (word-whole L W e)) sound, turns.choice-kind L W e sound (sym (c .before .before .before .if1 .left) ∙ c .before .before .before .before .tests-byte .ensures) (c .before .before .if3 .left)))
+      let at-if3 = c .before .before .if3 in
+      let at-if1 = c .before .before .before .if1 in
+      let at-tests-byte = c .before .before .before .before .tests-byte in
+      let at-w = c .before .before .before .before .before .before .before .w in
+      let at-first-word = c .before .before .before .before .before .before .before .before .before .first-word in
+      let at-loop = c .before .before .before .before .before .before .before .before .before .before .loop in
+      let at-start = c .before .before .before .before .before .before .before .before .before .before .before .before .before in
+      let L = at-loop .ns .now in
+      let W = at-w .given .0 .0 in
+      let e = sym (at-first-word .ensures) ∙ at-w .given .1 in
+      let sound = at-loop .inv .1 in
+      (omega (arith, word-pos L W e, length-from 1 L, at-loop .inv .0, length-from 0 (from 1 L), at-start .pre .0), (subst Sound (sym (word-whole L W e)) sound, turns.choice-kind L W e sound (sym (at-if1 .left) ∙ at-tests-byte .ensures) (at-if3 .left)))
 
   check-returns-5 : check-lts.Need-returns-5 (check-claims t) (check-at t) check.Post check-Inv-loop check-μ-loop
   check-returns-5 c =
-      let L = c .before .before .before .before .before .before .before .before .before .before .before .loop .ns .now in
-      let W = c .before .before .before .before .before .before .before .before .w .given .0 .0 in
-      let e = sym (c .before .before .before .before .before .before .before .before .before .before .first-word .ensures) ∙ c .before .before .before .before .before .before .before .before .w .given .1 in
-      let M = c .before .before .before .before .before .before .before .before .before .before .before .loop .m .now in
-      let inv = c .before .before .before .before .before .before .before .before .before .before .before .loop .inv .2 in
+      let at-w = c .before .before .before .before .before .before .before .before .w in
+      let at-first-word = c .before .before .before .before .before .before .before .before .before .before .first-word in
+      let at-loop = c .before .before .before .before .before .before .before .before .before .before .before .loop in
+      let L = at-loop .ns .now in
+      let W = at-w .given .0 .0 in
+      let e = sym (at-first-word .ensures) ∙ at-w .given .1 in
+      let M = at-loop .m .now in
+      let inv = at-loop .inv .2 in
       c .choices .ensures ∙ ap₂ (λ (x y : List ℕ). answer (forward (prog x) y)) (word-whole L W e) (whole M) ∙ ap answer (sym inv)
 
   choices-cast-from : choices-lts.Need-cast-from (choices-claims t) (choices-at t) choices.Post
@@ -525,17 +637,21 @@ module _ (t : ℕ) where
 
   choices-jumps-requires : choices-lts.Need-jumps-requires (choices-claims t) (choices-at t) choices.Post
   choices-jumps-requires c κs =
-      let R = c .before .before .before .before .before .args .rest .now in
-      let W = c .before .before .before .before .before .args .w in
-      let sound = c .before .before .before .before .before .pre .1 .0 in
-      (omega (arith, length-from 0 R, c .before .before .before .before .before .pre .0), choice.range-after W R (c .before .before .if1 .taken) sound)
+      let at-if1 = c .before .before .if1 in
+      let at-start = c .before .before .before .before .before in
+      let R = at-start .args .rest .now in
+      let W = at-start .args .w in
+      let sound = at-start .pre .1 .0 in
+      (omega (arith, length-from 0 R, at-start .pre .0), choice.range-after W R (at-if1 .taken) sound)
 
   choices-returns : choices-lts.Need-returns (choices-claims t) (choices-at t) choices.Post
   choices-returns c =
-      let W = c .before .before .before .before .before .before .args .w in
-      let R = c .before .before .before .before .before .before .args .rest .now in
-      let M = c .before .before .before .before .before .before .args .mem .now in
-      c .jumps .ensures ∙ ap answer (choice.range-alone W R (c .before .before .before .if1 .taken) short M _ (whole M))
+      let at-if1 = c .before .before .before .if1 in
+      let at-start = c .before .before .before .before .before .before in
+      let W = at-start .args .w in
+      let R = at-start .args .rest .now in
+      let M = at-start .args .mem .now in
+      c .jumps .ensures ∙ ap answer (choice.range-alone W R (at-if1 .taken) short M _ (whole M))
 
   choices-cast-count : choices-lts.Need-cast-count (choices-claims t) (choices-at t) choices.Post
   choices-cast-count c = search needs
@@ -545,19 +661,21 @@ module _ (t : ℕ) where
 
   choices-sub-after : choices-lts.Need-sub-after (choices-claims t) (choices-at t) choices.Post
   choices-sub-after c =
-      let W = c .before .before .before .args .w in
-      let R = c .before .before .before .args .rest .now in
-      let k = choice.is-alt W (c .before .before .before .pre .1 .1) (c .if1 .left) in
-      let sound = c .before .before .before .pre .1 .0 in
+      let at-start = c .before .before .before in
+      let W = at-start .args .w in
+      let R = at-start .args .rest .now in
+      let k = choice.is-alt W (at-start .pre .1 .1) (c .if1 .left) in
+      let sound = at-start .pre .1 .0 in
       let opened = choice.opened W R k sound in
       opened .fits
 
   choices-part-after-start : choices-lts.Need-part-after-start (choices-claims t) (choices-at t) choices.Post
   choices-part-after-start c =
-      let W = c .before .before .before .args .w in
-      let R = c .before .before .before .args .rest .now in
-      let k = choice.is-alt W (c .before .before .before .pre .1 .1) (c .if1 .left) in
-      let sound = c .before .before .before .pre .1 .0 in
+      let at-start = c .before .before .before in
+      let W = at-start .args .w in
+      let R = at-start .args .rest .now in
+      let k = choice.is-alt W (at-start .pre .1 .1) (c .if1 .left) in
+      let sound = at-start .pre .1 .0 in
       let opened = choice.opened W R k sound in
       opened .fits
 
@@ -578,29 +696,37 @@ module _ (t : ℕ) where
 
   choices-slice-aggregate-branches : choices-lts.Need-slice-aggregate-branches (choices-claims t) (choices-at t) choices.Post
   choices-slice-aggregate-branches c =
-      let W = c .before .before .before .before .before .before .before .before .before .before .args .w in
-      let R = c .before .before .before .before .before .before .before .before .before .before .args .rest .now in
-      let k = choice.is-alt W (c .before .before .before .before .before .before .before .before .before .before .pre .1 .1) (c .before .before .before .before .before .before .before .if1 .left) in
-      let sound = c .before .before .before .before .before .before .before .before .before .before .pre .1 .0 in
+      let at-if1 = c .before .before .before .before .before .before .before .if1 in
+      let at-start = c .before .before .before .before .before .before .before .before .before .before in
+      let W = at-start .args .w in
+      let R = at-start .args .rest .now in
+      let k = choice.is-alt W (at-start .pre .1 .1) (at-if1 .left) in
+      let sound = at-start .pre .1 .0 in
       let opened = choice.opened W R k sound in
       sym (length-take-le _ _ (opened .fits))
 
   choices-sub-branches : choices-lts.Need-sub-branches (choices-claims t) (choices-at t) choices.Post
   choices-sub-branches c =
-      let W = c .before .before .before .before .before .before .before .before .before .before .args .w in
-      let R = c .before .before .before .before .before .before .before .before .before .before .args .rest .now in
+      let at-x = c .before .before .before .x in
+      let at-first-word = c .before .before .before .before .before .first-word in
+      let at-start = c .before .before .before .before .before .before .before .before .before .before in
+      let W = at-start .args .w in
+      let R = at-start .args .rest .now in
       let A = from (W / 256 % 65536) R in
-      let X = c .before .before .before .x .given .0 .0 in
-      let e = sym (c .before .before .before .before .before .first-word .ensures) ∙ c .before .before .before .x .given .1 in
+      let X = at-x .given .0 .0 in
+      let e = sym (at-first-word .ensures) ∙ at-x .given .1 in
       word-pos A X e
 
   choices-part-branches-start : choices-lts.Need-part-branches-start (choices-claims t) (choices-at t) choices.Post
   choices-part-branches-start c =
-      let W = c .before .before .before .before .before .before .before .before .before .before .args .w in
-      let R = c .before .before .before .before .before .before .before .before .before .before .args .rest .now in
+      let at-x = c .before .before .before .x in
+      let at-first-word = c .before .before .before .before .before .first-word in
+      let at-start = c .before .before .before .before .before .before .before .before .before .before in
+      let W = at-start .args .w in
+      let R = at-start .args .rest .now in
       let A = from (W / 256 % 65536) R in
-      let X = c .before .before .before .x .given .0 .0 in
-      let e = sym (c .before .before .before .before .before .first-word .ensures) ∙ c .before .before .before .x .given .1 in
+      let X = at-x .given .0 .0 in
+      let e = sym (at-first-word .ensures) ∙ at-x .given .1 in
       word-pos A X e
 
   choices-part-branches-end : choices-lts.Need-part-branches-end (choices-claims t) (choices-at t) choices.Post
@@ -617,36 +743,48 @@ module _ (t : ℕ) where
 
   choices-branches-requires : choices-lts.Need-branches-requires (choices-claims t) (choices-at t) choices.Post
   choices-branches-requires c κs =
-      let W = c .before .before .before .before .before .before .before .before .before .before .before .before .args .w in
-      let R = c .before .before .before .before .before .before .before .before .before .before .before .before .args .rest .now in
+      let at-if2 = c .before .before .before .if2 in
+      let at-x = c .before .before .before .before .before .x in
+      let at-first-word = c .before .before .before .before .before .before .before .first-word in
+      let at-if1 = c .before .before .before .before .before .before .before .before .before .if1 in
+      let at-start = c .before .before .before .before .before .before .before .before .before .before .before .before in
+      let W = at-start .args .w in
+      let R = at-start .args .rest .now in
       let A = from (W / 256 % 65536) R in
       let K = W / 256 % 65536 in
-      let k = choice.is-alt W (c .before .before .before .before .before .before .before .before .before .before .before .before .pre .1 .1) (c .before .before .before .before .before .before .before .before .before .if1 .left) in
-      let sound = c .before .before .before .before .before .before .before .before .before .before .before .before .pre .1 .0 in
+      let k = choice.is-alt W (at-start .pre .1 .1) (at-if1 .left) in
+      let sound = at-start .pre .1 .0 in
       let opened = choice.opened W R k sound in
-      let X = c .before .before .before .before .before .x .given .0 .0 in
-      let e = sym (c .before .before .before .before .before .before .before .first-word .ensures) ∙ c .before .before .before .before .before .x .given .1 in
-      (omega (arith, length-from 1 A, length-from K R, c .before .before .before .before .before .before .before .before .before .before .before .before .pre .0), (opened .inside, choice.range-sound W R k X e (c .before .before .before .if2 .taken) sound))
+      let X = at-x .given .0 .0 in
+      let e = sym (at-first-word .ensures) ∙ at-x .given .1 in
+      (omega (arith, length-from 1 A, length-from K R, at-start .pre .0), (opened .inside, choice.range-sound W R k X e (at-if2 .taken) sound))
 
   choices-returns-2 : choices-lts.Need-returns-2 (choices-claims t) (choices-at t) choices.Post
   choices-returns-2 c =
-      let W = c .before .before .before .before .before .before .before .before .before .before .before .before .before .args .w in
-      let R = c .before .before .before .before .before .before .before .before .before .before .before .before .before .args .rest .now in
-      let k = choice.is-alt W (c .before .before .before .before .before .before .before .before .before .before .before .before .before .pre .1 .1) (c .before .before .before .before .before .before .before .before .before .before .if1 .left) in
-      let X = c .before .before .before .before .before .before .x .given .0 .0 in
-      let e = sym (c .before .before .before .before .before .before .before .before .first-word .ensures) ∙ c .before .before .before .before .before .before .x .given .1 in
-      let M = c .before .before .before .before .before .before .before .before .before .before .before .before .before .args .mem .now in
-      c .branches .ensures ∙ ap answer (choice.alt-range W R k X e (c .before .before .before .before .if2 .taken) short M _ (whole M))
+      let at-if2 = c .before .before .before .before .if2 in
+      let at-x = c .before .before .before .before .before .before .x in
+      let at-first-word = c .before .before .before .before .before .before .before .before .first-word in
+      let at-if1 = c .before .before .before .before .before .before .before .before .before .before .if1 in
+      let at-start = c .before .before .before .before .before .before .before .before .before .before .before .before .before in
+      let W = at-start .args .w in
+      let R = at-start .args .rest .now in
+      let k = choice.is-alt W (at-start .pre .1 .1) (at-if1 .left) in
+      let X = at-x .given .0 .0 in
+      let e = sym (at-first-word .ensures) ∙ at-x .given .1 in
+      let M = at-start .args .mem .now in
+      c .branches .ensures ∙ ap answer (choice.alt-range W R k X e (at-if2 .taken) short M _ (whole M))
 
   choices-enum-told : choices-lts.Need-enum-told (choices-claims t) (choices-at t) choices.Post
   choices-enum-told c = search needs
 
   choices-slice-aggregate-branches-2 : choices-lts.Need-slice-aggregate-branches-2 (choices-claims t) (choices-at t) choices.Post
   choices-slice-aggregate-branches-2 c =
-      let W = c .before .before .before .before .before .before .before .args .w in
-      let R = c .before .before .before .before .before .before .before .args .rest .now in
-      let k = choice.is-alt W (c .before .before .before .before .before .before .before .pre .1 .1) (c .before .before .before .before .if1 .left) in
-      let sound = c .before .before .before .before .before .before .before .pre .1 .0 in
+      let at-if1 = c .before .before .before .before .if1 in
+      let at-start = c .before .before .before .before .before .before .before in
+      let W = at-start .args .w in
+      let R = at-start .args .rest .now in
+      let k = choice.is-alt W (at-start .pre .1 .1) (at-if1 .left) in
+      let sound = at-start .pre .1 .0 in
       let opened = choice.opened W R k sound in
       sym (length-take-le _ _ (opened .fits))
 
@@ -670,21 +808,25 @@ module _ (t : ℕ) where
 
   choices-branches-requires-2 : choices-lts.Need-branches-requires-2 (choices-claims t) (choices-at t) choices.Post
   choices-branches-requires-2 c κs =
-      let W = c .before .before .before .before .before .before .before .before .before .args .w in
-      let R = c .before .before .before .before .before .before .before .before .before .args .rest .now in
+      let at-if1 = c .before .before .before .before .before .before .if1 in
+      let at-start = c .before .before .before .before .before .before .before .before .before in
+      let W = at-start .args .w in
+      let R = at-start .args .rest .now in
       let A = from (W / 256 % 65536) R in
       let K = W / 256 % 65536 in
-      let k = choice.is-alt W (c .before .before .before .before .before .before .before .before .before .pre .1 .1) (c .before .before .before .before .before .before .if1 .left) in
-      let sound = c .before .before .before .before .before .before .before .before .before .pre .1 .0 in
+      let k = choice.is-alt W (at-start .pre .1 .1) (at-if1 .left) in
+      let sound = at-start .pre .1 .0 in
       let opened = choice.opened W R k sound in
-      (omega (arith, length-from 0 A, length-from K R, c .before .before .before .before .before .before .before .before .before .pre .0), (opened .inside, choice.alone-sound W R k sound))
+      (omega (arith, length-from 0 A, length-from K R, at-start .pre .0), (opened .inside, choice.alone-sound W R k sound))
 
   choices-returns-3 : choices-lts.Need-returns-3 (choices-claims t) (choices-at t) choices.Post
   choices-returns-3 c =
-      let W = c .before .before .before .before .before .before .before .before .before .before .args .w in
-      let R = c .before .before .before .before .before .before .before .before .before .before .args .rest .now in
-      let k = choice.is-alt W (c .before .before .before .before .before .before .before .before .before .before .pre .1 .1) (c .before .before .before .before .before .before .before .if1 .left) in
-      let M = c .before .before .before .before .before .before .before .before .before .before .args .mem .now in
+      let at-if1 = c .before .before .before .before .before .before .before .if1 in
+      let at-start = c .before .before .before .before .before .before .before .before .before .before in
+      let W = at-start .args .w in
+      let R = at-start .args .rest .now in
+      let k = choice.is-alt W (at-start .pre .1 .1) (at-if1 .left) in
+      let M = at-start .args .mem .now in
       c .branches2 .ensures ∙ ap answer (choice.alt-alone W R k short M _ (whole M))
 
   jumps-loop-holds : jumps-lts.Need-loop-holds (jumps-claims t) (jumps-at t) jumps.Post jumps-Inv-loop jumps-μ-loop
@@ -716,39 +858,54 @@ module _ (t : ℕ) where
 
   jumps-loop-again : jumps-lts.Need-loop-again (jumps-claims t) (jumps-at t) jumps.Post jumps-Inv-loop jumps-μ-loop
   jumps-loop-again c =
-      let inv = c .before .before .before .before .before .before .loop .inv in
-      let p = prog (c .before .before .before .before .before .before .before .before .before .args .rest .now) in
-      let M = c .before .before .before .before .before .before .before .before .before .args .mem .now in
-      let N = c .before .before .before .before .before .before .loop .n in
-      let T = c .before .before .before .before .before .before .before .before .before .args .to in
-      inv ∙ ranges.range-next p M _ N T (to-end N M) (c .before .before .before .before .before .if1 .left) (c .before .before .before .before .if2 .left) (sym (c .enum-told .given .1) ∙ c .before .before .check .ensures)
+      let at-check = c .before .before .check in
+      let at-if2 = c .before .before .before .before .if2 in
+      let at-if1 = c .before .before .before .before .before .if1 in
+      let at-loop = c .before .before .before .before .before .before .loop in
+      let at-start = c .before .before .before .before .before .before .before .before .before in
+      let inv = at-loop .inv in
+      let p = prog (at-start .args .rest .now) in
+      let M = at-start .args .mem .now in
+      let N = at-loop .n in
+      let T = at-start .args .to in
+      inv ∙ ranges.range-next p M _ N T (to-end N M) (at-if1 .left) (at-if2 .left) (sym (c .enum-told .given .1) ∙ at-check .ensures)
 
   jumps-returns : jumps-lts.Need-returns (jumps-claims t) (jumps-at t) jumps.Post jumps-Inv-loop jumps-μ-loop
   jumps-returns c =
-      let inv = c .before .loop .inv in
-      let p = prog (c .before .before .before .before .args .rest .now) in
-      let M = c .before .before .before .before .args .mem .now in
-      let N = c .before .loop .n in
-      let T = c .before .before .before .before .args .to in
+      let at-loop = c .before .loop in
+      let at-start = c .before .before .before .before in
+      let inv = at-loop .inv in
+      let p = prog (at-start .args .rest .now) in
+      let M = at-start .args .mem .now in
+      let N = at-loop .n in
+      let T = at-start .args .to in
       ap answer (sym (inv ∙ run-range-empty p M short N T (c .if1 .taken)))
 
   jumps-returns-2 : jumps-lts.Need-returns-2 (jumps-claims t) (jumps-at t) jumps.Post jumps-Inv-loop jumps-μ-loop
   jumps-returns-2 c =
-      let inv = c .before .before .loop .inv in
-      let p = prog (c .before .before .before .before .before .args .rest .now) in
-      let M = c .before .before .before .before .before .args .mem .now in
-      let N = c .before .before .loop .n in
-      let T = c .before .before .before .before .before .args .to in
+      let at-loop = c .before .before .loop in
+      let at-start = c .before .before .before .before .before in
+      let inv = at-loop .inv in
+      let p = prog (at-start .args .rest .now) in
+      let M = at-start .args .mem .now in
+      let N = at-loop .n in
+      let T = at-start .args .to in
       ap answer (sym (inv ∙ ranges.range-short p M N T (c .if2 .taken)))
 
   jumps-returns-3 : jumps-lts.Need-returns-3 (jumps-claims t) (jumps-at t) jumps.Post jumps-Inv-loop jumps-μ-loop
   jumps-returns-3 c =
-      let p = prog (c .before .before .before .before .before .before .before .before .before .before .args .rest .now) in
-      let M = c .before .before .before .before .before .before .before .before .before .before .args .mem .now in
-      let N = c .before .before .before .before .before .before .before .loop .n in
-      let T = c .before .before .before .before .before .before .before .before .before .before .args .to in
-      let inv = c .before .before .before .before .before .before .before .loop .inv in
-      ranges.range-take p M _ N T (to-end N M) (c .before .before .before .before .before .before .if1 .left) (c .before .before .before .before .before .if2 .left) _ (sym (c .before .got .given .1) ∙ c .before .before .before .check .ensures) ∙ ap answer (sym inv)
+      let at-got = c .before .got in
+      let at-check = c .before .before .before .check in
+      let at-if2 = c .before .before .before .before .before .if2 in
+      let at-if1 = c .before .before .before .before .before .before .if1 in
+      let at-loop = c .before .before .before .before .before .before .before .loop in
+      let at-start = c .before .before .before .before .before .before .before .before .before .before in
+      let p = prog (at-start .args .rest .now) in
+      let M = at-start .args .mem .now in
+      let N = at-loop .n in
+      let T = at-start .args .to in
+      let inv = at-loop .inv in
+      ranges.range-take p M _ N T (to-end N M) (at-if1 .left) (at-if2 .left) _ (sym (at-got .given .1) ∙ at-check .ensures) ∙ ap answer (sym inv)
 
 pub +branches+check+choices+jumps-spec : {M : Type 1} → statement M
 +branches+check+choices+jumps-spec =

@@ -36,23 +36,31 @@ enum-told c = search needs
 
 returns : tie.Need-returns Inv-loop μ-loop
 returns c =
-    let inv = c .before .before .before .loop .inv .1 in
-    let L = c .before .before .before .loop .ns .now in
-    let M = c .before .before .before .loop .m .now in
-    ap answer (sym (inv ∙ turns.end-left short L M (sym (c .before .before .first-word .ensures) ∙ c .enum-told .given .1)))
+    let at-first-word = c .before .before .first-word in
+    let at-loop = c .before .before .before .loop in
+    let inv = at-loop .inv .1 in
+    let L = at-loop .ns .now in
+    let M = at-loop .m .now in
+    ap answer (sym (inv ∙ turns.end-left short L M (sym (at-first-word .ensures) ∙ c .enum-told .given .1)))
 
 sub-ns : tie.Need-sub-ns Inv-loop μ-loop
 sub-ns c =
-    let L = c .before .before .before .before .loop .ns .now in
-    let W = c .before .w .given .0 .0 in
-    let e = sym (c .before .before .before .first-word .ensures) ∙ c .before .w .given .1 in
+    let at-w = c .before .w in
+    let at-first-word = c .before .before .before .first-word in
+    let at-loop = c .before .before .before .before .loop in
+    let L = at-loop .ns .now in
+    let W = at-w .given .0 .0 in
+    let e = sym (at-first-word .ensures) ∙ at-w .given .1 in
     word-pos L W e
 
 part-ns-start : tie.Need-part-ns-start Inv-loop μ-loop
 part-ns-start c =
-    let L = c .before .before .before .before .loop .ns .now in
-    let W = c .before .w .given .0 .0 in
-    let e = sym (c .before .before .before .first-word .ensures) ∙ c .before .w .given .1 in
+    let at-w = c .before .w in
+    let at-first-word = c .before .before .before .first-word in
+    let at-loop = c .before .before .before .before .loop in
+    let L = at-loop .ns .now in
+    let W = at-w .given .0 .0 in
+    let e = sym (at-first-word .ensures) ∙ at-w .given .1 in
     word-pos L W e
 
 part-ns-end : tie.Need-part-ns-end Inv-loop μ-loop
@@ -63,12 +71,16 @@ cast-n c = search needs
 
 returns-2 : tie.Need-returns-2 Inv-loop μ-loop
 returns-2 c =
-    let inv = c .before .before .before .before .before .before .before .loop .inv .1 in
-    let L = c .before .before .before .before .before .before .before .loop .ns .now in
-    let W = c .before .before .before .before .w .given .0 .0 in
-    let e = sym (c .before .before .before .before .before .before .first-word .ensures) ∙ c .before .before .before .before .w .given .1 in
-    let M = c .before .before .before .before .before .before .before .loop .m .now in
-    let kind = kind-jump W (c .before .if1 .taken) in
+    let at-if1 = c .before .if1 in
+    let at-w = c .before .before .before .before .w in
+    let at-first-word = c .before .before .before .before .before .before .first-word in
+    let at-loop = c .before .before .before .before .before .before .before .loop in
+    let inv = at-loop .inv .1 in
+    let L = at-loop .ns .now in
+    let W = at-w .given .0 .0 in
+    let e = sym (at-first-word .ensures) ∙ at-w .given .1 in
+    let M = at-loop .m .now in
+    let kind = kind-jump W (at-if1 .taken) in
     ap answer (sym (inv ∙ turns.stop-jump L W e short M _ kind (c .if2 .taken)))
 
 sub-m : tie.Need-sub-m Inv-loop μ-loop
@@ -82,21 +94,29 @@ part-m-end c = search needs
 
 loop-less : tie.Need-loop-less Inv-loop μ-loop
 loop-less c =
-    let L = c .before .before .before .before .before .before .before .before .loop .ns .now in
-    let W = c .before .before .before .before .before .w .given .0 .0 in
-    let e = sym (c .before .before .before .before .before .before .before .first-word .ensures) ∙ c .before .before .before .before .before .w .given .1 in
+    let at-w = c .before .before .before .before .before .w in
+    let at-first-word = c .before .before .before .before .before .before .before .first-word in
+    let at-loop = c .before .before .before .before .before .before .before .before .loop in
+    let L = at-loop .ns .now in
+    let W = at-w .given .0 .0 in
+    let e = sym (at-first-word .ensures) ∙ at-w .given .1 in
     omega (arith, word-pos L W e, length-from 1 L)
 
 loop-again : tie.Need-loop-again Inv-loop μ-loop
 loop-again c =
-    let L = c .before .before .before .before .before .before .before .before .loop .ns .now in
-    let W = c .before .before .before .before .before .w .given .0 .0 in
-    let e = sym (c .before .before .before .before .before .before .before .first-word .ensures) ∙ c .before .before .before .before .before .w .given .1 in
-    let plain = c .before .before .before .before .before .before .before .before .loop .inv .0 in
-    let inv = c .before .before .before .before .before .before .before .before .loop .inv .1 in
-    let M = c .before .before .before .before .before .before .before .before .loop .m .now in
-    let kind = kind-jump W (c .before .before .if1 .taken) in
-    (turns.plain-tail L W e plain, inv ∙ turns.turn-jump L W e short M _ _ (to-end _ M) kind (c .before .if2 .left))
+    let at-if2 = c .before .if2 in
+    let at-if1 = c .before .before .if1 in
+    let at-w = c .before .before .before .before .before .w in
+    let at-first-word = c .before .before .before .before .before .before .before .first-word in
+    let at-loop = c .before .before .before .before .before .before .before .before .loop in
+    let L = at-loop .ns .now in
+    let W = at-w .given .0 .0 in
+    let e = sym (at-first-word .ensures) ∙ at-w .given .1 in
+    let plain = at-loop .inv .0 in
+    let inv = at-loop .inv .1 in
+    let M = at-loop .m .now in
+    let kind = kind-jump W (at-if1 .taken) in
+    (turns.plain-tail L W e plain, inv ∙ turns.turn-jump L W e short M _ _ (to-end _ M) kind (at-if2 .left))
 
 first-byte-requires : tie.Need-first-byte-requires Inv-loop μ-loop
 first-byte-requires c κs = search needs
@@ -109,27 +129,38 @@ enum-told-2 c = search needs
 
 returns-3 : tie.Need-returns-3 Inv-loop μ-loop
 returns-3 c =
-    let inv = c .before .before .before .before .before .before .before .before .before .loop .inv .1 in
-    let L = c .before .before .before .before .before .before .before .before .before .loop .ns .now in
-    let W = c .before .before .before .before .before .before .w .given .0 .0 in
-    let e = sym (c .before .before .before .before .before .before .before .before .first-word .ensures) ∙ c .before .before .before .before .before .before .w .given .1 in
-    let M = c .before .before .before .before .before .before .before .before .before .loop .m .now in
-    let plain = c .before .before .before .before .before .before .before .before .before .loop .inv .0 in
-    let test = turns.plain-test L W e plain (c .before .before .before .if1 .left) in
-    ap answer (sym (inv ∙ turns.stop-short L W e short M (test .0) (test .1) (sym (c .before .before .first-byte .ensures) ∙ c .enum-told2 .given .1)))
+    let at-first-byte = c .before .before .first-byte in
+    let at-if1 = c .before .before .before .if1 in
+    let at-w = c .before .before .before .before .before .before .w in
+    let at-first-word = c .before .before .before .before .before .before .before .before .first-word in
+    let at-loop = c .before .before .before .before .before .before .before .before .before .loop in
+    let inv = at-loop .inv .1 in
+    let L = at-loop .ns .now in
+    let W = at-w .given .0 .0 in
+    let e = sym (at-first-word .ensures) ∙ at-w .given .1 in
+    let M = at-loop .m .now in
+    let plain = at-loop .inv .0 in
+    let test = turns.plain-test L W e plain (at-if1 .left) in
+    ap answer (sym (inv ∙ turns.stop-short L W e short M (test .0) (test .1) (sym (at-first-byte .ensures) ∙ c .enum-told2 .given .1)))
 
 sub-m-2 : tie.Need-sub-m-2 Inv-loop μ-loop
 sub-m-2 c =
-    let M = c .before .before .before .before .before .before .before .before .before .before .loop .m .now in
-    let B = c .before .b .given .0 .0 in
-    let f = sym (c .before .before .before .first-byte .ensures) ∙ c .before .b .given .1 in
+    let at-b = c .before .b in
+    let at-first-byte = c .before .before .before .first-byte in
+    let at-loop = c .before .before .before .before .before .before .before .before .before .before .loop in
+    let M = at-loop .m .now in
+    let B = at-b .given .0 .0 in
+    let f = sym (at-first-byte .ensures) ∙ at-b .given .1 in
     byte-pos M B f
 
 part-m-start-2 : tie.Need-part-m-start-2 Inv-loop μ-loop
 part-m-start-2 c =
-    let M = c .before .before .before .before .before .before .before .before .before .before .loop .m .now in
-    let B = c .before .b .given .0 .0 in
-    let f = sym (c .before .before .before .first-byte .ensures) ∙ c .before .b .given .1 in
+    let at-b = c .before .b in
+    let at-first-byte = c .before .before .before .first-byte in
+    let at-loop = c .before .before .before .before .before .before .before .before .before .before .loop in
+    let M = at-loop .m .now in
+    let B = at-b .given .0 .0 in
+    let f = sym (at-first-byte .ensures) ∙ at-b .given .1 in
     byte-pos M B f
 
 part-m-end-2 : tie.Need-part-m-end-2 Inv-loop μ-loop
@@ -140,36 +171,53 @@ word-passes-requires c κs = search needs
 
 loop-less-2 : tie.Need-loop-less-2 Inv-loop μ-loop
 loop-less-2 c =
-    let L = c .before .before .before .before .before .before .before .before .before .before .before .before .before .loop .ns .now in
-    let W = c .before .before .before .before .before .before .before .before .before .before .w .given .0 .0 in
-    let e = sym (c .before .before .before .before .before .before .before .before .before .before .before .before .first-word .ensures) ∙ c .before .before .before .before .before .before .before .before .before .before .w .given .1 in
+    let at-w = c .before .before .before .before .before .before .before .before .before .before .w in
+    let at-first-word = c .before .before .before .before .before .before .before .before .before .before .before .before .first-word in
+    let at-loop = c .before .before .before .before .before .before .before .before .before .before .before .before .before .loop in
+    let L = at-loop .ns .now in
+    let W = at-w .given .0 .0 in
+    let e = sym (at-first-word .ensures) ∙ at-w .given .1 in
     omega (arith, word-pos L W e, length-from 1 L)
 
 loop-again-2 : tie.Need-loop-again-2 Inv-loop μ-loop
 loop-again-2 c =
-    let L = c .before .before .before .before .before .before .before .before .before .before .before .before .before .loop .ns .now in
-    let W = c .before .before .before .before .before .before .before .before .before .before .w .given .0 .0 in
-    let e = sym (c .before .before .before .before .before .before .before .before .before .before .before .before .first-word .ensures) ∙ c .before .before .before .before .before .before .before .before .before .before .w .given .1 in
-    let plain = c .before .before .before .before .before .before .before .before .before .before .before .before .before .loop .inv .0 in
-    let inv = c .before .before .before .before .before .before .before .before .before .before .before .before .before .loop .inv .1 in
-    let M = c .before .before .before .before .before .before .before .before .before .before .before .before .before .loop .m .now in
-    let test = turns.plain-test L W e plain (c .before .before .before .before .before .before .before .if1 .left) in
-    let B = c .before .before .before .before .b .given .0 .0 in
-    let f = sym (c .before .before .before .before .before .before .first-byte .ensures) ∙ c .before .before .before .before .b .given .1 in
-    (turns.plain-tail L W e plain, inv ∙ turns.turn-one L W e short M _ (to-end 1 M) (test .0) B (test .1) f (passes-as W B (test .0) (test .1) (sym (c .if3 .taken) ∙ c .before .word-passes .ensures)))
+    let at-word-passes = c .before .word-passes in
+    let at-b = c .before .before .before .before .b in
+    let at-first-byte = c .before .before .before .before .before .before .first-byte in
+    let at-if1 = c .before .before .before .before .before .before .before .if1 in
+    let at-w = c .before .before .before .before .before .before .before .before .before .before .w in
+    let at-first-word = c .before .before .before .before .before .before .before .before .before .before .before .before .first-word in
+    let at-loop = c .before .before .before .before .before .before .before .before .before .before .before .before .before .loop in
+    let L = at-loop .ns .now in
+    let W = at-w .given .0 .0 in
+    let e = sym (at-first-word .ensures) ∙ at-w .given .1 in
+    let plain = at-loop .inv .0 in
+    let inv = at-loop .inv .1 in
+    let M = at-loop .m .now in
+    let test = turns.plain-test L W e plain (at-if1 .left) in
+    let B = at-b .given .0 .0 in
+    let f = sym (at-first-byte .ensures) ∙ at-b .given .1 in
+    (turns.plain-tail L W e plain, inv ∙ turns.turn-one L W e short M _ (to-end 1 M) (test .0) B (test .1) f (passes-as W B (test .0) (test .1) (sym (c .if3 .taken) ∙ at-word-passes .ensures)))
 
 returns-4 : tie.Need-returns-4 Inv-loop μ-loop
 returns-4 c =
-    let inv = c .before .before .before .before .before .before .before .before .before .before .before .before .before .loop .inv .1 in
-    let L = c .before .before .before .before .before .before .before .before .before .before .before .before .before .loop .ns .now in
-    let W = c .before .before .before .before .before .before .before .before .before .before .w .given .0 .0 in
-    let e = sym (c .before .before .before .before .before .before .before .before .before .before .before .before .first-word .ensures) ∙ c .before .before .before .before .before .before .before .before .before .before .w .given .1 in
-    let M = c .before .before .before .before .before .before .before .before .before .before .before .before .before .loop .m .now in
-    let plain = c .before .before .before .before .before .before .before .before .before .before .before .before .before .loop .inv .0 in
-    let test = turns.plain-test L W e plain (c .before .before .before .before .before .before .before .if1 .left) in
-    let B = c .before .before .before .before .b .given .0 .0 in
-    let f = sym (c .before .before .before .before .before .before .first-byte .ensures) ∙ c .before .before .before .before .b .given .1 in
-    ap answer (sym (inv ∙ turns.stop-one L W e short M (test .0) B (test .1) f (passes-as W B (test .0) (test .1) (sym (c .if3 .left) ∙ c .before .word-passes .ensures))))
+    let at-word-passes = c .before .word-passes in
+    let at-b = c .before .before .before .before .b in
+    let at-first-byte = c .before .before .before .before .before .before .first-byte in
+    let at-if1 = c .before .before .before .before .before .before .before .if1 in
+    let at-w = c .before .before .before .before .before .before .before .before .before .before .w in
+    let at-first-word = c .before .before .before .before .before .before .before .before .before .before .before .before .first-word in
+    let at-loop = c .before .before .before .before .before .before .before .before .before .before .before .before .before .loop in
+    let inv = at-loop .inv .1 in
+    let L = at-loop .ns .now in
+    let W = at-w .given .0 .0 in
+    let e = sym (at-first-word .ensures) ∙ at-w .given .1 in
+    let M = at-loop .m .now in
+    let plain = at-loop .inv .0 in
+    let test = turns.plain-test L W e plain (at-if1 .left) in
+    let B = at-b .given .0 .0 in
+    let f = sym (at-first-byte .ensures) ∙ at-b .given .1 in
+    ap answer (sym (inv ∙ turns.stop-one L W e short M (test .0) B (test .1) f (passes-as W B (test .0) (test .1) (sym (c .if3 .left) ∙ at-word-passes .ensures))))
 
 pub flat-spec : {M : Type 1} → statement M
 flat-spec =

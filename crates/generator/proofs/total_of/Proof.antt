@@ -16,40 +16,38 @@ Inv-loop ws n total₀ k₀ total k = (k ≤ n) × (total ≤ 1024 * k) × (tota
 abbrev μ-loop : tie.MeasureT-loop
 μ-loop ws n total₀ k₀ total k = n - k
 
--- src/lib.rt:33:5
 loop-holds : tie.Need-loop-holds Inv-loop μ-loop
 loop-holds c = search needs
 
--- src/lib.rt:34:18
 length-at-requires : tie.Need-length-at-requires Inv-loop μ-loop
 length-at-requires c κs = search needs
 
--- src/lib.rt:34:9
 add-total : tie.Need-add-total Inv-loop μ-loop
 add-total c = search needs
 
--- src/lib.rt:35:9
 add-k : tie.Need-add-k Inv-loop μ-loop
 add-k c = search needs
 
--- src/lib.rt:33:5
 loop-less : tie.Need-loop-less Inv-loop μ-loop
 loop-less c = search needs
 
--- src/lib.rt:33:5
 loop-again : tie.Need-loop-again Inv-loop μ-loop
 loop-again c =
-    let s = c .before .before .before .before in
-    let l = c .before .before .loop in
-    let t = c .before .loop-test .taken in
+    let at-loop-test = c .before .loop-test in
+    let at-loop = c .before .before .loop in
+    let at-start = c .before .before .before .before in
+    let s = at-start in
+    let l = at-loop in
+    let t = at-loop-test .taken in
     let w = c .length-at in
     (omega (arith, t), omega (arith, w .ensures .1, l .inv .1), law.total-more (tokensIn (s .args .ws .now)) (s .args .n) (s .pre .1) (l .k) (l .total) (w .result) t (w .ensures .0) (l .inv .2))
 
--- src/lib.rt:27:1
 returns : tie.Need-returns Inv-loop μ-loop
 returns c =
-    let s = c .before .before .before in
-    let l = c .before .loop in
+    let at-loop = c .before .loop in
+    let at-start = c .before .before .before in
+    let s = at-start in
+    let l = at-loop in
     law.total-all (tokensIn (s .args .ws .now)) (s .args .n) (s .pre .1) (l .k) (l .total) (c .loop-test .left) (l .inv .2)
 
 pub total-of-spec : {M : Type 1} → statement M

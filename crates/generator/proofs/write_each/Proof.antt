@@ -13,104 +13,118 @@ Inv-loop ws n bytes₀ lengths₀ at₀ k₀ bytes lengths at k = (k ≤ n) × l
 abbrev μ-loop : tie.MeasureT-loop
 μ-loop ws n bytes₀ lengths₀ at₀ k₀ bytes lengths at k = n - k
 
--- src/lib.rt:47:5
 loop-holds : tie.Need-loop-holds Inv-loop μ-loop
 loop-holds c =
-    let a = c .before .before .before .args in
+    let at-start = c .before .before .before in
+    let a = at-start .args in
     (omega arith, law.part-none (tokensIn (a .ws .now)) (a .bytes .now) (a .lengths .now))
 
--- src/lib.rt:48:48
 sub-write-literal : tie.Need-sub-write-literal Inv-loop μ-loop
 sub-write-literal c =
-    let s = c .before .before .before .before .before in
-    let l = c .before .loop in
+    let at-loop = c .before .loop in
+    let at-start = c .before .before .before .before .before in
+    let s = at-start in
+    let l = at-loop in
     law.next-room (tokensIn (s .args .ws .now)) (s .args .n) (s .pre .1) (l .k) (l .at) (s .args .bytes .now) (s .args .lengths .now) (l .bytes) (l .lengths) (l .inv .1) (c .loop-test .taken) (s .pre .4) .0
 
--- src/lib.rt:48:48
 part-write-literal-start : tie.Need-part-write-literal-start Inv-loop μ-loop
 part-write-literal-start c =
-    let s = c .before .before .before .before .before in
-    let l = c .before .loop in
+    let at-loop = c .before .loop in
+    let at-start = c .before .before .before .before .before in
+    let s = at-start in
+    let l = at-loop in
     law.next-room (tokensIn (s .args .ws .now)) (s .args .n) (s .pre .1) (l .k) (l .at) (s .args .bytes .now) (s .args .lengths .now) (l .bytes) (l .lengths) (l .inv .1) (c .loop-test .taken) (s .pre .4) .0
 
--- src/lib.rt:48:48
 part-write-literal-end : tie.Need-part-write-literal-end Inv-loop μ-loop
 part-write-literal-end c = search needs
 
--- src/lib.rt:48:13
 write-literal-requires : tie.Need-write-literal-requires Inv-loop μ-loop
 write-literal-requires c κs =
-    let s = c .before .before .before .before .before .before in
-    let l = c .before .before .loop in
-    let t = c .before .loop-test .taken in
+    let at-loop-test = c .before .loop-test in
+    let at-loop = c .before .before .loop in
+    let at-start = c .before .before .before .before .before .before in
+    let s = at-start in
+    let l = at-loop in
+    let t = at-loop-test .taken in
     (omega (arith, s .pre .1, t), omega (arith, s .pre .1, s .pre .2), law.next-room (tokensIn (s .args .ws .now)) (s .args .n) (s .pre .1) (l .k) (l .at) (s .args .bytes .now) (s .args .lengths .now) (l .bytes) (l .lengths) (l .inv .1) t (s .pre .4) .1)
 
--- src/lib.rt:49:22
 cast-lengths : tie.Need-cast-lengths Inv-loop μ-loop
 cast-lengths c =
-    let s = c .before .before .before .before .before .before .before .before .before in
-    let l = c .before .before .before .before .before .loop in
-    let t = c .before .before .before .before .loop-test .taken in
-    let w = c .before .before .write-literal in
+    let at-write-literal = c .before .before .write-literal in
+    let at-loop-test = c .before .before .before .before .loop-test in
+    let at-loop = c .before .before .before .before .before .loop in
+    let at-start = c .before .before .before .before .before .before .before .before .before in
+    let s = at-start in
+    let l = at-loop in
+    let t = at-loop-test .taken in
+    let w = at-write-literal in
     omega (arith, w .ensures .long, literal-fits (s .args .ws .now) (l .k) (omega (arith, s .pre .1, t)), s .pre .0)
 
--- src/lib.rt:49:9
 mul-lengths : tie.Need-mul-lengths Inv-loop μ-loop
 mul-lengths c = search needs
 
--- src/lib.rt:49:9
 slice-write-lengths : tie.Need-slice-write-lengths Inv-loop μ-loop
 slice-write-lengths c =
-    let s = c .before .before .before .before .before .before .before .before .before in
-    let l = c .before .before .before .before .before .loop in
-    let t = c .before .before .before .before .loop-test .taken in
+    let at-loop-test = c .before .before .before .before .loop-test in
+    let at-loop = c .before .before .before .before .before .loop in
+    let at-start = c .before .before .before .before .before .before .before .before .before in
+    let s = at-start in
+    let l = at-loop in
+    let t = at-loop-test .taken in
     law.length-room (tokensIn (s .args .ws .now)) (s .args .n) (s .pre .1) (l .k) (l .at) (s .args .bytes .now) (s .args .lengths .now) (l .bytes) (l .lengths) (l .inv .1) t (s .pre .3)
 
--- src/lib.rt:50:9
 add-at : tie.Need-add-at Inv-loop μ-loop
 add-at c =
-    let s = c .before .before .before .before .before .before .before .before .before in
-    let l = c .before .before .before .before .before .loop in
-    let t = c .before .before .before .before .loop-test .taken in
-    let w = c .before .before .write-literal in
+    let at-write-literal = c .before .before .write-literal in
+    let at-loop-test = c .before .before .before .before .loop-test in
+    let at-loop = c .before .before .before .before .before .loop in
+    let at-start = c .before .before .before .before .before .before .before .before .before in
+    let s = at-start in
+    let l = at-loop in
+    let t = at-loop-test .taken in
+    let w = at-write-literal in
     omega (arith, w .ensures .long, law.next-fits (tokensIn (s .args .ws .now)) (s .args .n) (s .pre .1) (l .k) (l .at) (s .args .bytes .now) (s .args .lengths .now) (l .bytes) (l .lengths) (l .inv .1) t, s .pre .4)
 
--- src/lib.rt:51:9
 add-k : tie.Need-add-k Inv-loop μ-loop
 add-k c = search needs
 
--- src/lib.rt:47:5
 loop-less : tie.Need-loop-less Inv-loop μ-loop
 loop-less c = search needs
 
--- src/lib.rt:47:5
 loop-again : tie.Need-loop-again Inv-loop μ-loop
 loop-again c =
-    let s = c .before .before .before .before .before .before .before .before .before in
-    let l = c .before .before .before .before .before .loop in
-    let t = c .before .before .before .before .loop-test .taken in
-    let w = c .before .before .write-literal in
+    let at-write-literal = c .before .before .write-literal in
+    let at-loop-test = c .before .before .before .before .loop-test in
+    let at-loop = c .before .before .before .before .before .loop in
+    let at-start = c .before .before .before .before .before .before .before .before .before in
+    let s = at-start in
+    let l = at-loop in
+    let t = at-loop-test .taken in
+    let w = at-write-literal in
     (omega (arith, t), law.part-more (tokensIn (s .args .ws .now)) (s .args .n) (s .pre .1) (l .k) (l .at) (s .args .bytes .now) (s .args .lengths .now) (l .bytes) (l .lengths) (l .inv .1) t (w .result) (w .last .1 .1 .0) (s .pre .3) (w .ensures))
 
--- src/lib.rt:41:1
 same-length : tie.Need-same-length Inv-loop μ-loop
 same-length c =
-    let s = c .before .before .before .before .before in
-    let l = c .before .loop in
+    let at-loop = c .before .loop in
+    let at-start = c .before .before .before .before .before in
+    let s = at-start in
+    let l = at-loop in
     law.bytes-length (tokensIn (s .args .ws .now)) (s .args .n) (s .pre .1) (l .k) (l .at) (s .args .bytes .now) (s .args .lengths .now) (l .bytes) (l .lengths) (l .inv .1) (s .pre .4)
 
--- src/lib.rt:41:1
 same-length-2 : tie.Need-same-length-2 Inv-loop μ-loop
 same-length-2 c =
-    let s = c .before .before .before .before .before in
-    let l = c .before .loop in
+    let at-loop = c .before .loop in
+    let at-start = c .before .before .before .before .before in
+    let s = at-start in
+    let l = at-loop in
     law.lengths-length (tokensIn (s .args .ws .now)) (s .args .n) (s .pre .1) (l .k) (l .at) (s .args .bytes .now) (s .args .lengths .now) (l .bytes) (l .lengths) (l .inv .1) (s .pre .3)
 
--- src/lib.rt:41:1
 returns : tie.Need-returns Inv-loop μ-loop
 returns c =
-    let s = c .before .before .before .before .before in
-    let l = c .before .loop in
+    let at-loop = c .before .loop in
+    let at-start = c .before .before .before .before .before in
+    let s = at-start in
+    let l = at-loop in
     let e = c .loop-test .left in
     (law.part-all-bytes (tokensIn (s .args .ws .now)) (s .args .n) (s .pre .1) (l .k) (l .at) (s .args .bytes .now) (s .args .lengths .now) (l .bytes) (l .lengths) (l .inv .1) e, law.part-all-lengths (tokensIn (s .args .ws .now)) (s .args .n) (s .pre .1) (l .k) (l .at) (s .args .bytes .now) (s .args .lengths .now) (l .bytes) (l .lengths) (l .inv .1) e)
 

@@ -23,9 +23,11 @@ is-sound-requires c κs = search needs
 
 returns : tie.Need-returns Inv-loop μ-loop
 returns c =
-    let W = c .before .before .before .before .args .words .now in
-    let H = c .before .before .before .before .args .hay .now in
-    law.unsound-end W H (length H) (sym (not-true _ (c .if1 .taken)) ∙ c .before .is-sound .ensures)
+    let at-is-sound = c .before .is-sound in
+    let at-start = c .before .before .before .before in
+    let W = at-start .args .words .now in
+    let H = at-start .args .hay .now in
+    law.unsound-end W H (length H) (sym (not-true _ (c .if1 .taken)) ∙ at-is-sound .ensures)
 
 loop-holds : tie.Need-loop-holds Inv-loop μ-loop
 unfolding endIn
@@ -33,13 +35,17 @@ loop-holds c = (omega arith, refl)
 
 slice-aggregate-check : tie.Need-slice-aggregate-check Inv-loop μ-loop
 slice-aggregate-check c =
-    let H = c .before .before .before .before .before .before .before .args .hay .now in
+    let at-start = c .before .before .before .before .before .before .before in
+    let H = at-start .args .hay .now in
     sym (length-take-le _ H (omega arith))
 
 check-requires : tie.Need-check-requires Inv-loop μ-loop
 check-requires c κs =
-    let W = c .before .before .before .before .before .before .before .args .words .now in
-    sound-words W (sym (c .before .before .before .before .is-sound .ensures) ∙ not-false _ (c .before .before .before .if1 .left))
+    let at-if1 = c .before .before .before .if1 in
+    let at-is-sound = c .before .before .before .before .is-sound in
+    let at-start = c .before .before .before .before .before .before .before in
+    let W = at-start .args .words .now in
+    sound-words W (sym (at-is-sound .ensures) ∙ not-false _ (at-if1 .left))
 
 add-i : tie.Need-add-i Inv-loop μ-loop
 add-i c = search needs
@@ -52,10 +58,13 @@ loop-less c = search needs
 
 loop-again : tie.Need-loop-again Inv-loop μ-loop
 loop-again c =
-    let W = c .before .before .before .before .before .before .before .before .before .before .args .words .now in
-    let H = c .before .before .before .before .before .before .before .before .before .before .args .hay .now in
-    let I = c .before .before .before .before .before .loop .i in
-    (omega arith, law.end-hit W H I _ (sym (c .enum-told .given .1) ∙ c .before .before .check .ensures))
+    let at-check = c .before .before .check in
+    let at-loop = c .before .before .before .before .before .loop in
+    let at-start = c .before .before .before .before .before .before .before .before .before .before in
+    let W = at-start .args .words .now in
+    let H = at-start .args .hay .now in
+    let I = at-loop .i in
+    (omega arith, law.end-hit W H I _ (sym (c .enum-told .given .1) ∙ at-check .ensures))
 
 enum-told-2 : tie.Need-enum-told-2 Inv-loop μ-loop
 enum-told-2 c = search needs
@@ -65,17 +74,24 @@ loop-less-2 c = search needs
 
 loop-again-2 : tie.Need-loop-again-2 Inv-loop μ-loop
 loop-again-2 c =
-    let W = c .before .before .before .before .before .before .before .before .before .before .args .words .now in
-    let H = c .before .before .before .before .before .before .before .before .before .before .args .hay .now in
-    let I = c .before .before .before .before .before .loop .i in
-    (omega arith, law.end-miss W H I _ (c .before .before .before .before .before .loop .inv .1) (sym (c .enum-told2 .given .1) ∙ c .before .before .check .ensures))
+    let at-check = c .before .before .check in
+    let at-loop = c .before .before .before .before .before .loop in
+    let at-start = c .before .before .before .before .before .before .before .before .before .before in
+    let W = at-start .args .words .now in
+    let H = at-start .args .hay .now in
+    let I = at-loop .i in
+    (omega arith, law.end-miss W H I _ (at-loop .inv .1) (sym (c .enum-told2 .given .1) ∙ at-check .ensures))
 
 returns-2 : tie.Need-returns-2 Inv-loop μ-loop
 returns-2 c =
-    let W = c .before .before .before .before .before .before .args .words .now in
-    let H = c .before .before .before .before .before .before .args .hay .now in
-    let I = c .before .loop .i in
-    c .before .loop .inv .1 ∙ ap (endIn W H) (law.at-end I (length H) (c .before .loop .inv .0) (c .loop-test .left)) ∙ law.sound-end W H (length H) (sym (not-false _ (c .before .before .if1 .left)) ∙ c .before .before .before .is-sound .ensures)
+    let at-loop = c .before .loop in
+    let at-if1 = c .before .before .if1 in
+    let at-is-sound = c .before .before .before .is-sound in
+    let at-start = c .before .before .before .before .before .before in
+    let W = at-start .args .words .now in
+    let H = at-start .args .hay .now in
+    let I = at-loop .i in
+    at-loop .inv .1 ∙ ap (endIn W H) (law.at-end I (length H) (at-loop .inv .0) (c .loop-test .left)) ∙ law.sound-end W H (length H) (sym (not-false _ (at-if1 .left)) ∙ at-is-sound .ensures)
 
 pub tm-hits-back-spec : {M : Type 1} → statement M
 tm-hits-back-spec =

@@ -5,27 +5,21 @@ use borrow.Author.Needs.{needs}
 use Rattle.literals.proofs.is_full.Statement.{statement}
 use Rattle.literals.proofs.is_full.Tie as tie
 
--- src/lib.rt:212:26
 enum-told : tie.Need-enum-told
 enum-told c = search needs
 
--- src/lib.rt:213:33
 enum-told-2 : tie.Need-enum-told-2
 enum-told-2 c = search needs
 
--- src/lib.rt:214:26
 enum-told-3 : tie.Need-enum-told-3
 enum-told-3 c = search needs
 
--- src/lib.rt:208:1
 returns : tie.Need-returns
 returns c = false-true
 
--- src/lib.rt:208:1
 returns-2 : tie.Need-returns-2
 returns-2 c = false-true
 
--- src/lib.rt:208:1
 returns-3 : tie.Need-returns-3
 returns-3 c = λ e run. ap (choiceSays run) (c .enum-told3 .given .1)
 

@@ -17,149 +17,190 @@ Inv-loop run prior at first to₀ len₀ top₀ to len top = Going run prior at 
 abbrev μ-loop : tie.MeasureT-loop
 μ-loop run prior at first to₀ len₀ top₀ to len top = length run - to
 
--- src/lib.rt:158:28
 mul-part-words : tie.Need-mul-part-words Inv-loop μ-loop
-mul-part-words c = omega (arith, (c .before .pre) .here)
+mul-part-words c =
+    let at-start = c .before in
+    omega (arith, (at-start .pre) .here)
 
--- src/lib.rt:158:28
 sub-part-words : tie.Need-sub-part-words Inv-loop μ-loop
-sub-part-words c = omega (arith, (c .before .pre) .here)
+sub-part-words c =
+    let at-start = c .before in
+    omega (arith, (at-start .pre) .here)
 
--- src/lib.rt:158:28
 part-part-words-start : tie.Need-part-part-words-start Inv-loop μ-loop
-part-part-words-start c = omega (arith, (c .before .pre) .here)
+part-part-words-start c =
+    let at-start = c .before in
+    omega (arith, (at-start .pre) .here)
 
--- src/lib.rt:158:28
 part-part-words-end : tie.Need-part-part-words-end Inv-loop μ-loop
 part-part-words-end c = search needs
 
--- src/lib.rt:158:9
 part-words-requires : tie.Need-part-words-requires Inv-loop μ-loop
-part-words-requires c κs = law.part-there (c .before .before .args .run .now) (c .before .before .args .prior) (c .before .before .args .at) (c .before .before .pre)
+part-words-requires c κs =
+    let at-start = c .before .before in
+    law.part-there (at-start .args .run .now) (at-start .args .prior) (at-start .args .at) (at-start .pre)
 
--- src/lib.rt:159:18
 add-to : tie.Need-add-to Inv-loop μ-loop
-add-to c = omega (arith, law.going-start (c .before .before .before .args .run .now) (c .before .before .before .args .prior) (c .before .before .before .args .at) (c .before .before .before .pre) (c .part-words .result) (choiceSays (c .before .before .before .args .run .now) (c .before .before .before .args .best)) (c .part-words .ensures) .inside)
+add-to c =
+    let at-start = c .before .before .before in
+    omega (arith, law.going-start (at-start .args .run .now) (at-start .args .prior) (at-start .args .at) (at-start .pre) (c .part-words .result) (choiceSays (at-start .args .run .now) (at-start .args .best)) (c .part-words .ensures) .inside)
 
--- src/lib.rt:162:5
 loop-holds : tie.Need-loop-holds Inv-loop μ-loop
-loop-holds c = law.going-start (c .before .before .before .args .run .now) (c .before .before .before .args .prior) (c .before .before .before .args .at) (c .before .before .before .pre) (c .part-words .result) (choiceSays (c .before .before .before .args .run .now) (c .before .before .before .args .best)) (c .part-words .ensures)
+loop-holds c =
+    let at-start = c .before .before .before in
+    law.going-start (at-start .args .run .now) (at-start .args .prior) (at-start .args .at) (at-start .pre) (c .part-words .result) (choiceSays (at-start .args .run .now) (at-start .args .best)) (c .part-words .ensures)
 
--- src/lib.rt:163:28
 mul-rank-of : tie.Need-mul-rank-of Inv-loop μ-loop
 mul-rank-of c = omega (arith, (c .loop .inv) .ahead, (c .loop .inv) .inside)
 
--- src/lib.rt:163:28
 sub-rank-of : tie.Need-sub-rank-of Inv-loop μ-loop
 sub-rank-of c = omega (arith, (c .loop .inv) .ahead)
 
--- src/lib.rt:163:28
 part-rank-of-start : tie.Need-part-rank-of-start Inv-loop μ-loop
 part-rank-of-start c = omega (arith, (c .loop .inv) .ahead)
 
--- src/lib.rt:163:28
 part-rank-of-end : tie.Need-part-rank-of-end Inv-loop μ-loop
 part-rank-of-end c = (c .loop .inv) .inside
 
--- src/lib.rt:163:13
 rank-of-requires : tie.Need-rank-of-requires Inv-loop μ-loop
-rank-of-requires c κs = law.slice-few (c .before .before .before .before .before .args .run .now) (c .before .before .before .before .before .args .prior) (c .before .before .before .before .before .args .at) (c .before .loop .to) (c .before .loop .len) (choiceSays (c .before .before .before .before .before .args .run .now) (c .before .before .before .before .before .args .best)) (c .before .loop .top) (c .before .before .before .before .before .pre) (c .before .loop .inv)
+rank-of-requires c κs =
+    let at-loop = c .before .loop in
+    let at-start = c .before .before .before .before .before in
+    law.slice-few (at-start .args .run .now) (at-start .args .prior) (at-start .args .at) (at-loop .to) (at-loop .len) (choiceSays (at-start .args .run .now) (at-start .args .best)) (at-loop .top) (at-start .pre) (at-loop .inv)
 
--- src/lib.rt:164:31
 mul-byte-words : tie.Need-mul-byte-words Inv-loop μ-loop
-mul-byte-words c = omega (arith, (c .before .before .loop .inv) .inside)
+mul-byte-words c =
+    let at-loop = c .before .before .loop in
+    omega (arith, (at-loop .inv) .inside)
 
--- src/lib.rt:164:31
 sub-byte-words : tie.Need-sub-byte-words Inv-loop μ-loop
-sub-byte-words c = (c .before .before .loop .inv) .inside
+sub-byte-words c =
+    let at-loop = c .before .before .loop in
+    (at-loop .inv) .inside
 
--- src/lib.rt:164:31
 part-byte-words-start : tie.Need-part-byte-words-start Inv-loop μ-loop
-part-byte-words-start c = (c .before .before .loop .inv) .inside
+part-byte-words-start c =
+    let at-loop = c .before .before .loop in
+    (at-loop .inv) .inside
 
--- src/lib.rt:164:31
 part-byte-words-end : tie.Need-part-byte-words-end Inv-loop μ-loop
 part-byte-words-end c = search needs
 
--- src/lib.rt:164:13
 byte-words-requires : tie.Need-byte-words-requires Inv-loop μ-loop
 byte-words-requires c κs = search needs
 
--- src/lib.rt:165:42
 add-ranked-against : tie.Need-add-ranked-against Inv-loop μ-loop
-add-ranked-against c = omega (arith, c .byte-words .ensures .1, part-long (c .before .before .before .before .loop .to) (c .before .before .before .before .before .before .before .before .args .run .now), (c .before .before .before .before .loop .inv) .inside)
+add-ranked-against c =
+    let at-loop = c .before .before .before .before .loop in
+    let at-start = c .before .before .before .before .before .before .before .before in
+    omega (arith, c .byte-words .ensures .1, part-long (at-loop .to) (at-start .args .run .now), (at-loop .inv) .inside)
 
--- src/lib.rt:165:9
 ranked-against-requires : tie.Need-ranked-against-requires Inv-loop μ-loop
 ranked-against-requires c κs = search needs
 
--- src/lib.rt:167:13
 returns : tie.Need-returns Inv-loop μ-loop
-returns c = λ own ps k. sym ((law.weighed (c .before .before .before .before .before .before .before .before .before .before .args .run .now) (c .before .before .before .before .before .before .before .before .before .before .args .prior) (c .before .before .before .before .before .before .before .before .before .before .args .at) (c .before .before .before .before .before .before .loop .to) (c .before .before .before .before .before .before .loop .len) (choiceSays (c .before .before .before .before .before .before .before .before .before .before .args .run .now) (c .before .before .before .before .before .before .before .before .before .before .args .best)) (c .before .before .before .before .before .before .loop .top) (c .before .before .before .before .before .before .before .before .before .before .pre) (c .before .before .before .before .before .before .loop .inv) (c .before .ranked-against .result) (c .before .before .byte-words .result) (c .before .before .before .before .rank-of .result) (c .before .before .byte-words .ensures .0) (c .before .before .before .before .rank-of .ensures) (c .before .ranked-against .ensures)) own ps k ∙ slices.further-long _ _ _ _ _ (c .if1 .taken))
+returns c =
+    let at-ranked-against = c .before .ranked-against in
+    let at-byte-words = c .before .before .byte-words in
+    let at-rank-of = c .before .before .before .before .rank-of in
+    let at-loop = c .before .before .before .before .before .before .loop in
+    let at-start = c .before .before .before .before .before .before .before .before .before .before in
+    λ own ps k. sym ((law.weighed (at-start .args .run .now) (at-start .args .prior) (at-start .args .at) (at-loop .to) (at-loop .len) (choiceSays (at-start .args .run .now) (at-start .args .best)) (at-loop .top) (at-start .pre) (at-loop .inv) (at-ranked-against .result) (at-byte-words .result) (at-rank-of .result) (at-byte-words .ensures .0) (at-rank-of .ensures) (at-ranked-against .ensures)) own ps k ∙ slices.further-long _ _ _ _ _ (c .if1 .taken))
 
--- src/lib.rt:169:12
 sub-if2 : tie.Need-sub-if2 Inv-loop μ-loop
-sub-if2 c = (c .before .before .before .before .before .before .loop .inv) .inside
+sub-if2 c =
+    let at-loop = c .before .before .before .before .before .before .loop in
+    (at-loop .inv) .inside
 
--- src/lib.rt:170:13
 returns-2 : tie.Need-returns-2 Inv-loop μ-loop
-returns-2 c = λ own ps k. sym ((law.weighed (c .before .before .before .before .before .before .before .before .before .before .before .args .run .now) (c .before .before .before .before .before .before .before .before .before .before .before .args .prior) (c .before .before .before .before .before .before .before .before .before .before .before .args .at) (c .before .before .before .before .before .before .before .loop .to) (c .before .before .before .before .before .before .before .loop .len) (choiceSays (c .before .before .before .before .before .before .before .before .before .before .before .args .run .now) (c .before .before .before .before .before .before .before .before .before .before .before .args .best)) (c .before .before .before .before .before .before .before .loop .top) (c .before .before .before .before .before .before .before .before .before .before .before .pre) (c .before .before .before .before .before .before .before .loop .inv) (c .before .before .ranked-against .result) (c .before .before .before .byte-words .result) (c .before .before .before .before .before .rank-of .result) (c .before .before .before .byte-words .ensures .0) (c .before .before .before .before .before .rank-of .ensures) (c .before .before .ranked-against .ensures)) own ps k ∙ slices.further-none _ (drop (c .before .before .before .before .before .before .before .loop .to) (c .before .before .before .before .before .before .before .before .before .before .before .args .run .now)) _ _ _ (omega (arith, length-drop (c .before .before .before .before .before .before .before .loop .to) (c .before .before .before .before .before .before .before .before .before .before .before .args .run .now), c .if2 .taken)))
+returns-2 c =
+    let at-ranked-against = c .before .before .ranked-against in
+    let at-byte-words = c .before .before .before .byte-words in
+    let at-rank-of = c .before .before .before .before .before .rank-of in
+    let at-loop = c .before .before .before .before .before .before .before .loop in
+    let at-start = c .before .before .before .before .before .before .before .before .before .before .before in
+    λ own ps k. sym ((law.weighed (at-start .args .run .now) (at-start .args .prior) (at-start .args .at) (at-loop .to) (at-loop .len) (choiceSays (at-start .args .run .now) (at-start .args .best)) (at-loop .top) (at-start .pre) (at-loop .inv) (at-ranked-against .result) (at-byte-words .result) (at-rank-of .result) (at-byte-words .ensures .0) (at-rank-of .ensures) (at-ranked-against .ensures)) own ps k ∙ slices.further-none _ (drop (at-loop .to) (at-start .args .run .now)) _ _ _ (omega (arith, length-drop (at-loop .to) (at-start .args .run .now), c .if2 .taken)))
 
--- src/lib.rt:172:28
 mul-part-words-2 : tie.Need-mul-part-words-2 Inv-loop μ-loop
-mul-part-words-2 c = omega (arith, (c .before .before .before .before .before .before .before .loop .inv) .inside)
+mul-part-words-2 c =
+    let at-loop = c .before .before .before .before .before .before .before .loop in
+    omega (arith, (at-loop .inv) .inside)
 
--- src/lib.rt:172:28
 sub-part-words-2 : tie.Need-sub-part-words-2 Inv-loop μ-loop
-sub-part-words-2 c = (c .before .before .before .before .before .before .before .loop .inv) .inside
+sub-part-words-2 c =
+    let at-loop = c .before .before .before .before .before .before .before .loop in
+    (at-loop .inv) .inside
 
--- src/lib.rt:172:28
 part-part-words-start-2 : tie.Need-part-part-words-start-2 Inv-loop μ-loop
-part-part-words-start-2 c = (c .before .before .before .before .before .before .before .loop .inv) .inside
+part-part-words-start-2 c =
+    let at-loop = c .before .before .before .before .before .before .before .loop in
+    (at-loop .inv) .inside
 
--- src/lib.rt:172:28
 part-part-words-end-2 : tie.Need-part-part-words-end-2 Inv-loop μ-loop
 part-part-words-end-2 c = search needs
 
--- src/lib.rt:172:13
 part-words-requires-2 : tie.Need-part-words-requires-2 Inv-loop μ-loop
-part-words-requires-2 c κs = law.rest-there (c .before .before .before .before .before .before .before .before .before .before .before .before .args .run .now) (c .before .before .before .before .before .before .before .before .before .before .before .before .args .prior) (c .before .before .before .before .before .before .before .before .before .before .before .before .args .at) (c .before .before .before .before .before .before .before .before .loop .to) (c .before .before .before .before .before .before .before .before .loop .len) (choiceSays (c .before .before .before .before .before .before .before .before .before .before .before .before .args .run .now) (c .before .before .before .before .before .before .before .before .before .before .before .before .args .best)) (c .before .before .before .before .before .before .before .before .loop .top) (c .before .before .before .before .before .before .before .before .before .before .before .before .pre) (c .before .before .before .before .before .before .before .before .loop .inv) (c .before .if2 .left)
+part-words-requires-2 c κs =
+    let at-if2 = c .before .if2 in
+    let at-loop = c .before .before .before .before .before .before .before .before .loop in
+    let at-start = c .before .before .before .before .before .before .before .before .before .before .before .before in
+    law.rest-there (at-start .args .run .now) (at-start .args .prior) (at-start .args .at) (at-loop .to) (at-loop .len) (choiceSays (at-start .args .run .now) (at-start .args .best)) (at-loop .top) (at-start .pre) (at-loop .inv) (at-if2 .left)
 
--- src/lib.rt:173:17
 add-e : tie.Need-add-e Inv-loop μ-loop
-add-e c = omega (arith, law.part-inside (c .before .before .before .before .before .before .before .before .before .before .before .before .before .args .run .now) (c .before .before .before .before .before .before .before .before .before .before .before .before .before .args .prior) (c .before .before .before .before .before .before .before .before .before .before .before .before .before .args .at) (c .before .before .before .before .before .before .before .before .before .loop .to) (c .before .before .before .before .before .before .before .before .before .loop .len) (choiceSays (c .before .before .before .before .before .before .before .before .before .before .before .before .before .args .run .now) (c .before .before .before .before .before .before .before .before .before .before .before .before .before .args .best)) (c .before .before .before .before .before .before .before .before .before .loop .top) (c .before .before .before .before .before .before .before .before .before .before .before .before .before .pre) (c .before .before .before .before .before .before .before .before .before .loop .inv) (c .part-words2 .result) (c .part-words2 .ensures) (c .before .before .if2 .left) .0)
+add-e c =
+    let at-if2 = c .before .before .if2 in
+    let at-loop = c .before .before .before .before .before .before .before .before .before .loop in
+    let at-start = c .before .before .before .before .before .before .before .before .before .before .before .before .before in
+    omega (arith, law.part-inside (at-start .args .run .now) (at-start .args .prior) (at-start .args .at) (at-loop .to) (at-loop .len) (choiceSays (at-start .args .run .now) (at-start .args .best)) (at-loop .top) (at-start .pre) (at-loop .inv) (c .part-words2 .result) (c .part-words2 .ensures) (at-if2 .left) .0)
 
--- src/lib.rt:174:36
 mul-length-of : tie.Need-mul-length-of Inv-loop μ-loop
-mul-length-of c = omega (arith, (c .before .before .before .before .before .before .before .before .before .loop .inv) .inside)
+mul-length-of c =
+    let at-loop = c .before .before .before .before .before .before .before .before .before .loop in
+    omega (arith, (at-loop .inv) .inside)
 
--- src/lib.rt:174:36
 sub-length-of : tie.Need-sub-length-of Inv-loop μ-loop
 sub-length-of c = omega arith
 
--- src/lib.rt:174:36
 part-length-of-start : tie.Need-part-length-of-start Inv-loop μ-loop
 part-length-of-start c = omega arith
 
--- src/lib.rt:174:36
 part-length-of-end : tie.Need-part-length-of-end Inv-loop μ-loop
-part-length-of-end c = law.part-inside (c .before .before .before .before .before .before .before .before .before .before .before .before .before .args .run .now) (c .before .before .before .before .before .before .before .before .before .before .before .before .before .args .prior) (c .before .before .before .before .before .before .before .before .before .before .before .before .before .args .at) (c .before .before .before .before .before .before .before .before .before .loop .to) (c .before .before .before .before .before .before .before .before .before .loop .len) (choiceSays (c .before .before .before .before .before .before .before .before .before .before .before .before .before .args .run .now) (c .before .before .before .before .before .before .before .before .before .before .before .before .before .args .best)) (c .before .before .before .before .before .before .before .before .before .loop .top) (c .before .before .before .before .before .before .before .before .before .before .before .before .before .pre) (c .before .before .before .before .before .before .before .before .before .loop .inv) (c .part-words2 .result) (c .part-words2 .ensures) (c .before .before .if2 .left) .0
+part-length-of-end c =
+    let at-if2 = c .before .before .if2 in
+    let at-loop = c .before .before .before .before .before .before .before .before .before .loop in
+    let at-start = c .before .before .before .before .before .before .before .before .before .before .before .before .before in
+    law.part-inside (at-start .args .run .now) (at-start .args .prior) (at-start .args .at) (at-loop .to) (at-loop .len) (choiceSays (at-start .args .run .now) (at-start .args .best)) (at-loop .top) (at-start .pre) (at-loop .inv) (c .part-words2 .result) (c .part-words2 .ensures) (at-if2 .left) .0
 
--- src/lib.rt:174:16
 length-of-requires : tie.Need-length-of-requires Inv-loop μ-loop
 length-of-requires c κs = search needs
 
--- src/lib.rt:174:9
 add-len : tie.Need-add-len Inv-loop μ-loop
-add-len c = omega (arith, c .before .before .before .before .before .if1 .left, c .length-of .ensures .1, length-take (c .before .before .before .before .before .before .before .before .before .before .before .loop .to + c .before .before .part-words2 .result - c .before .before .before .before .before .before .before .before .before .before .before .loop .to) (drop (c .before .before .before .before .before .before .before .before .before .before .before .loop .to) (c .before .before .before .before .before .before .before .before .before .before .before .before .before .before .before .args .run .now)), length-drop (c .before .before .before .before .before .before .before .before .before .before .before .loop .to) (c .before .before .before .before .before .before .before .before .before .before .before .before .before .before .before .args .run .now), (c .before .before .before .before .before .before .before .before .before .before .before .before .before .before .before .pre) .few)
+add-len c =
+    let at-part-words2 = c .before .before .part-words2 in
+    let at-if1 = c .before .before .before .before .before .if1 in
+    let at-loop = c .before .before .before .before .before .before .before .before .before .before .before .loop in
+    let at-start = c .before .before .before .before .before .before .before .before .before .before .before .before .before .before .before in
+    omega (arith, at-if1 .left, c .length-of .ensures .1, length-take (at-loop .to + at-part-words2 .result - at-loop .to) (drop (at-loop .to) (at-start .args .run .now)), length-drop (at-loop .to) (at-start .args .run .now), (at-start .pre) .few)
 
--- src/lib.rt:162:5
 loop-less : tie.Need-loop-less Inv-loop μ-loop
-loop-less c = omega (arith, law.part-inside (c .before .before .before .before .before .before .before .before .before .before .before .before .before .before .before .args .run .now) (c .before .before .before .before .before .before .before .before .before .before .before .before .before .before .before .args .prior) (c .before .before .before .before .before .before .before .before .before .before .before .before .before .before .before .args .at) (c .before .before .before .before .before .before .before .before .before .before .before .loop .to) (c .before .before .before .before .before .before .before .before .before .before .before .loop .len) (choiceSays (c .before .before .before .before .before .before .before .before .before .before .before .before .before .before .before .args .run .now) (c .before .before .before .before .before .before .before .before .before .before .before .before .before .before .before .args .best)) (c .before .before .before .before .before .before .before .before .before .before .before .loop .top) (c .before .before .before .before .before .before .before .before .before .before .before .before .before .before .before .pre) (c .before .before .before .before .before .before .before .before .before .before .before .loop .inv) (c .before .before .part-words2 .result) (c .before .before .part-words2 .ensures) (c .before .before .before .before .if2 .left) .0, law.part-inside (c .before .before .before .before .before .before .before .before .before .before .before .before .before .before .before .args .run .now) (c .before .before .before .before .before .before .before .before .before .before .before .before .before .before .before .args .prior) (c .before .before .before .before .before .before .before .before .before .before .before .before .before .before .before .args .at) (c .before .before .before .before .before .before .before .before .before .before .before .loop .to) (c .before .before .before .before .before .before .before .before .before .before .before .loop .len) (choiceSays (c .before .before .before .before .before .before .before .before .before .before .before .before .before .before .before .args .run .now) (c .before .before .before .before .before .before .before .before .before .before .before .before .before .before .before .args .best)) (c .before .before .before .before .before .before .before .before .before .before .before .loop .top) (c .before .before .before .before .before .before .before .before .before .before .before .before .before .before .before .pre) (c .before .before .before .before .before .before .before .before .before .before .before .loop .inv) (c .before .before .part-words2 .result) (c .before .before .part-words2 .ensures) (c .before .before .before .before .if2 .left) .1)
+loop-less c =
+    let at-part-words2 = c .before .before .part-words2 in
+    let at-if2 = c .before .before .before .before .if2 in
+    let at-loop = c .before .before .before .before .before .before .before .before .before .before .before .loop in
+    let at-start = c .before .before .before .before .before .before .before .before .before .before .before .before .before .before .before in
+    omega (arith, law.part-inside (at-start .args .run .now) (at-start .args .prior) (at-start .args .at) (at-loop .to) (at-loop .len) (choiceSays (at-start .args .run .now) (at-start .args .best)) (at-loop .top) (at-start .pre) (at-loop .inv) (at-part-words2 .result) (at-part-words2 .ensures) (at-if2 .left) .0, law.part-inside (at-start .args .run .now) (at-start .args .prior) (at-start .args .at) (at-loop .to) (at-loop .len) (choiceSays (at-start .args .run .now) (at-start .args .best)) (at-loop .top) (at-start .pre) (at-loop .inv) (at-part-words2 .result) (at-part-words2 .ensures) (at-if2 .left) .1)
 
--- src/lib.rt:162:5
 loop-again : tie.Need-loop-again Inv-loop μ-loop
-loop-again c = law.going-on (c .before .before .before .before .before .before .before .before .before .before .before .before .before .before .before .args .run .now) (c .before .before .before .before .before .before .before .before .before .before .before .before .before .before .before .args .prior) (c .before .before .before .before .before .before .before .before .before .before .before .before .before .before .before .args .at) (c .before .before .before .before .before .before .before .before .before .before .before .loop .to) (c .before .before .before .before .before .before .before .before .before .before .before .loop .len) (choiceSays (c .before .before .before .before .before .before .before .before .before .before .before .before .before .before .before .args .run .now) (c .before .before .before .before .before .before .before .before .before .before .before .before .before .before .before .args .best)) (c .before .before .before .before .before .before .before .before .before .before .before .loop .top) (c .before .before .before .before .before .before .before .before .before .before .before .before .before .before .before .pre) (c .before .before .before .before .before .before .before .before .before .before .before .loop .inv) (c .before .before .before .before .before .before .ranked-against .result) (c .before .before .part-words2 .result) (c .length-of .result) (c .before .before .before .before .before .before .before .before .before .before .before .loop .to + c .before .before .part-words2 .result) (c .before .before .part-words2 .ensures) (c .before .before .before .before .if2 .left) (c .before .before .before .before .before .if1 .left) refl (c .length-of .ensures .0) (c .length-of .ensures .1) (law.weighed (c .before .before .before .before .before .before .before .before .before .before .before .before .before .before .before .args .run .now) (c .before .before .before .before .before .before .before .before .before .before .before .before .before .before .before .args .prior) (c .before .before .before .before .before .before .before .before .before .before .before .before .before .before .before .args .at) (c .before .before .before .before .before .before .before .before .before .before .before .loop .to) (c .before .before .before .before .before .before .before .before .before .before .before .loop .len) (choiceSays (c .before .before .before .before .before .before .before .before .before .before .before .before .before .before .before .args .run .now) (c .before .before .before .before .before .before .before .before .before .before .before .before .before .before .before .args .best)) (c .before .before .before .before .before .before .before .before .before .before .before .loop .top) (c .before .before .before .before .before .before .before .before .before .before .before .before .before .before .before .pre) (c .before .before .before .before .before .before .before .before .before .before .before .loop .inv) (c .before .before .before .before .before .before .ranked-against .result) (c .before .before .before .before .before .before .before .byte-words .result) (c .before .before .before .before .before .before .before .before .before .rank-of .result) (c .before .before .before .before .before .before .before .byte-words .ensures .0) (c .before .before .before .before .before .before .before .before .before .rank-of .ensures) (c .before .before .before .before .before .before .ranked-against .ensures))
+loop-again c =
+    let at-part-words2 = c .before .before .part-words2 in
+    let at-if2 = c .before .before .before .before .if2 in
+    let at-if1 = c .before .before .before .before .before .if1 in
+    let at-ranked-against = c .before .before .before .before .before .before .ranked-against in
+    let at-byte-words = c .before .before .before .before .before .before .before .byte-words in
+    let at-rank-of = c .before .before .before .before .before .before .before .before .before .rank-of in
+    let at-loop = c .before .before .before .before .before .before .before .before .before .before .before .loop in
+    let at-start = c .before .before .before .before .before .before .before .before .before .before .before .before .before .before .before in
+    law.going-on (at-start .args .run .now) (at-start .args .prior) (at-start .args .at) (at-loop .to) (at-loop .len) (choiceSays (at-start .args .run .now) (at-start .args .best)) (at-loop .top) (at-start .pre) (at-loop .inv) (at-ranked-against .result) (at-part-words2 .result) (c .length-of .result) (at-loop .to + at-part-words2 .result) (at-part-words2 .ensures) (at-if2 .left) (at-if1 .left) refl (c .length-of .ensures .0) (c .length-of .ensures .1) (law.weighed (at-start .args .run .now) (at-start .args .prior) (at-start .args .at) (at-loop .to) (at-loop .len) (choiceSays (at-start .args .run .now) (at-start .args .best)) (at-loop .top) (at-start .pre) (at-loop .inv) (at-ranked-against .result) (at-byte-words .result) (at-rank-of .result) (at-byte-words .ensures .0) (at-rank-of .ensures) (at-ranked-against .ensures))
 
 pub longer-slices-spec : {M : Type 1} → statement M
 longer-slices-spec =

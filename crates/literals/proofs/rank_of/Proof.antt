@@ -7,29 +7,40 @@ use borrow.Author.Needs.{needs}
 use Rattle.literals.proofs.rank_of.Statement.{statement}
 use Rattle.literals.proofs.rank_of.Tie as tie
 
--- src/lib.rt:108:9
 tally-tokens-requires : tie.Need-tally-tokens-requires
 tally-tokens-requires c κs = search needs
 
--- src/lib.rt:112:9
 returns : tie.Need-returns
-returns c = pick.settled (c .before .before .before .args .best) Skipped _ (law.rank-skipped (tokensIn (c .before .before .before .args .ws .now)) _ _ (c .before .tally-tokens .ensures .literals-are) (c .before .tally-tokens .ensures .combinations-are) (c .if1 .taken))
+returns c =
+    let at-tally-tokens = c .before .tally-tokens in
+    let at-start = c .before .before .before in
+    pick.settled (at-start .args .best) Skipped _ (law.rank-skipped (tokensIn (at-start .args .ws .now)) _ _ (at-tally-tokens .ensures .literals-are) (at-tally-tokens .ensures .combinations-are) (c .if1 .taken))
 
--- src/lib.rt:115:9
 returns-2 : tie.Need-returns-2
-returns-2 c = pick.settled (c .before .before .before .before .args .best) TooMany _ (law.rank-excessive (tokensIn (c .before .before .before .before .args .ws .now)) _ _ (c .before .before .tally-tokens .ensures .literals-are) (c .before .before .tally-tokens .ensures .combinations-are) (c .before .if1 .left) (c .if2 .taken))
+returns-2 c =
+    let at-if1 = c .before .if1 in
+    let at-tally-tokens = c .before .before .tally-tokens in
+    let at-start = c .before .before .before .before in
+    pick.settled (at-start .args .best) TooMany _ (law.rank-excessive (tokensIn (at-start .args .ws .now)) _ _ (at-tally-tokens .ensures .literals-are) (at-tally-tokens .ensures .combinations-are) (at-if1 .left) (c .if2 .taken))
 
--- src/lib.rt:117:18
 penalty-of-requires : tie.Need-penalty-of-requires
 penalty-of-requires c κs = search needs
 
--- src/lib.rt:117:5
 worth-requires : tie.Need-worth-requires
-worth-requires c κs = (c .before .before .before .before .before .pre, law.count-exact (tokensIn (c .before .before .before .before .before .args .ws .now)) _ _ (c .before .before .before .tally-tokens .ensures .literals-are) (c .before .before .before .tally-tokens .ensures .combinations-are) (c .before .if2 .left), c .before .if2 .left)
+worth-requires c κs =
+    let at-if2 = c .before .if2 in
+    let at-tally-tokens = c .before .before .before .tally-tokens in
+    let at-start = c .before .before .before .before .before in
+    (at-start .pre, law.count-exact (tokensIn (at-start .args .ws .now)) _ _ (at-tally-tokens .ensures .literals-are) (at-tally-tokens .ensures .combinations-are) (at-if2 .left), at-if2 .left)
 
--- src/lib.rt:104:1
 returns-3 : tie.Need-returns-3
-returns-3 c = pick.settled-on (c .before .before .before .before .before .before .args .best) (c .worth .result) _ _ (c .worth .ensures) (law.rank-given (tokensIn (c .before .before .before .before .before .before .args .ws .now)) _ _ (c .before .before .before .before .tally-tokens .ensures .literals-are) (c .before .before .before .before .tally-tokens .ensures .combinations-are) (c .before .before .before .if1 .left) (c .before .before .if2 .left) _ _ refl (c .before .penalty-of .ensures))
+returns-3 c =
+    let at-penalty-of = c .before .penalty-of in
+    let at-if2 = c .before .before .if2 in
+    let at-if1 = c .before .before .before .if1 in
+    let at-tally-tokens = c .before .before .before .before .tally-tokens in
+    let at-start = c .before .before .before .before .before .before in
+    pick.settled-on (at-start .args .best) (c .worth .result) _ _ (c .worth .ensures) (law.rank-given (tokensIn (at-start .args .ws .now)) _ _ (at-tally-tokens .ensures .literals-are) (at-tally-tokens .ensures .combinations-are) (at-if1 .left) (at-if2 .left) _ _ refl (at-penalty-of .ensures))
 
 pub rank-of-spec : {M : Type 1} → statement M
 rank-of-spec =

@@ -8,7 +8,9 @@ use Rattle.mirror.proofs.mirror.Statement.{statement}
 use Rattle.mirror.proofs.mirror.Tie as tie
 
 returns : tie.Need-returns
-returns c = law.no-room (c .before .before .before .args .words .now) (c .before .before .before .args .pool .now) (c .if1 .taken)
+returns c =
+    let at-start = c .before .before .before in
+    law.no-room (at-start .args .words .now) (at-start .args .pool .now) (c .if1 .taken)
 
 zero-words-requires : tie.Need-zero-words-requires
 zero-words-requires c κs = search needs
@@ -18,10 +20,14 @@ same-length c = search needs
 
 returns-2 : tie.Need-returns-2
 returns-2 c =
-    let words = c .before .before .before .before .before .before .before .before .args .words .now in
-    let pool = c .before .before .before .before .before .before .before .before .args .pool .now in
-    let r = law.too-many words pool (c .before .before .before .before .before .if1 .left) (c .before .before .before .before .if2 .taken) in
-    (r .0, c .before .before .zero-words .ensures ∙ r .1)
+    let at-zero-words = c .before .before .zero-words in
+    let at-if2 = c .before .before .before .before .if2 in
+    let at-if1 = c .before .before .before .before .before .if1 in
+    let at-start = c .before .before .before .before .before .before .before .before in
+    let words = at-start .args .words .now in
+    let pool = at-start .args .pool .now in
+    let r = law.too-many words pool (at-if1 .left) (at-if2 .taken) in
+    (r .0, at-zero-words .ensures ∙ r .1)
 
 is-sound-requires : tie.Need-is-sound-requires
 is-sound-requires c κs = search needs
@@ -34,10 +40,16 @@ same-length-2 c = search needs
 
 returns-3 : tie.Need-returns-3
 returns-3 c =
-    let words = c .before .before .before .before .before .before .before .before .before .before .args .words .now in
-    let pool = c .before .before .before .before .before .before .before .before .before .before .args .pool .now in
-    let r = law.not-sound words pool (c .before .before .before .before .before .before .before .if1 .left) (c .before .before .before .before .before .before .if2 .left) (sym (c .before .before .before .before .before .is-sound .ensures) ∙ not-true _ (c .before .before .before .before .if3 .taken)) in
-    (r .0, c .before .before .zero-words2 .ensures ∙ r .1)
+    let at-zero-words2 = c .before .before .zero-words2 in
+    let at-if3 = c .before .before .before .before .if3 in
+    let at-is-sound = c .before .before .before .before .before .is-sound in
+    let at-if2 = c .before .before .before .before .before .before .if2 in
+    let at-if1 = c .before .before .before .before .before .before .before .if1 in
+    let at-start = c .before .before .before .before .before .before .before .before .before .before in
+    let words = at-start .args .words .now in
+    let pool = at-start .args .pool .now in
+    let r = law.not-sound words pool (at-if1 .left) (at-if2 .left) (sym (at-is-sound .ensures) ∙ not-true _ (at-if3 .taken)) in
+    (r .0, at-zero-words2 .ensures ∙ r .1)
 
 sub-mirror-words : tie.Need-sub-mirror-words
 sub-mirror-words c = search needs
@@ -50,10 +62,15 @@ part-mirror-words-end c = search needs
 
 mirror-words-requires : tie.Need-mirror-words-requires
 mirror-words-requires c κs =
-    let words = c .before .before .before .before .before .before .before .args .words .now in
-    let pool = c .before .before .before .before .before .before .before .args .pool .now in
-    let yes = sym (c .before .before .is-sound .ensures) ∙ not-false _ (c .before .if3 .left) in
-    (sound-words words yes, law.lent-length words pool (c .before .before .before .before .if1 .left) (c .before .before .before .if2 .left), c .before .before .before .if2 .left)
+    let at-if3 = c .before .if3 in
+    let at-is-sound = c .before .before .is-sound in
+    let at-if2 = c .before .before .before .if2 in
+    let at-if1 = c .before .before .before .before .if1 in
+    let at-start = c .before .before .before .before .before .before .before in
+    let words = at-start .args .words .now in
+    let pool = at-start .args .pool .now in
+    let yes = sym (at-is-sound .ensures) ∙ not-false _ (at-if3 .left) in
+    (sound-words words yes, law.lent-length words pool (at-if1 .left) (at-if2 .left), at-if2 .left)
 
 zero-words-requires-3 : tie.Need-zero-words-requires-3
 zero-words-requires-3 c κs = search needs
@@ -63,11 +80,18 @@ same-length-3 c = search needs
 
 returns-4 : tie.Need-returns-4
 returns-4 c =
-    let words = c .before .before .before .before .before .before .before .before .before .before .before .before .before .before .args .words .now in
-    let pool = c .before .before .before .before .before .before .before .before .before .before .before .before .before .before .args .pool .now in
-    let yes = sym (c .before .before .before .before .before .before .before .before .before .is-sound .ensures) ∙ not-false _ (c .before .before .before .before .before .before .before .before .if3 .left) in
-    let r = law.success words pool (c .before .before .before .before .before .before .before .before .before .before .before .if1 .left) (c .before .before .before .before .before .before .before .before .before .before .if2 .left) yes (c .before .before .before .before .before .before .mirror-words .last .1 .0) (c .before .before .before .before .before .before .mirror-words .ensures) in
-    (r .0, c .before .before .zero-words3 .ensures ∙ r .1)
+    let at-zero-words3 = c .before .before .zero-words3 in
+    let at-mirror-words = c .before .before .before .before .before .before .mirror-words in
+    let at-if3 = c .before .before .before .before .before .before .before .before .if3 in
+    let at-is-sound = c .before .before .before .before .before .before .before .before .before .is-sound in
+    let at-if2 = c .before .before .before .before .before .before .before .before .before .before .if2 in
+    let at-if1 = c .before .before .before .before .before .before .before .before .before .before .before .if1 in
+    let at-start = c .before .before .before .before .before .before .before .before .before .before .before .before .before .before in
+    let words = at-start .args .words .now in
+    let pool = at-start .args .pool .now in
+    let yes = sym (at-is-sound .ensures) ∙ not-false _ (at-if3 .left) in
+    let r = law.success words pool (at-if1 .left) (at-if2 .left) yes (at-mirror-words .last .1 .0) (at-mirror-words .ensures) in
+    (r .0, at-zero-words3 .ensures ∙ r .1)
 
 pub mirror-spec : {M : Type 1} → statement M
 mirror-spec =

@@ -15,7 +15,9 @@ abbrev μ-loop : tie.MeasureT-loop
 μ-loop alts out₀ n bs₀ out bs = length bs
 
 loop-holds : tie.Need-loop-holds Inv-loop μ-loop
-loop-holds c = law.branches-start (c .before .before .args .alts .now) (c .before .before .args .out .now) (c .before .before .pre .0) (c .before .before .pre .1)
+loop-holds c =
+    let at-start = c .before .before in
+    law.branches-start (at-start .args .alts .now) (at-start .args .out .now) (at-start .pre .0) (at-start .pre .1)
 
 first-word-requires : tie.Need-first-word-requires Inv-loop μ-loop
 first-word-requires c κs = search needs
@@ -31,8 +33,11 @@ same-length c = search needs
 
 returns : tie.Need-returns Inv-loop μ-loop
 returns c =
-    let l = c .before .before .before .loop in
-    law.branches-end (c .before .before .before .before .before .before .args .alts .now) (l .out) (l .bs .now) (l .inv) (sym (c .before .before .first-word .ensures) ∙ c .enum-told .given .1)
+    let at-first-word = c .before .before .first-word in
+    let at-loop = c .before .before .before .loop in
+    let at-start = c .before .before .before .before .before .before in
+    let l = at-loop in
+    law.branches-end (at-start .args .alts .now) (l .out) (l .bs .now) (l .inv) (sym (at-first-word .ensures) ∙ c .enum-told .given .1)
 
 branch-inside-requires : tie.Need-branch-inside-requires Inv-loop μ-loop
 branch-inside-requires c κs = search needs
@@ -48,10 +53,14 @@ same-length-2 c = search needs
 
 returns-2 : tie.Need-returns-2 Inv-loop μ-loop
 returns-2 c =
-    let l = c .before .before .before .before .before .before .before .loop in
-    let w = c .before .before .before .before .w .given in
-    let first = sym (c .before .before .before .before .before .before .first-word .ensures) ∙ w .1 in
-    law.branches-unfit (l .bs .now) (w .0 .0) (l .inv .sound) first (sym (c .before .before .branch-inside .ensures) ∙ c .enum-told2 .given .1)
+    let at-branch-inside = c .before .before .branch-inside in
+    let at-w = c .before .before .before .before .w in
+    let at-first-word = c .before .before .before .before .before .before .first-word in
+    let at-loop = c .before .before .before .before .before .before .before .loop in
+    let l = at-loop in
+    let w = at-w .given in
+    let first = sym (at-first-word .ensures) ∙ w .1 in
+    law.branches-unfit (l .bs .now) (w .0 .0) (l .inv .sound) first (sym (at-branch-inside .ensures) ∙ c .enum-told2 .given .1)
 
 cast-whole : tie.Need-cast-whole Inv-loop μ-loop
 cast-whole c = search needs
@@ -61,11 +70,16 @@ add-whole c = search needs
 
 sub-to : tie.Need-sub-to Inv-loop μ-loop
 sub-to c =
-    let l = c .before .before .before .before .before .before .before .before .loop in
-    let w = c .before .before .before .before .before .w .given in
-    let k = c .before .k .given in
-    let first = sym (c .before .before .before .before .before .before .before .first-word .ensures) ∙ w .1 in
-    let inside = sym (c .before .before .before .branch-inside .ensures) ∙ k .1 in
+    let at-k = c .before .k in
+    let at-branch-inside = c .before .before .before .branch-inside in
+    let at-w = c .before .before .before .before .before .w in
+    let at-first-word = c .before .before .before .before .before .before .before .first-word in
+    let at-loop = c .before .before .before .before .before .before .before .before .loop in
+    let l = at-loop in
+    let w = at-w .given in
+    let k = at-k .given in
+    let first = sym (at-first-word .ensures) ∙ w .1 in
+    let inside = sym (at-branch-inside .ensures) ∙ k .1 in
     let fits = law.branch-fits (l .bs .now) (w .0 .0) (k .0 .0) (l .inv .sound) first inside in
     omega (arith, fits, l .inv .short)
 
@@ -74,11 +88,16 @@ mul-out c = search needs
 
 slice-write-out : tie.Need-slice-write-out Inv-loop μ-loop
 slice-write-out c =
-    let l = c .before .before .before .before .before .before .before .before .loop in
-    let w = c .before .before .before .before .before .w .given in
-    let k = c .before .k .given in
-    let first = sym (c .before .before .before .before .before .before .before .first-word .ensures) ∙ w .1 in
-    let inside = sym (c .before .before .before .branch-inside .ensures) ∙ k .1 in
+    let at-k = c .before .k in
+    let at-branch-inside = c .before .before .before .branch-inside in
+    let at-w = c .before .before .before .before .before .w in
+    let at-first-word = c .before .before .before .before .before .before .before .first-word in
+    let at-loop = c .before .before .before .before .before .before .before .before .loop in
+    let l = at-loop in
+    let w = at-w .given in
+    let k = at-k .given in
+    let first = sym (at-first-word .ensures) ∙ w .1 in
+    let inside = sym (at-branch-inside .ensures) ∙ k .1 in
     let fits = law.branch-fits (l .bs .now) (w .0 .0) (k .0 .0) (l .inv .sound) first inside in
     omega (arith, fits, l .inv .short, l .inv .size)
 
@@ -87,13 +106,19 @@ add-start c = search needs
 
 add-end : tie.Need-add-end Inv-loop μ-loop
 add-end c =
-    let l = c .before .before .before .before .before .before .before .before .loop in
-    let w = c .before .before .before .before .before .w .given in
-    let k = c .before .k .given in
-    let first = sym (c .before .before .before .before .before .before .before .first-word .ensures) ∙ w .1 in
-    let inside = sym (c .before .before .before .branch-inside .ensures) ∙ k .1 in
+    let at-k = c .before .k in
+    let at-branch-inside = c .before .before .before .branch-inside in
+    let at-w = c .before .before .before .before .before .w in
+    let at-first-word = c .before .before .before .before .before .before .before .first-word in
+    let at-loop = c .before .before .before .before .before .before .before .before .loop in
+    let at-start = c .before .before .before .before .before .before .before .before .before .before .before in
+    let l = at-loop in
+    let w = at-w .given in
+    let k = at-k .given in
+    let first = sym (at-first-word .ensures) ∙ w .1 in
+    let inside = sym (at-branch-inside .ensures) ∙ k .1 in
     let fits = law.branch-fits (l .bs .now) (w .0 .0) (k .0 .0) (l .inv .sound) first inside in
-    omega (arith, fits, l .inv .short, c .before .before .before .before .before .before .before .before .before .before .before .pre .2)
+    omega (arith, fits, l .inv .short, at-start .pre .2)
 
 sub-reverse-into : tie.Need-sub-reverse-into Inv-loop μ-loop
 sub-reverse-into c = omega arith
@@ -103,11 +128,16 @@ part-reverse-into-start c = search needs
 
 part-reverse-into-end : tie.Need-part-reverse-into-end Inv-loop μ-loop
 part-reverse-into-end c =
-    let l = c .before .before .before .before .before .before .before .before .loop in
-    let w = c .before .before .before .before .before .w .given in
-    let k = c .before .k .given in
-    let first = sym (c .before .before .before .before .before .before .before .first-word .ensures) ∙ w .1 in
-    let inside = sym (c .before .before .before .branch-inside .ensures) ∙ k .1 in
+    let at-k = c .before .k in
+    let at-branch-inside = c .before .before .before .branch-inside in
+    let at-w = c .before .before .before .before .before .w in
+    let at-first-word = c .before .before .before .before .before .before .before .first-word in
+    let at-loop = c .before .before .before .before .before .before .before .before .loop in
+    let l = at-loop in
+    let w = at-w .given in
+    let k = at-k .given in
+    let first = sym (at-first-word .ensures) ∙ w .1 in
+    let inside = sym (at-branch-inside .ensures) ∙ k .1 in
     let fits = law.branch-fits (l .bs .now) (w .0 .0) (k .0 .0) (l .inv .sound) first inside in
     fits
 
@@ -122,21 +152,31 @@ part-reverse-into-start-2 c = search needs
 
 part-reverse-into-end-2 : tie.Need-part-reverse-into-end-2 Inv-loop μ-loop
 part-reverse-into-end-2 c =
-    let l = c .before .before .before .before .before .before .before .before .before .loop in
-    let w = c .before .before .before .before .before .before .w .given in
-    let k = c .before .before .k .given in
-    let first = sym (c .before .before .before .before .before .before .before .before .first-word .ensures) ∙ w .1 in
-    let inside = sym (c .before .before .before .before .branch-inside .ensures) ∙ k .1 in
+    let at-k = c .before .before .k in
+    let at-branch-inside = c .before .before .before .before .branch-inside in
+    let at-w = c .before .before .before .before .before .before .w in
+    let at-first-word = c .before .before .before .before .before .before .before .before .first-word in
+    let at-loop = c .before .before .before .before .before .before .before .before .before .loop in
+    let l = at-loop in
+    let w = at-w .given in
+    let k = at-k .given in
+    let first = sym (at-first-word .ensures) ∙ w .1 in
+    let inside = sym (at-branch-inside .ensures) ∙ k .1 in
     let fits = law.branch-fits (l .bs .now) (w .0 .0) (k .0 .0) (l .inv .sound) first inside in
     simp length-set (omega (arith, fits, l .inv .short, l .inv .size))
 
 reverse-into-requires : tie.Need-reverse-into-requires Inv-loop μ-loop
 reverse-into-requires c κs =
-    let l = c .before .before .before .before .before .before .before .before .before .before .loop in
-    let w = c .before .before .before .before .before .before .before .w .given in
-    let k = c .before .before .before .k .given in
-    let first = sym (c .before .before .before .before .before .before .before .before .before .first-word .ensures) ∙ w .1 in
-    let inside = sym (c .before .before .before .before .before .branch-inside .ensures) ∙ k .1 in
+    let at-k = c .before .before .before .k in
+    let at-branch-inside = c .before .before .before .before .before .branch-inside in
+    let at-w = c .before .before .before .before .before .before .before .w in
+    let at-first-word = c .before .before .before .before .before .before .before .before .before .first-word in
+    let at-loop = c .before .before .before .before .before .before .before .before .before .before .loop in
+    let l = at-loop in
+    let w = at-w .given in
+    let k = at-k .given in
+    let first = sym (at-first-word .ensures) ∙ w .1 in
+    let inside = sym (at-branch-inside .ensures) ∙ k .1 in
     let fits = law.branch-fits (l .bs .now) (w .0 .0) (k .0 .0) (l .inv .sound) first inside in
     law.both-are (law.inside-length (l .bs .now) (k .0 .0) fits) (simp (length-take, length-drop, length-set) (omega (arith, fits, l .inv .short, l .inv .size)))
 
@@ -145,21 +185,31 @@ mul-bs c = search needs
 
 sub-bs : tie.Need-sub-bs Inv-loop μ-loop
 sub-bs c =
-    let l = c .before .before .before .before .before .before .before .before .before .before .before .before .before .loop in
-    let w = c .before .before .before .before .before .before .before .before .before .before .w .given in
-    let k = c .before .before .before .before .before .before .k .given in
-    let first = sym (c .before .before .before .before .before .before .before .before .before .before .before .before .first-word .ensures) ∙ w .1 in
-    let inside = sym (c .before .before .before .before .before .before .before .before .branch-inside .ensures) ∙ k .1 in
+    let at-k = c .before .before .before .before .before .before .k in
+    let at-branch-inside = c .before .before .before .before .before .before .before .before .branch-inside in
+    let at-w = c .before .before .before .before .before .before .before .before .before .before .w in
+    let at-first-word = c .before .before .before .before .before .before .before .before .before .before .before .before .first-word in
+    let at-loop = c .before .before .before .before .before .before .before .before .before .before .before .before .before .loop in
+    let l = at-loop in
+    let w = at-w .given in
+    let k = at-k .given in
+    let first = sym (at-first-word .ensures) ∙ w .1 in
+    let inside = sym (at-branch-inside .ensures) ∙ k .1 in
     let fits = law.branch-fits (l .bs .now) (w .0 .0) (k .0 .0) (l .inv .sound) first inside in
     fits
 
 part-bs-start : tie.Need-part-bs-start Inv-loop μ-loop
 part-bs-start c =
-    let l = c .before .before .before .before .before .before .before .before .before .before .before .before .before .loop in
-    let w = c .before .before .before .before .before .before .before .before .before .before .w .given in
-    let k = c .before .before .before .before .before .before .k .given in
-    let first = sym (c .before .before .before .before .before .before .before .before .before .before .before .before .first-word .ensures) ∙ w .1 in
-    let inside = sym (c .before .before .before .before .before .before .before .before .branch-inside .ensures) ∙ k .1 in
+    let at-k = c .before .before .before .before .before .before .k in
+    let at-branch-inside = c .before .before .before .before .before .before .before .before .branch-inside in
+    let at-w = c .before .before .before .before .before .before .before .before .before .before .w in
+    let at-first-word = c .before .before .before .before .before .before .before .before .before .before .before .before .first-word in
+    let at-loop = c .before .before .before .before .before .before .before .before .before .before .before .before .before .loop in
+    let l = at-loop in
+    let w = at-w .given in
+    let k = at-k .given in
+    let first = sym (at-first-word .ensures) ∙ w .1 in
+    let inside = sym (at-branch-inside .ensures) ∙ k .1 in
     let fits = law.branch-fits (l .bs .now) (w .0 .0) (k .0 .0) (l .inv .sound) first inside in
     fits
 
@@ -168,25 +218,37 @@ part-bs-end c = search needs
 
 loop-less : tie.Need-loop-less Inv-loop μ-loop
 loop-less c =
-    let l = c .before .before .before .before .before .before .before .before .before .before .before .before .before .before .loop in
-    let w = c .before .before .before .before .before .before .before .before .before .before .before .w .given in
-    let k = c .before .before .before .before .before .before .before .k .given in
-    let first = sym (c .before .before .before .before .before .before .before .before .before .before .before .before .before .first-word .ensures) ∙ w .1 in
-    let inside = sym (c .before .before .before .before .before .before .before .before .before .branch-inside .ensures) ∙ k .1 in
+    let at-k = c .before .before .before .before .before .before .before .k in
+    let at-branch-inside = c .before .before .before .before .before .before .before .before .before .branch-inside in
+    let at-w = c .before .before .before .before .before .before .before .before .before .before .before .w in
+    let at-first-word = c .before .before .before .before .before .before .before .before .before .before .before .before .before .first-word in
+    let at-loop = c .before .before .before .before .before .before .before .before .before .before .before .before .before .before .loop in
+    let l = at-loop in
+    let w = at-w .given in
+    let k = at-k .given in
+    let first = sym (at-first-word .ensures) ∙ w .1 in
+    let inside = sym (at-branch-inside .ensures) ∙ k .1 in
     let fits = law.branch-fits (l .bs .now) (w .0 .0) (k .0 .0) (l .inv .sound) first inside in
     law.left-less (l .bs .now) (k .0 .0) fits
 
 loop-again : tie.Need-loop-again Inv-loop μ-loop
 loop-again c =
-    let l = c .before .before .before .before .before .before .before .before .before .before .before .before .before .before .loop in
-    let w = c .before .before .before .before .before .before .before .before .before .before .before .w .given in
-    let k = c .before .before .before .before .before .before .before .k .given in
-    let first = sym (c .before .before .before .before .before .before .before .before .before .before .before .before .before .first-word .ensures) ∙ w .1 in
-    let inside = sym (c .before .before .before .before .before .before .before .before .before .branch-inside .ensures) ∙ k .1 in
+    let at-reverse-into = c .before .before .before .reverse-into in
+    let at-k = c .before .before .before .before .before .before .before .k in
+    let at-branch-inside = c .before .before .before .before .before .before .before .before .before .branch-inside in
+    let at-w = c .before .before .before .before .before .before .before .before .before .before .before .w in
+    let at-first-word = c .before .before .before .before .before .before .before .before .before .before .before .before .before .first-word in
+    let at-loop = c .before .before .before .before .before .before .before .before .before .before .before .before .before .before .loop in
+    let at-start = c .before .before .before .before .before .before .before .before .before .before .before .before .before .before .before .before .before in
+    let l = at-loop in
+    let w = at-w .given in
+    let k = at-k .given in
+    let first = sym (at-first-word .ensures) ∙ w .1 in
+    let inside = sym (at-branch-inside .ensures) ∙ k .1 in
     let fits = law.branch-fits (l .bs .now) (w .0 .0) (k .0 .0) (l .inv .sound) first inside in
-    let to = length (c .before .before .before .before .before .before .before .before .before .before .before .before .before .before .before .before .before .args .alts .now) - length (l .bs .now) in
+    let to = length (at-start .args .alts .now) - length (l .bs .now) in
     let places = law.places-length (l .bs .now) (k .0 .0) fits (l .out) (w .0 .0) to (to + (1 + k .0 .0)) refl (omega (arith, fits, l .inv .short, l .inv .size)) in
-    law.branch-turn (l .bs .now) (w .0 .0) (k .0 .0) (l .inv .sound) first inside (c .before .before .before .before .before .before .before .before .before .before .before .before .before .before .before .before .before .args .alts .now) (l .out) (c .before .before .before .reverse-into .last .1 .0) (l .inv) (c .before .before .before .reverse-into .ensures) (c .before .before .before .reverse-into .kept .1 .0 ∙ places)
+    law.branch-turn (l .bs .now) (w .0 .0) (k .0 .0) (l .inv .sound) first inside (at-start .args .alts .now) (l .out) (at-reverse-into .last .1 .0) (l .inv) (at-reverse-into .ensures) (at-reverse-into .kept .1 .0 ∙ places)
 
 pub mirror-branches-spec : {M : Type 1} → statement M
 mirror-branches-spec =

@@ -15,7 +15,9 @@ abbrev μ-loop : tie.MeasureT-loop
 μ-loop words out₀ ns₀ out ns = length ns
 
 loop-holds : tie.Need-loop-holds Inv-loop μ-loop
-loop-holds c = law.items-start (c .before .before .args .words .now) (c .before .before .args .out .now) (c .before .before .pre .0) (c .before .before .pre .1)
+loop-holds c =
+    let at-start = c .before .before in
+    law.items-start (at-start .args .words .now) (at-start .args .out .now) (at-start .pre .0) (at-start .pre .1)
 
 first-word-requires : tie.Need-first-word-requires Inv-loop μ-loop
 first-word-requires c κs = search needs
@@ -31,8 +33,11 @@ same-length c = search needs
 
 returns : tie.Need-returns Inv-loop μ-loop
 returns c =
-    let l = c .before .before .before .loop in
-    law.items-end (c .before .before .before .before .before .before .args .words .now) (l .out) (l .ns .now) (l .inv) (sym (c .before .before .first-word .ensures) ∙ c .enum-told .given .1)
+    let at-first-word = c .before .before .first-word in
+    let at-loop = c .before .before .before .loop in
+    let at-start = c .before .before .before .before .before .before in
+    let l = at-loop in
+    law.items-end (at-start .args .words .now) (l .out) (l .ns .now) (l .inv) (sym (at-first-word .ensures) ∙ c .enum-told .given .1)
 
 item-inside-requires : tie.Need-item-inside-requires Inv-loop μ-loop
 item-inside-requires c κs = search needs
@@ -48,10 +53,14 @@ same-length-2 c = search needs
 
 returns-2 : tie.Need-returns-2 Inv-loop μ-loop
 returns-2 c =
-    let l = c .before .before .before .before .before .before .before .loop in
-    let w = c .before .before .before .before .w .given in
-    let first = sym (c .before .before .before .before .before .before .first-word .ensures) ∙ w .1 in
-    law.items-unfit (l .ns .now) (w .0 .0) (l .inv .sound) first (sym (c .before .before .item-inside .ensures) ∙ c .enum-told2 .given .1)
+    let at-item-inside = c .before .before .item-inside in
+    let at-w = c .before .before .before .before .w in
+    let at-first-word = c .before .before .before .before .before .before .first-word in
+    let at-loop = c .before .before .before .before .before .before .before .loop in
+    let l = at-loop in
+    let w = at-w .given in
+    let first = sym (at-first-word .ensures) ∙ w .1 in
+    law.items-unfit (l .ns .now) (w .0 .0) (l .inv .sound) first (sym (at-item-inside .ensures) ∙ c .enum-told2 .given .1)
 
 cast-whole : tie.Need-cast-whole Inv-loop μ-loop
 cast-whole c = search needs
@@ -61,11 +70,16 @@ add-whole c = search needs
 
 sub-to : tie.Need-sub-to Inv-loop μ-loop
 sub-to c =
-    let l = c .before .before .before .before .before .before .before .before .loop in
-    let w = c .before .before .before .before .before .w .given in
-    let k = c .before .k .given in
-    let first = sym (c .before .before .before .before .before .before .before .first-word .ensures) ∙ w .1 in
-    let inside = sym (c .before .before .before .item-inside .ensures) ∙ k .1 in
+    let at-k = c .before .k in
+    let at-item-inside = c .before .before .before .item-inside in
+    let at-w = c .before .before .before .before .before .w in
+    let at-first-word = c .before .before .before .before .before .before .before .first-word in
+    let at-loop = c .before .before .before .before .before .before .before .before .loop in
+    let l = at-loop in
+    let w = at-w .given in
+    let k = at-k .given in
+    let first = sym (at-first-word .ensures) ∙ w .1 in
+    let inside = sym (at-item-inside .ensures) ∙ k .1 in
     let fits = law.item-fits (l .ns .now) (w .0 .0) (k .0 .0) (l .inv .sound) first inside in
     fits
 
@@ -74,11 +88,16 @@ mul-out c = search needs
 
 slice-write-out : tie.Need-slice-write-out Inv-loop μ-loop
 slice-write-out c =
-    let l = c .before .before .before .before .before .before .before .before .loop in
-    let w = c .before .before .before .before .before .w .given in
-    let k = c .before .k .given in
-    let first = sym (c .before .before .before .before .before .before .before .first-word .ensures) ∙ w .1 in
-    let inside = sym (c .before .before .before .item-inside .ensures) ∙ k .1 in
+    let at-k = c .before .k in
+    let at-item-inside = c .before .before .before .item-inside in
+    let at-w = c .before .before .before .before .before .w in
+    let at-first-word = c .before .before .before .before .before .before .before .first-word in
+    let at-loop = c .before .before .before .before .before .before .before .before .loop in
+    let l = at-loop in
+    let w = at-w .given in
+    let k = at-k .given in
+    let first = sym (at-first-word .ensures) ∙ w .1 in
+    let inside = sym (at-item-inside .ensures) ∙ k .1 in
     let fits = law.item-fits (l .ns .now) (w .0 .0) (k .0 .0) (l .inv .sound) first inside in
     omega (arith, fits, l .inv .short, l .inv .size)
 
@@ -93,11 +112,16 @@ part-mirror-branches-start c = search needs
 
 part-mirror-branches-end : tie.Need-part-mirror-branches-end Inv-loop μ-loop
 part-mirror-branches-end c =
-    let l = c .before .before .before .before .before .before .before .before .loop in
-    let w = c .before .before .before .before .before .w .given in
-    let k = c .before .k .given in
-    let first = sym (c .before .before .before .before .before .before .before .first-word .ensures) ∙ w .1 in
-    let inside = sym (c .before .before .before .item-inside .ensures) ∙ k .1 in
+    let at-k = c .before .k in
+    let at-item-inside = c .before .before .before .item-inside in
+    let at-w = c .before .before .before .before .before .w in
+    let at-first-word = c .before .before .before .before .before .before .before .first-word in
+    let at-loop = c .before .before .before .before .before .before .before .before .loop in
+    let l = at-loop in
+    let w = at-w .given in
+    let k = at-k .given in
+    let first = sym (at-first-word .ensures) ∙ w .1 in
+    let inside = sym (at-item-inside .ensures) ∙ k .1 in
     let fits = law.item-fits (l .ns .now) (w .0 .0) (k .0 .0) (l .inv .sound) first inside in
     fits
 
@@ -106,66 +130,97 @@ mul-mirror-branches c = search needs
 
 sub-mirror-branches-2 : tie.Need-sub-mirror-branches-2 Inv-loop μ-loop
 sub-mirror-branches-2 c =
-    let l = c .before .before .before .before .before .before .before .before .before .loop in
-    let w = c .before .before .before .before .before .before .w .given in
-    let k = c .before .before .k .given in
-    let first = sym (c .before .before .before .before .before .before .before .before .first-word .ensures) ∙ w .1 in
-    let inside = sym (c .before .before .before .before .item-inside .ensures) ∙ k .1 in
+    let at-k = c .before .before .k in
+    let at-item-inside = c .before .before .before .before .item-inside in
+    let at-w = c .before .before .before .before .before .before .w in
+    let at-first-word = c .before .before .before .before .before .before .before .before .first-word in
+    let at-loop = c .before .before .before .before .before .before .before .before .before .loop in
+    let l = at-loop in
+    let w = at-w .given in
+    let k = at-k .given in
+    let first = sym (at-first-word .ensures) ∙ w .1 in
+    let inside = sym (at-item-inside .ensures) ∙ k .1 in
     let fits = law.item-fits (l .ns .now) (w .0 .0) (k .0 .0) (l .inv .sound) first inside in
     omega (arith, fits)
 
 part-mirror-branches-start-2 : tie.Need-part-mirror-branches-start-2 Inv-loop μ-loop
 part-mirror-branches-start-2 c =
-    let l = c .before .before .before .before .before .before .before .before .before .loop in
-    let w = c .before .before .before .before .before .before .w .given in
-    let k = c .before .before .k .given in
-    let first = sym (c .before .before .before .before .before .before .before .before .first-word .ensures) ∙ w .1 in
-    let inside = sym (c .before .before .before .before .item-inside .ensures) ∙ k .1 in
+    let at-k = c .before .before .k in
+    let at-item-inside = c .before .before .before .before .item-inside in
+    let at-w = c .before .before .before .before .before .before .w in
+    let at-first-word = c .before .before .before .before .before .before .before .before .first-word in
+    let at-loop = c .before .before .before .before .before .before .before .before .before .loop in
+    let l = at-loop in
+    let w = at-w .given in
+    let k = at-k .given in
+    let first = sym (at-first-word .ensures) ∙ w .1 in
+    let inside = sym (at-item-inside .ensures) ∙ k .1 in
     let fits = law.item-fits (l .ns .now) (w .0 .0) (k .0 .0) (l .inv .sound) first inside in
     omega (arith, fits)
 
 part-mirror-branches-end-2 : tie.Need-part-mirror-branches-end-2 Inv-loop μ-loop
 part-mirror-branches-end-2 c =
-    let l = c .before .before .before .before .before .before .before .before .before .loop in
-    let w = c .before .before .before .before .before .before .w .given in
-    let k = c .before .before .k .given in
-    let first = sym (c .before .before .before .before .before .before .before .before .first-word .ensures) ∙ w .1 in
-    let inside = sym (c .before .before .before .before .item-inside .ensures) ∙ k .1 in
+    let at-k = c .before .before .k in
+    let at-item-inside = c .before .before .before .before .item-inside in
+    let at-w = c .before .before .before .before .before .before .w in
+    let at-first-word = c .before .before .before .before .before .before .before .before .first-word in
+    let at-loop = c .before .before .before .before .before .before .before .before .before .loop in
+    let l = at-loop in
+    let w = at-w .given in
+    let k = at-k .given in
+    let first = sym (at-first-word .ensures) ∙ w .1 in
+    let inside = sym (at-item-inside .ensures) ∙ k .1 in
     let fits = law.item-fits (l .ns .now) (w .0 .0) (k .0 .0) (l .inv .sound) first inside in
     simp length-set (omega (arith, fits, l .inv .short, l .inv .size))
 
 mirror-branches-requires : tie.Need-mirror-branches-requires Inv-loop μ-loop
 mirror-branches-requires c κs =
-    let l = c .before .before .before .before .before .before .before .before .before .before .loop in
-    let w = c .before .before .before .before .before .before .before .w .given in
-    let k = c .before .before .before .k .given in
-    let first = sym (c .before .before .before .before .before .before .before .before .before .first-word .ensures) ∙ w .1 in
-    let inside = sym (c .before .before .before .before .before .item-inside .ensures) ∙ k .1 in
+    let at-k = c .before .before .before .k in
+    let at-item-inside = c .before .before .before .before .before .item-inside in
+    let at-w = c .before .before .before .before .before .before .before .w in
+    let at-first-word = c .before .before .before .before .before .before .before .before .before .first-word in
+    let at-loop = c .before .before .before .before .before .before .before .before .before .before .loop in
+    let at-start = c .before .before .before .before .before .before .before .before .before .before .before .before .before in
+    let l = at-loop in
+    let w = at-w .given in
+    let k = at-k .given in
+    let first = sym (at-first-word .ensures) ∙ w .1 in
+    let inside = sym (at-item-inside .ensures) ∙ k .1 in
     let fits = law.item-fits (l .ns .now) (w .0 .0) (k .0 .0) (l .inv .sound) first inside in
     let to = length (l .ns .now) - (1 + k .0 .0) in
     let places = law.places-length (l .ns .now) (k .0 .0) fits (l .out) (w .0 .0) to (length (l .ns .now)) (omega (arith, fits)) (omega (arith, fits, l .inv .short, l .inv .size)) in
-    (law.item-inside (l .ns .now) (w .0 .0) (k .0 .0) (l .inv .sound) first inside, places ∙ sym (law.inside-length (l .ns .now) (k .0 .0) fits), omega (arith, law.inside-length (l .ns .now) (k .0 .0) fits, fits, l .inv .short, c .before .before .before .before .before .before .before .before .before .before .before .before .before .pre .2))
+    (law.item-inside (l .ns .now) (w .0 .0) (k .0 .0) (l .inv .sound) first inside, places ∙ sym (law.inside-length (l .ns .now) (k .0 .0) fits), omega (arith, law.inside-length (l .ns .now) (k .0 .0) fits, fits, l .inv .short, at-start .pre .2))
 
 mul-ns : tie.Need-mul-ns Inv-loop μ-loop
 mul-ns c = search needs
 
 sub-ns : tie.Need-sub-ns Inv-loop μ-loop
 sub-ns c =
-    let l = c .before .before .before .before .before .before .before .before .before .before .before .before .before .loop in
-    let w = c .before .before .before .before .before .before .before .before .before .before .w .given in
-    let k = c .before .before .before .before .before .before .k .given in
-    let first = sym (c .before .before .before .before .before .before .before .before .before .before .before .before .first-word .ensures) ∙ w .1 in
-    let inside = sym (c .before .before .before .before .before .before .before .before .item-inside .ensures) ∙ k .1 in
+    let at-k = c .before .before .before .before .before .before .k in
+    let at-item-inside = c .before .before .before .before .before .before .before .before .item-inside in
+    let at-w = c .before .before .before .before .before .before .before .before .before .before .w in
+    let at-first-word = c .before .before .before .before .before .before .before .before .before .before .before .before .first-word in
+    let at-loop = c .before .before .before .before .before .before .before .before .before .before .before .before .before .loop in
+    let l = at-loop in
+    let w = at-w .given in
+    let k = at-k .given in
+    let first = sym (at-first-word .ensures) ∙ w .1 in
+    let inside = sym (at-item-inside .ensures) ∙ k .1 in
     let fits = law.item-fits (l .ns .now) (w .0 .0) (k .0 .0) (l .inv .sound) first inside in
     fits
 
 part-ns-start : tie.Need-part-ns-start Inv-loop μ-loop
 part-ns-start c =
-    let l = c .before .before .before .before .before .before .before .before .before .before .before .before .before .loop in
-    let w = c .before .before .before .before .before .before .before .before .before .before .w .given in
-    let k = c .before .before .before .before .before .before .k .given in
-    let first = sym (c .before .before .before .before .before .before .before .before .before .before .before .before .first-word .ensures) ∙ w .1 in
-    let inside = sym (c .before .before .before .before .before .before .before .before .item-inside .ensures) ∙ k .1 in
+    let at-k = c .before .before .before .before .before .before .k in
+    let at-item-inside = c .before .before .before .before .before .before .before .before .item-inside in
+    let at-w = c .before .before .before .before .before .before .before .before .before .before .w in
+    let at-first-word = c .before .before .before .before .before .before .before .before .before .before .before .before .first-word in
+    let at-loop = c .before .before .before .before .before .before .before .before .before .before .before .before .before .loop in
+    let l = at-loop in
+    let w = at-w .given in
+    let k = at-k .given in
+    let first = sym (at-first-word .ensures) ∙ w .1 in
+    let inside = sym (at-item-inside .ensures) ∙ k .1 in
     let fits = law.item-fits (l .ns .now) (w .0 .0) (k .0 .0) (l .inv .sound) first inside in
     fits
 
@@ -174,25 +229,37 @@ part-ns-end c = search needs
 
 loop-less : tie.Need-loop-less Inv-loop μ-loop
 loop-less c =
-    let l = c .before .before .before .before .before .before .before .before .before .before .before .before .before .before .loop in
-    let w = c .before .before .before .before .before .before .before .before .before .before .before .w .given in
-    let k = c .before .before .before .before .before .before .before .k .given in
-    let first = sym (c .before .before .before .before .before .before .before .before .before .before .before .before .before .first-word .ensures) ∙ w .1 in
-    let inside = sym (c .before .before .before .before .before .before .before .before .before .item-inside .ensures) ∙ k .1 in
+    let at-k = c .before .before .before .before .before .before .before .k in
+    let at-item-inside = c .before .before .before .before .before .before .before .before .before .item-inside in
+    let at-w = c .before .before .before .before .before .before .before .before .before .before .before .w in
+    let at-first-word = c .before .before .before .before .before .before .before .before .before .before .before .before .before .first-word in
+    let at-loop = c .before .before .before .before .before .before .before .before .before .before .before .before .before .before .loop in
+    let l = at-loop in
+    let w = at-w .given in
+    let k = at-k .given in
+    let first = sym (at-first-word .ensures) ∙ w .1 in
+    let inside = sym (at-item-inside .ensures) ∙ k .1 in
     let fits = law.item-fits (l .ns .now) (w .0 .0) (k .0 .0) (l .inv .sound) first inside in
     law.left-less (l .ns .now) (k .0 .0) fits
 
 loop-again : tie.Need-loop-again Inv-loop μ-loop
 loop-again c =
-    let l = c .before .before .before .before .before .before .before .before .before .before .before .before .before .before .loop in
-    let w = c .before .before .before .before .before .before .before .before .before .before .before .w .given in
-    let k = c .before .before .before .before .before .before .before .k .given in
-    let first = sym (c .before .before .before .before .before .before .before .before .before .before .before .before .before .first-word .ensures) ∙ w .1 in
-    let inside = sym (c .before .before .before .before .before .before .before .before .before .item-inside .ensures) ∙ k .1 in
+    let at-mirror-branches = c .before .before .before .mirror-branches in
+    let at-k = c .before .before .before .before .before .before .before .k in
+    let at-item-inside = c .before .before .before .before .before .before .before .before .before .item-inside in
+    let at-w = c .before .before .before .before .before .before .before .before .before .before .before .w in
+    let at-first-word = c .before .before .before .before .before .before .before .before .before .before .before .before .before .first-word in
+    let at-loop = c .before .before .before .before .before .before .before .before .before .before .before .before .before .before .loop in
+    let at-start = c .before .before .before .before .before .before .before .before .before .before .before .before .before .before .before .before .before in
+    let l = at-loop in
+    let w = at-w .given in
+    let k = at-k .given in
+    let first = sym (at-first-word .ensures) ∙ w .1 in
+    let inside = sym (at-item-inside .ensures) ∙ k .1 in
     let fits = law.item-fits (l .ns .now) (w .0 .0) (k .0 .0) (l .inv .sound) first inside in
     let to = length (l .ns .now) - (1 + k .0 .0) in
     let places = law.places-length (l .ns .now) (k .0 .0) fits (l .out) (w .0 .0) to (length (l .ns .now)) (omega (arith, fits)) (omega (arith, fits, l .inv .short, l .inv .size)) in
-    law.item-turn (l .ns .now) (w .0 .0) (k .0 .0) (l .inv .sound) first inside (c .before .before .before .before .before .before .before .before .before .before .before .before .before .before .before .before .before .args .words .now) (l .out) (c .before .before .before .mirror-branches .last .1 .0) (l .inv) (c .before .before .before .mirror-branches .ensures) (c .before .before .before .mirror-branches .kept .1 .0 ∙ places)
+    law.item-turn (l .ns .now) (w .0 .0) (k .0 .0) (l .inv .sound) first inside (at-start .args .words .now) (l .out) (at-mirror-branches .last .1 .0) (l .inv) (at-mirror-branches .ensures) (at-mirror-branches .kept .1 .0 ∙ places)
 
 pub mirror-words-spec : {M : Type 1} → statement M
 mirror-words-spec =

@@ -48,10 +48,12 @@ loop-less c = search needs
 
 loop-again : tie.Need-loop-again Inv-loop μ-loop
 loop-again c =
-    let src = c .before .before .before .args .src .now in
-    let dst = c .before .before .before .args .dst .now in
-    let same = c .before .before .before .pre in
-    let l = c .before .before .loop in
+    let at-loop = c .before .before .loop in
+    let at-start = c .before .before .before in
+    let src = at-start .args .src .now in
+    let dst = at-start .args .dst .now in
+    let same = at-start .pre in
+    let l = at-loop in
     (omega arith, length-set (l .dst) _ _ ∙ l .inv .1, ap (λ (x : List ℕ). set x (length src - 1 - l .i) (getD src (l .i) 0)) (l .inv .2) ∙ law.reversed-more src dst same (l .i) (omega arith))
 
 same-length : tie.Need-same-length Inv-loop μ-loop
@@ -59,10 +61,12 @@ same-length c = search needs
 
 returns : tie.Need-returns Inv-loop μ-loop
 returns c =
-    let src = c .before .before .args .src .now in
-    let dst = c .before .before .args .dst .now in
-    let same = c .before .before .pre in
-    let l = c .before .loop in
+    let at-loop = c .before .loop in
+    let at-start = c .before .before in
+    let src = at-start .args .src .now in
+    let dst = at-start .args .dst .now in
+    let same = at-start .pre in
+    let l = at-loop in
     l .inv .2 ∙ law.reversed-all src dst same (l .i) (omega arith)
 
 pub reverse-into-spec : {M : Type 1} → statement M

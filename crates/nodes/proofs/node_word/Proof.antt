@@ -51,16 +51,24 @@ returns : tie.Need-returns
 returns c = search needs
 
 returns-2 : tie.Need-returns-2
-returns-2 c = c .made .ensures ∙ rw (c .before .before .n2 .given .1)
+returns-2 c =
+    let at-n2 = c .before .before .n2 in
+    c .made .ensures ∙ rw (at-n2 .given .1)
 
 returns-3 : tie.Need-returns-3
-returns-3 c = c .made2 .ensures ∙ rw (c .before .before .n3 .given .1)
+returns-3 c =
+    let at-n3 = c .before .before .n3 in
+    c .made2 .ensures ∙ rw (at-n3 .given .1)
 
 returns-4 : tie.Need-returns-4
-returns-4 c = rw (c .before .n4 .given .1) (omega arith)
+returns-4 c =
+    let at-n4 = c .before .n4 in
+    rw (at-n4 .given .1) (omega arith)
 
 returns-5 : tie.Need-returns-5
-returns-5 c = c .made3 .ensures ∙ rw (c .before .before .n5 .given .1)
+returns-5 c =
+    let at-n5 = c .before .before .n5 in
+    c .made3 .ensures ∙ rw (at-n5 .given .1)
 
 returns-6 : tie.Need-returns-6
 returns-6 c = search needs

@@ -47,8 +47,12 @@ put-decimal-same-length t c = search needs
 
 put-decimal-returns : (t : ℕ) → put-decimal-lts.Need-returns (put-decimal-cl t) (put-decimal-at t) put-decimal.Post
 put-decimal-returns t c =
-    let n = c .before .before .before .before .before .before .before .args .n in
-    put-same (decimalOf n) (c .before .before .put-byte .ensures) (ap (λ (x : ℕ). x ∷ []) (c .before .before .before .digit-of .ensures) ∙ sym (decimal-one n (c .before .before .before .before .before .if1 .taken)))
+    let at-put-byte = c .before .before .put-byte in
+    let at-digit-of = c .before .before .before .digit-of in
+    let at-if1 = c .before .before .before .before .before .if1 in
+    let at-start = c .before .before .before .before .before .before .before in
+    let n = at-start .args .n in
+    put-same (decimalOf n) (at-put-byte .ensures) (ap (λ (x : ℕ). x ∷ []) (at-digit-of .ensures) ∙ sym (decimal-one n (at-if1 .taken)))
 
 put-decimal-put-decimal-requires : (t : ℕ) → put-decimal-lts.Need-put-decimal-requires (put-decimal-cl t) (put-decimal-at t) put-decimal.Post
 put-decimal-put-decimal-requires t c κs = (omega arith, search needs)
@@ -61,9 +65,11 @@ put-decimal-digit-of-requires-2 t c κs = search needs
 
 put-decimal-put-byte-requires-2 : (t : ℕ) → put-decimal-lts.Need-put-byte-requires-2 (put-decimal-cl t) (put-decimal-at t) put-decimal.Post
 put-decimal-put-byte-requires-2 t c κs =
-    let n = c .before .before .before .before .before .before .before .before .args .n in
+    let at-put-decimal = c .before .before .before .before .put-decimal in
+    let at-start = c .before .before .before .before .before .before .before .before in
+    let n = at-start .args .n in
     let l : length (decimalOf (n / 10)) ≤ 19 = decimal-length 18 (n / 10) (omega arith) in
-    let m = c .before .before .before .before .put-decimal .ensures .next in
+    let m = at-put-decimal .ensures .next in
     omega arith
 
 put-decimal-same-length-2 : (t : ℕ) → put-decimal-lts.Need-same-length-2 (put-decimal-cl t) (put-decimal-at t) put-decimal.Post
@@ -71,8 +77,13 @@ put-decimal-same-length-2 t c = search needs
 
 put-decimal-returns-2 : (t : ℕ) → put-decimal-lts.Need-returns-2 (put-decimal-cl t) (put-decimal-at t) put-decimal.Post
 put-decimal-returns-2 t c =
-    let n = c .before .before .before .before .before .before .before .before .before .before .before .args .n in
-    put-same (decimalOf n) (put-then (c .before .before .before .before .before .before .before .put-decimal .ensures) (c .before .before .put-byte2 .ensures)) (ap (λ (x : ℕ). decimalOf (n / 10) ++ (x ∷ [])) (c .before .before .before .digit-of2 .ensures) ∙ sym (decimal-more n (c .before .before .before .before .before .before .before .before .before .if1 .left)))
+    let at-put-byte2 = c .before .before .put-byte2 in
+    let at-digit-of2 = c .before .before .before .digit-of2 in
+    let at-put-decimal = c .before .before .before .before .before .before .before .put-decimal in
+    let at-if1 = c .before .before .before .before .before .before .before .before .before .if1 in
+    let at-start = c .before .before .before .before .before .before .before .before .before .before .before in
+    let n = at-start .args .n in
+    put-same (decimalOf n) (put-then (at-put-decimal .ensures) (at-put-byte2 .ensures)) (ap (λ (x : ℕ). decimalOf (n / 10) ++ (x ∷ [])) (at-digit-of2 .ensures) ∙ sym (decimal-more n (at-if1 .left)))
 
 pub +put-decimal-spec : {M : Type 1} → statement M
 +put-decimal-spec = close μ-put-decimal λ t. put-decimal-lts.spec (put-decimal-cl t) (put-decimal-at t)

@@ -13,11 +13,15 @@ add-result-2 c = search needs
 
 returns : tie.Need-returns
 unfolding digit
-returns c = rw (lt-ltb (c .before .args .d) 10 (c .if1 .taken))
+returns c =
+    let at-start = c .before in
+    rw (lt-ltb (at-start .args .d) 10 (c .if1 .taken))
 
 returns-2 : tie.Need-returns-2
 unfolding digit
-returns-2 c = rw (le-ltb (c .before .args .d) 10 (c .if1 .left))
+returns-2 c =
+    let at-start = c .before in
+    rw (le-ltb (at-start .args .d) 10 (c .if1 .left))
 
 pub digit-of-spec : {M : Type 1} → statement M
 digit-of-spec = tie.close (tie.spec add-result add-result-2 returns returns-2)

@@ -11,7 +11,9 @@ add-result c = search needs
 
 returns : tie.Need-returns
 unfolding laid
-returns c = record { next = refl; holds = sym (set-out (c .before .args .out .now) (c .before .args .at) (c .before .args .b) (c .if1 .taken)) }
+returns c =
+    let at-start = c .before in
+    record { next = refl; holds = sym (set-out (at-start .args .out .now) (at-start .args .at) (at-start .args .b) (c .if1 .taken)) }
 
 slice-write-out : tie.Need-slice-write-out
 slice-write-out c = search needs

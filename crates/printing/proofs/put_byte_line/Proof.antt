@@ -16,8 +16,10 @@ put-hex-requires c κs = search needs
 put-byte-requires : tie.Need-put-byte-requires
 unfolding hexOf
 put-byte-requires c κs =
-    let m = c .before .before .before .before .before .before .before .put-bytes .ensures .next in
-    let k = c .before .before .before .put-hex .ensures .next in
+    let at-put-hex = c .before .before .before .put-hex in
+    let at-put-bytes = c .before .before .before .before .before .before .before .put-bytes in
+    let m = at-put-bytes .ensures .next in
+    let k = at-put-hex .ensures .next in
     omega arith
 
 same-length : tie.Need-same-length
@@ -25,7 +27,11 @@ same-length c = search needs
 
 returns : tie.Need-returns
 unfolding byteLine
-returns c = put-three (c .before .before .before .before .before .before .before .before .before .before .put-bytes .ensures) (c .before .before .before .before .before .before .put-hex .ensures) (c .before .before .put-byte .ensures)
+returns c =
+    let at-put-byte = c .before .before .put-byte in
+    let at-put-hex = c .before .before .before .before .before .before .put-hex in
+    let at-put-bytes = c .before .before .before .before .before .before .before .before .before .before .put-bytes in
+    put-three (at-put-bytes .ensures) (at-put-hex .ensures) (at-put-byte .ensures)
 
 pub put-byte-line-spec : {M : Type 1} → statement M
 put-byte-line-spec =

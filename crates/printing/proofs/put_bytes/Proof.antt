@@ -19,7 +19,8 @@ abbrev μ-loop : tie.MeasureT-loop
 
 loop-holds : tie.Need-loop-holds Inv-loop μ-loop
 loop-holds c =
-    let a = c .before .before .args in
+    let at-start = c .before .before in
+    let a = at-start .args in
     (omega arith, omega arith, put-same (each (λ b. b ∷ []) []) (put-none (a .out .now) (a .at)) (sym (each-none (λ b. b ∷ []))))
 
 shared-slice-read-put-byte : tie.Need-shared-slice-read-put-byte Inv-loop μ-loop
@@ -36,19 +37,27 @@ loop-less c = search needs
 
 loop-again : tie.Need-loop-again Inv-loop μ-loop
 loop-again c =
-    let l = c .before .before .before .before .before .before .loop in
-    let s = c .before .before .before .before .before .before .before .before .before .args .s .now in
-    let w = c .before .before .put-byte .ensures in
+    let at-put-byte = c .before .before .put-byte in
+    let at-loop-test = c .before .before .before .before .before .loop-test in
+    let at-loop = c .before .before .before .before .before .before .loop in
+    let at-start = c .before .before .before .before .before .before .before .before .before in
+    let l = at-loop in
+    let s = at-start .args .s .now in
+    let w = at-put-byte .ensures in
     let m = w .next in
-    (omega arith, omega arith, put-each (λ b. b ∷ []) s (l .i) (c .before .before .before .before .before .loop-test .taken) (l .inv .2) w)
+    (omega arith, omega arith, put-each (λ b. b ∷ []) s (l .i) (at-loop-test .taken) (l .inv .2) w)
 
 same-length : tie.Need-same-length Inv-loop μ-loop
-same-length c = put-length (c .before .loop .inv .2)
+same-length c =
+    let at-loop = c .before .loop in
+    put-length (at-loop .inv .2)
 
 returns : tie.Need-returns Inv-loop μ-loop
 returns c =
-    let l = c .before .loop in
-    let s = c .before .before .before .before .args .s .now in
+    let at-loop = c .before .loop in
+    let at-start = c .before .before .before .before in
+    let l = at-loop in
+    let s = at-start .args .s .now in
     let e : take (l .i) s ≡ s = take-all (l .i) s (c .loop-test .left) in
     put-same s (l .inv .2) (ap (each (λ b. b ∷ [])) e ∙ each-itself s)
 

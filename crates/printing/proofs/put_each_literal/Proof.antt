@@ -19,7 +19,9 @@ abbrev μ-loop : tie.MeasureT-loop
 μ-loop out₀ at lens bytes k₀ from₀ i₀ out k from i = length lens - i
 
 loop-holds : tie.Need-loop-holds Inv-loop μ-loop
-loop-holds c = let a = c .before .before .before .args in (omega arith, omega arith, omega arith, refl, λ r t z. z)
+loop-holds c =
+    let at-start = c .before .before .before in
+    let a = at-start .args in (omega arith, omega arith, omega arith, refl, λ r t z. z)
 
 mul-least : tie.Need-mul-least Inv-loop μ-loop
 mul-least c = search needs
@@ -28,7 +30,9 @@ shared-slice-read-least : tie.Need-shared-slice-read-least Inv-loop μ-loop
 shared-slice-read-least c = search needs
 
 cast-least : tie.Need-cast-least Inv-loop μ-loop
-cast-least c = omega (arith, c .shared-slice-known3 .given (c .before .before .loop .i))
+cast-least c =
+    let at-loop = c .before .before .loop in
+    omega (arith, c .shared-slice-known3 .given (at-loop .i))
 
 sub-least : tie.Need-sub-least Inv-loop μ-loop
 sub-least c = search needs
@@ -62,25 +66,34 @@ loop-less c = search needs
 
 loop-again : tie.Need-loop-again Inv-loop μ-loop
 loop-again c =
-    let l = c .before .before .before .before .before .before .before .before .loop in
-    let a = c .before .before .before .before .before .before .before .before .before .before .before .before .args in
-    let w = c .before .before .put-literal .ensures in
+    let at-put-literal = c .before .before .put-literal in
+    let at-least = c .before .before .before .before .before .least in
+    let at-loop-test = c .before .before .before .before .before .before .before .loop-test in
+    let at-loop = c .before .before .before .before .before .before .before .before .loop in
+    let at-start = c .before .before .before .before .before .before .before .before .before .before .before .before in
+    let l = at-loop in
+    let a = at-start .args in
+    let w = at-put-literal .ensures in
     let m = w .next in
-    let n = c .before .before .before .before .before .least .result in
-    let e = c .before .before .before .before .before .least .ensures in
+    let n = at-least .result in
+    let e = at-least .ensures in
     let h = length-literal (take (l .from + n - l .from) (drop (l .from) (a .bytes .now))) in
     let k = length-take (l .from + n - l .from) (drop (l .from) (a .bytes .now)) in
     let j = length-drop (l .from) (a .bytes .now) in
-    let s = literals-step (a .lens .now) (a .bytes .now) (l .i) (l .from) n (c .before .before .before .before .before .before .before .loop-test .taken) e in
+    let s = literals-step (a .lens .now) (a .bytes .now) (l .i) (l .from) n (at-loop-test .taken) e in
     (omega arith, omega arith, omega arith, put-length w ∙ l .inv .3, λ r t z. l .inv .4 r t (put-same (literalLines (cut (drop (l .i) (a .lens .now)) (drop (l .from) (a .bytes .now)))) (put-then w z) s))
 
 same-length : tie.Need-same-length Inv-loop μ-loop
-same-length c = c .before .loop .inv .3
+same-length c =
+    let at-loop = c .before .loop in
+    at-loop .inv .3
 
 returns : tie.Need-returns Inv-loop μ-loop
 returns c =
-    let l = c .before .loop in
-    let a = c .before .before .before .before .before .args in
+    let at-loop = c .before .loop in
+    let at-start = c .before .before .before .before .before in
+    let l = at-loop in
+    let a = at-start .args in
     let e = literals-none (a .lens .now) (drop (l .from) (a .bytes .now)) (l .i) (c .loop-test .left) in
     l .inv .4 (l .k) (l .out) (put-same (literalLines (cut (drop (l .i) (a .lens .now)) (drop (l .from) (a .bytes .now)))) (put-none (l .out) (l .k)) (sym e))
 

@@ -26,10 +26,15 @@ same-length c = search needs
 returns : tie.Need-returns
 unfolding hexOf
 returns c =
-    let b = c .before .before .before .before .before .before .before .before .before .before .before .args .b in
-    let x = c .before .before .before .before .before .before .before .before .digit-of in
-    let y = c .before .before .before .digit-of2 in
-    put-same (hexOf b) (put-then (c .before .before .before .before .before .before .before .put-byte .ensures) (c .before .before .put-byte2 .ensures)) (ap (λ (d : ℕ). d ∷ y .result ∷ []) (x .ensures) ∙ ap (λ (d : ℕ). digit (b / 16) ∷ d ∷ []) (y .ensures))
+    let at-put-byte2 = c .before .before .put-byte2 in
+    let at-digit-of2 = c .before .before .before .digit-of2 in
+    let at-put-byte = c .before .before .before .before .before .before .before .put-byte in
+    let at-digit-of = c .before .before .before .before .before .before .before .before .digit-of in
+    let at-start = c .before .before .before .before .before .before .before .before .before .before .before in
+    let b = at-start .args .b in
+    let x = at-digit-of in
+    let y = at-digit-of2 in
+    put-same (hexOf b) (put-then (at-put-byte .ensures) (at-put-byte2 .ensures)) (ap (λ (d : ℕ). d ∷ y .result ∷ []) (x .ensures) ∙ ap (λ (d : ℕ). digit (b / 16) ∷ d ∷ []) (y .ensures))
 
 pub put-hex-spec : {M : Type 1} → statement M
 put-hex-spec =

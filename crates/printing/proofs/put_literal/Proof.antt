@@ -12,8 +12,10 @@ put-hexes-requires c κs = search needs
 
 put-byte-requires : tie.Need-put-byte-requires
 put-byte-requires c κs =
-    let l = length-hexes (c .before .before .before .before .before .before .before .args .s .now) in
-    let m = c .before .before .before .put-hexes .ensures .next in
+    let at-put-hexes = c .before .before .before .put-hexes in
+    let at-start = c .before .before .before .before .before .before .before in
+    let l = length-hexes (at-start .args .s .now) in
+    let m = at-put-hexes .ensures .next in
     omega arith
 
 same-length : tie.Need-same-length
@@ -21,7 +23,10 @@ same-length c = search needs
 
 returns : tie.Need-returns
 unfolding literalLine
-returns c = put-then (c .before .before .before .before .before .before .put-hexes .ensures) (c .before .before .put-byte .ensures)
+returns c =
+    let at-put-byte = c .before .before .put-byte in
+    let at-put-hexes = c .before .before .before .before .before .before .put-hexes in
+    put-then (at-put-hexes .ensures) (at-put-byte .ensures)
 
 pub put-literal-spec : {M : Type 1} → statement M
 put-literal-spec = tie.close (tie.spec put-hexes-requires put-byte-requires same-length returns)

@@ -23,9 +23,11 @@ put-numbers-line-requires c κs = search needs
 
 put-each-literal-requires : tie.Need-put-each-literal-requires
 put-each-literal-requires c κs =
-    let a = c .before .before .before .before .before .before .before .before .before .before .args in
+    let at-put-numbers-line = c .before .before .before .put-numbers-line in
+    let at-start = c .before .before .before .before .before .before .before .before .before .before in
+    let a = at-start .args in
     let b = length-numbers (ascii "literals ") (ascii " rank ") 19 19 (length (a .lens .now)) (a .rank) (omega arith) (omega arith) in
-    let m = c .before .before .before .put-numbers-line .ensures .next in
+    let m = at-put-numbers-line .ensures .next in
     omega arith
 
 same-length : tie.Need-same-length
@@ -34,10 +36,13 @@ same-length c = search needs
 returns : tie.Need-returns
 unfolding literalsLines
 returns c =
-    let a = c .before .before .before .before .before .before .before .before .before .before .before .before .before .args in
+    let at-put-each-literal = c .before .before .put-each-literal in
+    let at-put-numbers-line = c .before .before .before .before .before .before .put-numbers-line in
+    let at-start = c .before .before .before .before .before .before .before .before .before .before .before .before .before in
+    let a = at-start .args in
     let ls = cut (a .lens .now) (a .bytes .now) in
     put-same (literalsLines (a .rank) ls)
-    (put-then (c .before .before .before .before .before .before .put-numbers-line .ensures) (c .before .before .put-each-literal .ensures))
+    (put-then (at-put-numbers-line .ensures) (at-put-each-literal .ensures))
     (ap (λ (n : ℕ). numbersLine (ascii "literals ") n (ascii " rank ") (a .rank) ++ literalLines ls) (sym (length-cut (a .lens .now) (a .bytes .now))))
 
 pub put-literals-spec : {M : Type 1} → statement M

@@ -15,7 +15,9 @@ same-length c = search needs
 
 returns : tie.Need-returns
 unfolding literalsRefusedLine
-returns c = c .before .before .put-number-line .ensures
+returns c =
+    let at-put-number-line = c .before .before .put-number-line in
+    at-put-number-line .ensures
 
 pub put-literals-refused-spec : {M : Type 1} → statement M
 put-literals-refused-spec =

@@ -19,8 +19,10 @@ slice-aggregate-put-byte-line c = search needs
 put-byte-line-requires : tie.Need-put-byte-line-requires
 unfolding hexOf
 put-byte-line-requires c κs =
-    let m = c .before .before .before .before .before .before .before .before .put-bytes .ensures .next in
-    let k = c .before .before .before .before .put-hex .ensures .next in
+    let at-put-hex = c .before .before .before .before .put-hex in
+    let at-put-bytes = c .before .before .before .before .before .before .before .before .put-bytes in
+    let m = at-put-bytes .ensures .next in
+    let k = at-put-hex .ensures .next in
     omega arith
 
 same-length : tie.Need-same-length
@@ -28,7 +30,11 @@ same-length c = search needs
 
 returns : tie.Need-returns
 unfolding maskLine
-returns c = put-three (c .before .before .before .before .before .before .before .before .before .before .before .put-bytes .ensures) (c .before .before .before .before .before .before .before .put-hex .ensures) (c .before .before .put-byte-line .ensures)
+returns c =
+    let at-put-byte-line = c .before .before .put-byte-line in
+    let at-put-hex = c .before .before .before .before .before .before .before .put-hex in
+    let at-put-bytes = c .before .before .before .before .before .before .before .before .before .before .before .put-bytes in
+    put-three (at-put-bytes .ensures) (at-put-hex .ensures) (at-put-byte-line .ensures)
 
 pub put-mask-line-spec : {M : Type 1} → statement M
 put-mask-line-spec =

@@ -77,50 +77,72 @@ same-length c = search needs
 
 returns : tie.Need-returns
 returns c =
-    let a = c .before .before .before .before .before .before .before .before .before .args in
-    let n = c .before .before .before .before .before .before .before .node-of in
-    put-same (nodeLine (a .w)) (c .before .before .put-test .ensures) (node-line (a .w) (n .result) _ (n .ensures) (c .before .before .before .before .before .node .given .1))
+    let at-put-test = c .before .before .put-test in
+    let at-node = c .before .before .before .before .before .node in
+    let at-node-of = c .before .before .before .before .before .before .before .node-of in
+    let at-start = c .before .before .before .before .before .before .before .before .before in
+    let a = at-start .args in
+    let n = at-node-of in
+    put-same (nodeLine (a .w)) (at-put-test .ensures) (node-line (a .w) (n .result) _ (n .ensures) (at-node .given .1))
 
 same-length-2 : tie.Need-same-length-2
 same-length-2 c = search needs
 
 returns-2 : tie.Need-returns-2
 returns-2 c =
-    let a = c .before .before .before .before .before .before .before .before .before .before .args in
-    let n = c .before .before .before .before .before .before .before .before .node-of in
-    put-same (nodeLine (a .w)) (c .before .before .put-number-line .ensures) (node-line (a .w) (n .result) _ (n .ensures) (c .before .before .before .before .before .before .node2 .given .1))
+    let at-put-number-line = c .before .before .put-number-line in
+    let at-node2 = c .before .before .before .before .before .before .node2 in
+    let at-node-of = c .before .before .before .before .before .before .before .before .node-of in
+    let at-start = c .before .before .before .before .before .before .before .before .before .before in
+    let a = at-start .args in
+    let n = at-node-of in
+    put-same (nodeLine (a .w)) (at-put-number-line .ensures) (node-line (a .w) (n .result) _ (n .ensures) (at-node2 .given .1))
 
 same-length-3 : tie.Need-same-length-3
 same-length-3 c = search needs
 
 returns-3 : tie.Need-returns-3
 returns-3 c =
-    let a = c .before .before .before .before .before .before .before .before .before .before .before .args in
-    let n = c .before .before .before .before .before .before .before .before .before .node-of in
-    put-same (nodeLine (a .w)) (c .before .before .put-numbers-line .ensures) (node-line (a .w) (n .result) _ (n .ensures) (c .before .before .before .before .before .before .before .node3 .given .1))
+    let at-put-numbers-line = c .before .before .put-numbers-line in
+    let at-node3 = c .before .before .before .before .before .before .before .node3 in
+    let at-node-of = c .before .before .before .before .before .before .before .before .before .node-of in
+    let at-start = c .before .before .before .before .before .before .before .before .before .before .before in
+    let a = at-start .args in
+    let n = at-node-of in
+    put-same (nodeLine (a .w)) (at-put-numbers-line .ensures) (node-line (a .w) (n .result) _ (n .ensures) (at-node3 .given .1))
 
 same-length-4 : tie.Need-same-length-4
 same-length-4 c = search needs
 
 returns-4 : tie.Need-returns-4
 returns-4 c =
-    let a = c .before .before .before .before .before .before .before .before .before .before .args in
-    let n = c .before .before .before .before .before .before .before .before .node-of in
-    put-same (nodeLine (a .w)) (c .before .before .put-number-line2 .ensures) (node-line (a .w) (n .result) _ (n .ensures) (c .before .before .before .before .before .before .node4 .given .1))
+    let at-put-number-line2 = c .before .before .put-number-line2 in
+    let at-node4 = c .before .before .before .before .before .before .node4 in
+    let at-node-of = c .before .before .before .before .before .before .before .before .node-of in
+    let at-start = c .before .before .before .before .before .before .before .before .before .before in
+    let a = at-start .args in
+    let n = at-node-of in
+    put-same (nodeLine (a .w)) (at-put-number-line2 .ensures) (node-line (a .w) (n .result) _ (n .ensures) (at-node4 .given .1))
 
 same-length-5 : tie.Need-same-length-5
 same-length-5 c = search needs
 
 returns-5 : tie.Need-returns-5
 returns-5 c =
-    let a = c .before .before .before .before .before .before .before .before .before .before .args in
-    let n = c .before .before .before .before .before .before .before .before .node-of in
-    put-same (nodeLine (a .w)) (c .before .before .put-number-line3 .ensures) (node-line (a .w) (n .result) _ (n .ensures) (c .before .before .before .before .before .before .node5 .given .1))
+    let at-put-number-line3 = c .before .before .put-number-line3 in
+    let at-node5 = c .before .before .before .before .before .before .node5 in
+    let at-node-of = c .before .before .before .before .before .before .before .before .node-of in
+    let at-start = c .before .before .before .before .before .before .before .before .before .before in
+    let a = at-start .args in
+    let n = at-node-of in
+    put-same (nodeLine (a .w)) (at-put-number-line3 .ensures) (node-line (a .w) (n .result) _ (n .ensures) (at-node5 .given .1))
 
 returns-6 : tie.Need-returns-6
 returns-6 c =
-    let a = c .before .before .before .before .args in
-    let n = c .before .before .node-of in
+    let at-node-of = c .before .before .node-of in
+    let at-start = c .before .before .before .before in
+    let a = at-start .args in
+    let n = at-node-of in
     put-same (nodeLine (a .w)) (put-none (a .out .now) (a .at)) (node-line (a .w) (n .result) _ (n .ensures) (c .enum-told .given .1))
 
 pub put-node-spec : {M : Type 1} → statement M

@@ -21,7 +21,8 @@ abbrev μ-loop : tie.MeasureT-loop
 
 loop-holds : tie.Need-loop-holds Inv-loop μ-loop
 loop-holds c =
-    let a = c .before .before .args in
+    let at-start = c .before .before in
+    let a = at-start .args in
     (omega arith, omega arith, put-same (each nodeLine []) (put-none (a .out .now) (a .at)) (sym (each-none nodeLine)))
 
 mul-put-node : tie.Need-mul-put-node Inv-loop μ-loop
@@ -41,20 +42,28 @@ loop-less c = search needs
 
 loop-again : tie.Need-loop-again Inv-loop μ-loop
 loop-again c =
-    let l = c .before .before .before .before .before .before .loop in
-    let s = c .before .before .before .before .before .before .before .before .before .args .words .now in
-    let w = c .before .before .put-node .ensures in
+    let at-put-node = c .before .before .put-node in
+    let at-loop-test = c .before .before .before .before .before .loop-test in
+    let at-loop = c .before .before .before .before .before .before .loop in
+    let at-start = c .before .before .before .before .before .before .before .before .before in
+    let l = at-loop in
+    let s = at-start .args .words .now in
+    let w = at-put-node .ensures in
     let m = w .next in
     let b = length-node (getD s (l .i) 0) in
-    (omega arith, omega arith, put-each nodeLine s (l .i) (c .before .before .before .before .before .loop-test .taken) (l .inv .2) w)
+    (omega arith, omega arith, put-each nodeLine s (l .i) (at-loop-test .taken) (l .inv .2) w)
 
 same-length : tie.Need-same-length Inv-loop μ-loop
-same-length c = put-length (c .before .loop .inv .2)
+same-length c =
+    let at-loop = c .before .loop in
+    put-length (at-loop .inv .2)
 
 returns : tie.Need-returns Inv-loop μ-loop
 returns c =
-    let l = c .before .loop in
-    let s = c .before .before .before .before .args .words .now in
+    let at-loop = c .before .loop in
+    let at-start = c .before .before .before .before in
+    let l = at-loop in
+    let s = at-start .args .words .now in
     put-same (each nodeLine s) (l .inv .2) (ap (each nodeLine) (take-all (l .i) s (c .loop-test .left)))
 
 pub put-nodes-spec : {M : Type 1} → statement M

@@ -13,9 +13,11 @@ put-number-line-requires c κs = search needs
 
 put-nodes-requires : tie.Need-put-nodes-requires
 put-nodes-requires c κs =
-    let a = c .before .before .before .before .before .before .before .before .args in
+    let at-put-number-line = c .before .before .before .put-number-line in
+    let at-start = c .before .before .before .before .before .before .before .before in
+    let a = at-start .args in
     let b = length-number (a .name .now) 19 (length (a .words .now)) (omega arith) in
-    let m = c .before .before .before .put-number-line .ensures .next in
+    let m = at-put-number-line .ensures .next in
     omega arith
 
 same-length : tie.Need-same-length
@@ -23,7 +25,10 @@ same-length c = search needs
 
 returns : tie.Need-returns
 unfolding programLines
-returns c = put-then (c .before .before .before .before .before .before .put-number-line .ensures) (c .before .before .put-nodes .ensures)
+returns c =
+    let at-put-nodes = c .before .before .put-nodes in
+    let at-put-number-line = c .before .before .before .before .before .before .put-number-line in
+    put-then (at-put-number-line .ensures) (at-put-nodes .ensures)
 
 pub put-program-spec : {M : Type 1} → statement M
 put-program-spec =

@@ -19,9 +19,11 @@ slice-aggregate-put-program-2 c = search needs
 
 put-program-requires-2 : tie.Need-put-program-requires-2
 put-program-requires-2 c κs =
-    let a = c .before .before .before .before .before .before .before .before .before .before .args in
+    let at-put-program = c .before .before .before .before .put-program in
+    let at-start = c .before .before .before .before .before .before .before .before .before .before in
+    let a = at-start .args in
     let b = length-program (ascii "forward ") (a .forward .now) 19 (omega arith) in
-    let m = c .before .before .before .before .put-program .ensures .next in
+    let m = at-put-program .ensures .next in
     omega arith
 
 same-length : tie.Need-same-length
@@ -29,7 +31,10 @@ same-length c = search needs
 
 returns : tie.Need-returns
 unfolding programsLines
-returns c = put-then (c .before .before .before .before .before .before .before .put-program .ensures) (c .before .before .put-program2 .ensures)
+returns c =
+    let at-put-program2 = c .before .before .put-program2 in
+    let at-put-program = c .before .before .before .before .before .before .before .put-program in
+    put-then (at-put-program .ensures) (at-put-program2 .ensures)
 
 pub put-programs-spec : {M : Type 1} → statement M
 put-programs-spec =

@@ -18,7 +18,9 @@ same-length c = search needs
 
 returns : tie.Need-returns
 unfolding refusedLine
-returns c = c .before .before .put-numbers-line .ensures
+returns c =
+    let at-put-numbers-line = c .before .before .put-numbers-line in
+    at-put-numbers-line .ensures
 
 pub put-refused-spec : {M : Type 1} → statement M
 put-refused-spec =

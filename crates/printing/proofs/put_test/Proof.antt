@@ -49,32 +49,44 @@ same-length c = search needs
 
 returns : tie.Need-returns
 returns c =
-    let a = c .before .before .before .before .before .before .before .before .before .args in
-    put-same (testLine (testOf (a .t))) (c .before .before .put-byte-line .ensures) (sym (ap (λ (x : ByteTest). testLine (testOf x)) (c .before .before .before .before .before .before .t .given .1)))
+    let at-put-byte-line = c .before .before .put-byte-line in
+    let at-t = c .before .before .before .before .before .before .t in
+    let at-start = c .before .before .before .before .before .before .before .before .before in
+    let a = at-start .args in
+    put-same (testLine (testOf (a .t))) (at-put-byte-line .ensures) (sym (ap (λ (x : ByteTest). testLine (testOf x)) (at-t .given .1)))
 
 same-length-2 : tie.Need-same-length-2
 same-length-2 c = search needs
 
 returns-2 : tie.Need-returns-2
 returns-2 c =
-    let a = c .before .before .before .before .before .before .before .before .before .args in
-    put-same (testLine (testOf (a .t))) (c .before .before .put-mask-line .ensures) (sym (ap (λ (x : ByteTest). testLine (testOf x)) (c .before .before .before .before .before .before .t2 .given .1)))
+    let at-put-mask-line = c .before .before .put-mask-line in
+    let at-t2 = c .before .before .before .before .before .before .t2 in
+    let at-start = c .before .before .before .before .before .before .before .before .before in
+    let a = at-start .args in
+    put-same (testLine (testOf (a .t))) (at-put-mask-line .ensures) (sym (ap (λ (x : ByteTest). testLine (testOf x)) (at-t2 .given .1)))
 
 same-length-3 : tie.Need-same-length-3
 same-length-3 c = search needs
 
 returns-3 : tie.Need-returns-3
 returns-3 c =
-    let a = c .before .before .before .before .before .before .before .before .before .args in
-    put-same (testLine (testOf (a .t))) (c .before .before .put-mask-line2 .ensures) (sym (ap (λ (x : ByteTest). testLine (testOf x)) (c .before .before .before .before .before .before .t3 .given .1)))
+    let at-put-mask-line2 = c .before .before .put-mask-line2 in
+    let at-t3 = c .before .before .before .before .before .before .t3 in
+    let at-start = c .before .before .before .before .before .before .before .before .before in
+    let a = at-start .args in
+    put-same (testLine (testOf (a .t))) (at-put-mask-line2 .ensures) (sym (ap (λ (x : ByteTest). testLine (testOf x)) (at-t3 .given .1)))
 
 same-length-4 : tie.Need-same-length-4
 same-length-4 c = search needs
 
 returns-4 : tie.Need-returns-4
 returns-4 c =
-    let a = c .before .before .before .before .before .before .before .before .args in
-    put-same (testLine (testOf (a .t))) (c .before .before .put-bytes .ensures) (sym (ap (λ (x : ByteTest). testLine (testOf x)) (c .before .before .before .before .before .enum-told .given .1)))
+    let at-put-bytes = c .before .before .put-bytes in
+    let at-enum-told = c .before .before .before .before .before .enum-told in
+    let at-start = c .before .before .before .before .before .before .before .before in
+    let a = at-start .args in
+    put-same (testLine (testOf (a .t))) (at-put-bytes .ensures) (sym (ap (λ (x : ByteTest). testLine (testOf x)) (at-enum-told .given .1)))
 
 pub put-test-spec : {M : Type 1} → statement M
 put-test-spec =

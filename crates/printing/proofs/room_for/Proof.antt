@@ -4,10 +4,14 @@ use Rattle.printing.proofs.room_for.Statement.{statement}
 use Rattle.printing.proofs.room_for.Tie as tie
 
 returns : tie.Need-returns
-returns c = rw (le-leb (c .before .args .length) (c .before .args .room) (c .if1 .taken))
+returns c =
+    let at-start = c .before in
+    rw (le-leb (at-start .args .length) (at-start .args .room) (c .if1 .taken))
 
 returns-2 : tie.Need-returns-2
-returns-2 c = rw (lt-leb (c .before .args .length) (c .before .args .room) (c .if1 .left))
+returns-2 c =
+    let at-start = c .before in
+    rw (lt-leb (at-start .args .length) (at-start .args .room) (c .if1 .left))
 
 pub room-for-spec : {M : Type 1} → statement M
 room-for-spec = tie.close (tie.spec returns returns-2)

@@ -9,7 +9,9 @@ use Rattle.readdoor.proofs.read.Statement.{statement}
 use Rattle.readdoor.proofs.read.Tie as tie
 
 returns : tie.Need-returns
-returns c = door-small (c .before .before .before .args .text .now) (c .before .before .before .args .pool .now) (c .if1 .taken)
+returns c =
+    let at-start = c .before .before .before in
+    door-small (at-start .args .text .now) (at-start .args .pool .now) (c .if1 .taken)
 
 sub-read-text : tie.Need-sub-read-text
 sub-read-text c = search needs
@@ -27,7 +29,12 @@ enum-known-r : tie.Need-enum-known-r
 enum-known-r c = search needs
 
 zero-words-requires : tie.Need-zero-words-requires
-zero-words-requires c κs = let k : length (c .before .before .before .before .before .before .read-text .last .1 .0) ≡ 4096 = (c .before .before .before .before .before .before .read-text .kept .1 .0 ∙ length-take-le 4096 (c .before .before .before .before .before .before .before .before .before .before .before .args .pool .now) (c .before .before .before .before .before .before .before .before .if1 .left)) in let a = length-append (c .before .before .before .before .before .before .read-text .last .1 .0) (drop 4096 (c .before .before .before .before .before .before .before .before .before .before .before .args .pool .now)) in (words-fit (c .before .before .before .before .before .before .before .before .before .before .before .args .text .now) (c .before .before .before .before .before .before .before .before .before .before .before .args .pool .now) (c .before .before .before .before .before .before .read-text .last .1 .0) (c .before .before .before .before .before .before .read-text .result) (c .before .before .before .before .before .before .before .before .if1 .left) (c .before .before .before .before .before .before .read-text .kept .1 .0 ∙ length-take-le 4096 (c .before .before .before .before .before .before .before .before .before .before .before .args .pool .now) (c .before .before .before .before .before .before .before .before .if1 .left)) (c .before .before .before .before .before .before .read-text .ensures) (c .before .before .r .given .0 .0) (c .before .before .r .given .0 .1 .0) (c .before .before .r .given .1), omega arith)
+zero-words-requires c κs =
+    let at-r = c .before .before .r in
+    let at-read-text = c .before .before .before .before .before .before .read-text in
+    let at-if1 = c .before .before .before .before .before .before .before .before .if1 in
+    let at-start = c .before .before .before .before .before .before .before .before .before .before .before in
+    let k : length (at-read-text .last .1 .0) ≡ 4096 = (at-read-text .kept .1 .0 ∙ length-take-le 4096 (at-start .args .pool .now) (at-if1 .left)) in let a = length-append (at-read-text .last .1 .0) (drop 4096 (at-start .args .pool .now)) in (words-fit (at-start .args .text .now) (at-start .args .pool .now) (at-read-text .last .1 .0) (at-read-text .result) (at-if1 .left) (at-read-text .kept .1 .0 ∙ length-take-le 4096 (at-start .args .pool .now) (at-if1 .left)) (at-read-text .ensures) (at-r .given .0 .0) (at-r .given .0 .1 .0) (at-r .given .1), omega arith)
 
 enum-known-r-2 : tie.Need-enum-known-r-2
 enum-known-r-2 c = search needs
@@ -39,13 +46,25 @@ same-length : tie.Need-same-length
 same-length c = search needs
 
 returns-2 : tie.Need-returns-2
-returns-2 c = door-read (c .before .before .before .before .before .before .before .before .before .before .before .before .before .before .args .text .now) (c .before .before .before .before .before .before .before .before .before .before .before .before .before .before .args .pool .now) (c .before .before .before .before .before .before .before .before .before .read-text .last .1 .0) (c .before .before .before .before .before .before .before .before .before .read-text .result) (c .before .before .before .before .before .before .before .before .before .before .before .if1 .left) (c .before .before .before .before .before .before .before .before .before .read-text .kept .1 .0 ∙ length-take-le 4096 (c .before .before .before .before .before .before .before .before .before .before .before .before .before .before .args .pool .now) (c .before .before .before .before .before .before .before .before .before .before .before .if1 .left)) (c .before .before .before .before .before .before .before .before .before .read-text .ensures) (c .before .before .before .before .before .r .given .0 .0) (c .before .before .before .before .before .r .given .0 .1 .0) (c .before .before .zero-words .last .0) (c .before .before .before .before .before .r .given .1) (c .before .before .zero-words .ensures)
+returns-2 c =
+    let at-zero-words = c .before .before .zero-words in
+    let at-r = c .before .before .before .before .before .r in
+    let at-read-text = c .before .before .before .before .before .before .before .before .before .read-text in
+    let at-if1 = c .before .before .before .before .before .before .before .before .before .before .before .if1 in
+    let at-start = c .before .before .before .before .before .before .before .before .before .before .before .before .before .before in
+    door-read (at-start .args .text .now) (at-start .args .pool .now) (at-read-text .last .1 .0) (at-read-text .result) (at-if1 .left) (at-read-text .kept .1 .0 ∙ length-take-le 4096 (at-start .args .pool .now) (at-if1 .left)) (at-read-text .ensures) (at-r .given .0 .0) (at-r .given .0 .1 .0) (at-zero-words .last .0) (at-r .given .1) (at-zero-words .ensures)
 
 same-length-2 : tie.Need-same-length-2
 same-length-2 c = search needs
 
 returns-3 : tie.Need-returns-3
-returns-3 c = door-refused (c .before .before .before .before .before .before .before .before .before .before .before .before .before .before .args .text .now) (c .before .before .before .before .before .before .before .before .before .before .before .before .before .before .args .pool .now) (c .before .before .before .before .before .before .before .before .before .read-text .last .1 .0) (c .before .before .before .before .before .before .before .before .before .read-text .result) (c .before .before .before .before .before .before .before .before .before .before .before .if1 .left) (c .before .before .before .before .before .before .before .before .before .read-text .kept .1 .0 ∙ length-take-le 4096 (c .before .before .before .before .before .before .before .before .before .before .before .before .before .before .args .pool .now) (c .before .before .before .before .before .before .before .before .before .before .before .if1 .left)) (c .before .before .before .before .before .before .before .before .before .read-text .ensures) (c .before .before .before .before .before .r2 .given .0 .0) (c .before .before .before .before .before .r2 .given .0 .1 .0) (c .before .before .zero-words2 .last .0) (c .before .before .before .before .before .r2 .given .1) (c .before .before .zero-words2 .ensures)
+returns-3 c =
+    let at-zero-words2 = c .before .before .zero-words2 in
+    let at-r2 = c .before .before .before .before .before .r2 in
+    let at-read-text = c .before .before .before .before .before .before .before .before .before .read-text in
+    let at-if1 = c .before .before .before .before .before .before .before .before .before .before .before .if1 in
+    let at-start = c .before .before .before .before .before .before .before .before .before .before .before .before .before .before in
+    door-refused (at-start .args .text .now) (at-start .args .pool .now) (at-read-text .last .1 .0) (at-read-text .result) (at-if1 .left) (at-read-text .kept .1 .0 ∙ length-take-le 4096 (at-start .args .pool .now) (at-if1 .left)) (at-read-text .ensures) (at-r2 .given .0 .0) (at-r2 .given .0 .1 .0) (at-zero-words2 .last .0) (at-r2 .given .1) (at-zero-words2 .ensures)
 
 pub read-spec : {M : Type 1} → statement M
 read-spec =

@@ -91,106 +91,237 @@ module _ (t : ℕ) where
   read-alternatives-peek-requires c κs = search needs
 
   read-alternatives-returns : read-alternatives-lts.Need-returns (read-alternatives-claims t) (read-alternatives-at t) read-alternatives.Post read-alternatives-Inv-loop read-alternatives-μ-loop
-  read-alternatives-returns c = says-absent (alternatives (c .before .before .before .before .args .text .now) (c .before .before .before .before .args .level) (c .before .before .before .before .args .count) (c .before .before .before .before .args .at)) (c .before .before .before .before .args .n) (c .before .before .before .before .args .pool .now) (no-bracket (c .before .before .before .before .args .text .now) (c .before .before .before .before .args .level) (c .before .before .before .before .args .count) (c .before .before .before .before .args .at) (λ z. c .if1 .taken (c .before .peek .ensures ∙ z)))
+  read-alternatives-returns c =
+      let at-peek = c .before .peek in
+      let at-start = c .before .before .before .before in
+      says-absent (alternatives (at-start .args .text .now) (at-start .args .level) (at-start .args .count) (at-start .args .at)) (at-start .args .n) (at-start .args .pool .now) (no-bracket (at-start .args .text .now) (at-start .args .level) (at-start .args .count) (at-start .args .at) (λ z. c .if1 .taken (at-peek .ensures ∙ z)))
 
   read-alternatives-returns-2 : read-alternatives-lts.Need-returns-2 (read-alternatives-claims t) (read-alternatives-at t) read-alternatives.Post read-alternatives-Inv-loop read-alternatives-μ-loop
-  read-alternatives-returns-2 c = says-refused (alternatives (c .before .before .before .before .before .args .text .now) (c .before .before .before .before .before .args .level) (c .before .before .before .before .before .args .count) (c .before .before .before .before .before .args .at)) (c .before .before .before .before .before .args .n) (c .before .before .before .before .before .args .pool .now) (c .before .before .before .before .before .args .pool .now) TooManyTokens (c .before .before .before .before .before .args .at) (bracket-full (c .before .before .before .before .before .args .text .now) (c .before .before .before .before .before .args .level) (c .before .before .before .before .before .args .count) (c .before .before .before .before .before .args .at) (sym (c .before .before .peek .ensures) ∙ c .before .if1 .left) (c .if2 .taken))
+  read-alternatives-returns-2 c =
+      let at-if1 = c .before .if1 in
+      let at-peek = c .before .before .peek in
+      let at-start = c .before .before .before .before .before in
+      says-refused (alternatives (at-start .args .text .now) (at-start .args .level) (at-start .args .count) (at-start .args .at)) (at-start .args .n) (at-start .args .pool .now) (at-start .args .pool .now) TooManyTokens (at-start .args .at) (bracket-full (at-start .args .text .now) (at-start .args .level) (at-start .args .count) (at-start .args .at) (sym (at-peek .ensures) ∙ at-if1 .left) (c .if2 .taken))
 
   read-alternatives-add-skip-blanks : read-alternatives-lts.Need-add-skip-blanks (read-alternatives-claims t) (read-alternatives-at t) read-alternatives.Post read-alternatives-Inv-loop read-alternatives-μ-loop
-  read-alternatives-add-skip-blanks c = omega (arith, here-at (c .before .before .before .before .before .args .text .now) (c .before .before .before .before .before .args .at) 40 (sym (c .before .before .peek .ensures) ∙ c .before .if1 .left) (omega arith))
+  read-alternatives-add-skip-blanks c =
+      let at-if1 = c .before .if1 in
+      let at-peek = c .before .before .peek in
+      let at-start = c .before .before .before .before .before in
+      omega (arith, here-at (at-start .args .text .now) (at-start .args .at) 40 (sym (at-peek .ensures) ∙ at-if1 .left) (omega arith))
 
   read-alternatives-skip-blanks-requires : read-alternatives-lts.Need-skip-blanks-requires (read-alternatives-claims t) (read-alternatives-at t) read-alternatives.Post read-alternatives-Inv-loop read-alternatives-μ-loop
   read-alternatives-skip-blanks-requires c κs = search needs
 
   read-alternatives-add-m : read-alternatives-lts.Need-add-m (read-alternatives-claims t) (read-alternatives-at t) read-alternatives.Post read-alternatives-Inv-loop read-alternatives-μ-loop
-  read-alternatives-add-m c = let o = c .before .before .before .before .before .before .pre .1 .0 in let e = c .before .before .before .before .before .before .pre .0 in let h = c .before .before .before .before .before .before .pre .1 .1 in let f = c .before .if2 .left in omega arith
+  read-alternatives-add-m c =
+      let at-if2 = c .before .if2 in
+      let at-start = c .before .before .before .before .before .before in
+      let o = at-start .pre .1 .0 in let e = at-start .pre .0 in let h = at-start .pre .1 .1 in let f = at-if2 .left in omega arith
 
   read-alternatives-add-c : read-alternatives-lts.Need-add-c (read-alternatives-claims t) (read-alternatives-at t) read-alternatives.Post read-alternatives-Inv-loop read-alternatives-μ-loop
-  read-alternatives-add-c c = let o = c .before .before .before .before .before .before .pre .1 .0 in let e = c .before .before .before .before .before .before .pre .0 in let h = c .before .before .before .before .before .before .pre .1 .1 in let f = c .before .if2 .left in omega arith
+  read-alternatives-add-c c =
+      let at-if2 = c .before .if2 in
+      let at-start = c .before .before .before .before .before .before in
+      let o = at-start .pre .1 .0 in let e = at-start .pre .0 in let h = at-start .pre .1 .1 in let f = at-if2 .left in omega arith
 
   read-alternatives-loop-holds : read-alternatives-lts.Need-loop-holds (read-alternatives-claims t) (read-alternatives-at t) read-alternatives.Post read-alternatives-Inv-loop read-alternatives-μ-loop
-  read-alternatives-loop-holds c = subst (λ (x : ℕ). Listed (c .before .before .before .before .before .before .args .text .now) (c .before .before .before .before .before .before .args .level) (c .before .before .before .before .before .before .args .count) (c .before .before .before .before .before .before .args .at) (c .before .before .before .before .before .before .args .n) (c .before .before .before .before .before .before .args .pool .now) (c .before .before .before .before .before .before .args .pool .now) x x ((c .before .before .before .before .before .before .args .n) + 4) ((c .before .before .before .before .before .before .args .count) + 1) 0) (sym (c .skip-blanks .ensures)) (listed-start (c .before .before .before .before .before .before .args .text .now) (c .before .before .before .before .before .before .args .level) (c .before .before .before .before .before .before .args .count) (c .before .before .before .before .before .before .args .at) (c .before .before .before .before .before .before .args .n) (c .before .before .before .before .before .before .args .pool .now) (here-at (c .before .before .before .before .before .before .args .text .now) (c .before .before .before .before .before .before .args .at) 40 (sym (c .before .before .before .peek .ensures) ∙ c .before .before .if1 .left) (omega arith)) (c .before .before .before .before .before .before .pre .1 .0 .used) (c .before .if2 .left))
+  read-alternatives-loop-holds c =
+      let at-if2 = c .before .if2 in
+      let at-if1 = c .before .before .if1 in
+      let at-peek = c .before .before .before .peek in
+      let at-start = c .before .before .before .before .before .before in
+      subst (λ (x : ℕ). Listed (at-start .args .text .now) (at-start .args .level) (at-start .args .count) (at-start .args .at) (at-start .args .n) (at-start .args .pool .now) (at-start .args .pool .now) x x ((at-start .args .n) + 4) ((at-start .args .count) + 1) 0) (sym (c .skip-blanks .ensures)) (listed-start (at-start .args .text .now) (at-start .args .level) (at-start .args .count) (at-start .args .at) (at-start .args .n) (at-start .args .pool .now) (here-at (at-start .args .text .now) (at-start .args .at) 40 (sym (at-peek .ensures) ∙ at-if1 .left) (omega arith)) (at-start .pre .1 .0 .used) (at-if2 .left))
 
   read-alternatives-add-read-list : read-alternatives-lts.Need-add-read-list (read-alternatives-claims t) (read-alternatives-at t) read-alternatives.Post read-alternatives-Inv-loop read-alternatives-μ-loop
-  read-alternatives-add-read-list c = let o = c .before .before .before .before .before .before .before .pre .1 .0 in let e = c .before .before .before .before .before .before .before .pre .0 in let h = c .before .before .before .before .before .before .before .pre .1 .1 in let f = c .before .before .if2 .left in omega arith
+  read-alternatives-add-read-list c =
+      let at-if2 = c .before .before .if2 in
+      let at-start = c .before .before .before .before .before .before .before in
+      let o = at-start .pre .1 .0 in let e = at-start .pre .0 in let h = at-start .pre .1 .1 in let f = at-if2 .left in omega arith
 
   read-alternatives-add-read-list-2 : read-alternatives-lts.Need-add-read-list-2 (read-alternatives-claims t) (read-alternatives-at t) read-alternatives.Post read-alternatives-Inv-loop read-alternatives-μ-loop
-  read-alternatives-add-read-list-2 c = let v = c .before .loop .inv in omega arith
+  read-alternatives-add-read-list-2 c =
+      let at-loop = c .before .loop in
+      let v = at-loop .inv in omega arith
 
   read-alternatives-read-list-requires : read-alternatives-lts.Need-read-list-requires (read-alternatives-claims t) (read-alternatives-at t) read-alternatives.Post read-alternatives-Inv-loop read-alternatives-μ-loop
-  read-alternatives-read-list-requires c κs = let o = c .before .before .before .before .before .before .before .before .pre .1 .0 in let e = c .before .before .before .before .before .before .before .before .pre .0 in let h = c .before .before .before .before .before .before .before .before .pre .1 .1 in let f = c .before .before .before .if2 .left in let v = c .before .loop .inv in (omega arith, record { inside = v .inside; short = o .short; shallow = omega arith; few = v .few; used = v .room; pool = v .kept ∙ o .pool })
+  read-alternatives-read-list-requires c κs =
+      let at-loop = c .before .loop in
+      let at-if2 = c .before .before .before .if2 in
+      let at-start = c .before .before .before .before .before .before .before .before in
+      let o = at-start .pre .1 .0 in let e = at-start .pre .0 in let h = at-start .pre .1 .1 in let f = at-if2 .left in let v = at-loop .inv in (omega arith, record { inside = v .inside; short = o .short; shallow = omega arith; few = v .few; used = v .room; pool = v .kept ∙ o .pool })
 
   read-alternatives-enum-known-got : read-alternatives-lts.Need-enum-known-got (read-alternatives-claims t) (read-alternatives-at t) read-alternatives.Post read-alternatives-Inv-loop read-alternatives-μ-loop
   read-alternatives-enum-known-got c = search needs
 
   read-alternatives-put-head-requires : read-alternatives-lts.Need-put-head-requires (read-alternatives-claims t) (read-alternatives-at t) read-alternatives.Post read-alternatives-Inv-loop read-alternatives-μ-loop
-  read-alternatives-put-head-requires c κs = let o = c .before .before .before .before .before .before .before .before .before .before .before .before .before .before .before .pre .1 .0 in let e = c .before .before .before .before .before .before .before .before .before .before .before .before .before .before .before .pre .0 in let h = c .before .before .before .before .before .before .before .before .before .before .before .before .before .before .before .pre .1 .1 in let f = c .before .before .before .before .before .before .before .before .before .before .if2 .left in let v = c .before .before .before .before .before .before .before .before .loop .inv in let w = turned (c .before .before .before .before .before .before .before .before .before .before .before .before .before .before .before .args .text .now) (c .before .before .before .before .before .before .before .before .before .before .before .before .before .before .before .args .level) (c .before .before .before .before .before .before .before .before .before .before .before .before .before .before .before .args .count) (c .before .before .before .before .before .before .before .before .before .before .before .before .before .before .before .args .at) (c .before .before .before .before .before .before .before .before .before .before .before .before .before .before .before .args .n) (c .before .before .before .before .before .before .before .before .before .before .before .before .before .before .before .args .pool .now) (c .before .before .before .before .before .before .before .before .loop .pool) (c .before .before .before .before .before .before .before .before .loop .x) (c .before .before .before .before .before .before .before .before .loop .miss) (c .before .before .before .before .before .before .before .before .loop .m) (c .before .before .before .before .before .before .before .before .loop .c) (c .before .before .before .before .before .before .before .before .loop .k) (c .before .before .before .before .before .before .before .before .loop .inv) (c .before .before .before .before .before .before .read-list .result) (c .before .before .before .before .before .before .read-list .last .1 .1 .1 .1 .0) (c .before .before .before .before .before .before .read-list .ensures) (c .before .before .got .given .0 .0) (c .before .before .got .given .0 .1 .0) (c .before .before .got .given .0 .1 .1 .0) (c .before .before .got .given .0 .1 .1 .1 .0) (c .before .before .got .given .1) in let z : length (c .before .before .before .before .before .before .read-list .last .1 .1 .1 .1 .0) ≡ 4096 = (c .before .before .before .before .before .before .read-list .kept .1 .1 .1 .1 .0 ∙ c .before .before .before .before .before .before .before .before .loop .inv .kept) ∙ o .pool in (w .more, omega arith, z, w .few)
+  read-alternatives-put-head-requires c κs =
+      let at-got = c .before .before .got in
+      let at-read-list = c .before .before .before .before .before .before .read-list in
+      let at-loop = c .before .before .before .before .before .before .before .before .loop in
+      let at-if2 = c .before .before .before .before .before .before .before .before .before .before .if2 in
+      let at-start = c .before .before .before .before .before .before .before .before .before .before .before .before .before .before .before in
+      let o = at-start .pre .1 .0 in let e = at-start .pre .0 in let h = at-start .pre .1 .1 in let f = at-if2 .left in let v = at-loop .inv in let w = turned (at-start .args .text .now) (at-start .args .level) (at-start .args .count) (at-start .args .at) (at-start .args .n) (at-start .args .pool .now) (at-loop .pool) (at-loop .x) (at-loop .miss) (at-loop .m) (at-loop .c) (at-loop .k) (at-loop .inv) (at-read-list .result) (at-read-list .last .1 .1 .1 .1 .0) (at-read-list .ensures) (at-got .given .0 .0) (at-got .given .0 .1 .0) (at-got .given .0 .1 .1 .0) (at-got .given .0 .1 .1 .1 .0) (at-got .given .1) in let z : length (at-read-list .last .1 .1 .1 .1 .0) ≡ 4096 = (at-read-list .kept .1 .1 .1 .1 .0 ∙ at-loop .inv .kept) ∙ o .pool in (w .more, omega arith, z, w .few)
 
   read-alternatives-add-k : read-alternatives-lts.Need-add-k (read-alternatives-claims t) (read-alternatives-at t) read-alternatives.Post read-alternatives-Inv-loop read-alternatives-μ-loop
-  read-alternatives-add-k c = let v = c .before .before .before .before .before .before .before .before .before .before .before .loop .inv in omega arith
+  read-alternatives-add-k c =
+      let at-loop = c .before .before .before .before .before .before .before .before .before .before .before .loop in
+      let v = at-loop .inv in omega arith
 
   read-alternatives-peek-requires-2 : read-alternatives-lts.Need-peek-requires-2 (read-alternatives-claims t) (read-alternatives-at t) read-alternatives.Post read-alternatives-Inv-loop read-alternatives-μ-loop
   read-alternatives-peek-requires-2 c κs = search needs
 
   read-alternatives-put-head-requires-2 : read-alternatives-lts.Need-put-head-requires-2 (read-alternatives-claims t) (read-alternatives-at t) read-alternatives.Post read-alternatives-Inv-loop read-alternatives-μ-loop
-  read-alternatives-put-head-requires-2 c κs = let o = c .before .before .before .before .before .before .before .before .before .before .before .before .before .before .before .before .before .before .before .before .before .pre .1 .0 in let e = c .before .before .before .before .before .before .before .before .before .before .before .before .before .before .before .before .before .before .before .before .before .pre .0 in let h = c .before .before .before .before .before .before .before .before .before .before .before .before .before .before .before .before .before .before .before .before .before .pre .1 .1 in let f = c .before .before .before .before .before .before .before .before .before .before .before .before .before .before .before .before .if2 .left in let v = c .before .before .before .before .before .before .before .before .before .before .before .before .before .before .loop .inv in let w = turned (c .before .before .before .before .before .before .before .before .before .before .before .before .before .before .before .before .before .before .before .before .before .args .text .now) (c .before .before .before .before .before .before .before .before .before .before .before .before .before .before .before .before .before .before .before .before .before .args .level) (c .before .before .before .before .before .before .before .before .before .before .before .before .before .before .before .before .before .before .before .before .before .args .count) (c .before .before .before .before .before .before .before .before .before .before .before .before .before .before .before .before .before .before .before .before .before .args .at) (c .before .before .before .before .before .before .before .before .before .before .before .before .before .before .before .before .before .before .before .before .before .args .n) (c .before .before .before .before .before .before .before .before .before .before .before .before .before .before .before .before .before .before .before .before .before .args .pool .now) (c .before .before .before .before .before .before .before .before .before .before .before .before .before .before .loop .pool) (c .before .before .before .before .before .before .before .before .before .before .before .before .before .before .loop .x) (c .before .before .before .before .before .before .before .before .before .before .before .before .before .before .loop .miss) (c .before .before .before .before .before .before .before .before .before .before .before .before .before .before .loop .m) (c .before .before .before .before .before .before .before .before .before .before .before .before .before .before .loop .c) (c .before .before .before .before .before .before .before .before .before .before .before .before .before .before .loop .k) (c .before .before .before .before .before .before .before .before .before .before .before .before .before .before .loop .inv) (c .before .before .before .before .before .before .before .before .before .before .before .before .read-list .result) (c .before .before .before .before .before .before .before .before .before .before .before .before .read-list .last .1 .1 .1 .1 .0) (c .before .before .before .before .before .before .before .before .before .before .before .before .read-list .ensures) (c .before .before .before .before .before .before .before .before .got .given .0 .0) (c .before .before .before .before .before .before .before .before .got .given .0 .1 .0) (c .before .before .before .before .before .before .before .before .got .given .0 .1 .1 .0) (c .before .before .before .before .before .before .before .before .got .given .0 .1 .1 .1 .0) (c .before .before .before .before .before .before .before .before .got .given .1) in let z : length (c .before .before .before .before .before .put-head .last .0) ≡ 4096 = (c .before .before .before .before .before .put-head .kept .0 ∙ (c .before .before .before .before .before .before .before .before .before .before .before .before .read-list .kept .1 .1 .1 .1 .0 ∙ c .before .before .before .before .before .before .before .before .before .before .before .before .before .before .loop .inv .kept)) ∙ o .pool in (omega arith, omega arith, z, omega arith)
+  read-alternatives-put-head-requires-2 c κs =
+      let at-put-head = c .before .before .before .before .before .put-head in
+      let at-got = c .before .before .before .before .before .before .before .before .got in
+      let at-read-list = c .before .before .before .before .before .before .before .before .before .before .before .before .read-list in
+      let at-loop = c .before .before .before .before .before .before .before .before .before .before .before .before .before .before .loop in
+      let at-if2 = c .before .before .before .before .before .before .before .before .before .before .before .before .before .before .before .before .if2 in
+      let at-start = c .before .before .before .before .before .before .before .before .before .before .before .before .before .before .before .before .before .before .before .before .before in
+      let o = at-start .pre .1 .0 in let e = at-start .pre .0 in let h = at-start .pre .1 .1 in let f = at-if2 .left in let v = at-loop .inv in let w = turned (at-start .args .text .now) (at-start .args .level) (at-start .args .count) (at-start .args .at) (at-start .args .n) (at-start .args .pool .now) (at-loop .pool) (at-loop .x) (at-loop .miss) (at-loop .m) (at-loop .c) (at-loop .k) (at-loop .inv) (at-read-list .result) (at-read-list .last .1 .1 .1 .1 .0) (at-read-list .ensures) (at-got .given .0 .0) (at-got .given .0 .1 .0) (at-got .given .0 .1 .1 .0) (at-got .given .0 .1 .1 .1 .0) (at-got .given .1) in let z : length (at-put-head .last .0) ≡ 4096 = (at-put-head .kept .0 ∙ (at-read-list .kept .1 .1 .1 .1 .0 ∙ at-loop .inv .kept)) ∙ o .pool in (omega arith, omega arith, z, omega arith)
 
   read-alternatives-add-skip-blanks-2 : read-alternatives-lts.Need-add-skip-blanks-2 (read-alternatives-claims t) (read-alternatives-at t) read-alternatives.Post read-alternatives-Inv-loop read-alternatives-μ-loop
-  read-alternatives-add-skip-blanks-2 c = let w = turned (c .before .before .before .before .before .before .before .before .before .before .before .before .before .before .before .before .before .before .before .before .before .before .before .before .args .text .now) (c .before .before .before .before .before .before .before .before .before .before .before .before .before .before .before .before .before .before .before .before .before .before .before .before .args .level) (c .before .before .before .before .before .before .before .before .before .before .before .before .before .before .before .before .before .before .before .before .before .before .before .before .args .count) (c .before .before .before .before .before .before .before .before .before .before .before .before .before .before .before .before .before .before .before .before .before .before .before .before .args .at) (c .before .before .before .before .before .before .before .before .before .before .before .before .before .before .before .before .before .before .before .before .before .before .before .before .args .n) (c .before .before .before .before .before .before .before .before .before .before .before .before .before .before .before .before .before .before .before .before .before .before .before .before .args .pool .now) (c .before .before .before .before .before .before .before .before .before .before .before .before .before .before .before .before .before .loop .pool) (c .before .before .before .before .before .before .before .before .before .before .before .before .before .before .before .before .before .loop .x) (c .before .before .before .before .before .before .before .before .before .before .before .before .before .before .before .before .before .loop .miss) (c .before .before .before .before .before .before .before .before .before .before .before .before .before .before .before .before .before .loop .m) (c .before .before .before .before .before .before .before .before .before .before .before .before .before .before .before .before .before .loop .c) (c .before .before .before .before .before .before .before .before .before .before .before .before .before .before .before .before .before .loop .k) (c .before .before .before .before .before .before .before .before .before .before .before .before .before .before .before .before .before .loop .inv) (c .before .before .before .before .before .before .before .before .before .before .before .before .before .before .before .read-list .result) (c .before .before .before .before .before .before .before .before .before .before .before .before .before .before .before .read-list .last .1 .1 .1 .1 .0) (c .before .before .before .before .before .before .before .before .before .before .before .before .before .before .before .read-list .ensures) (c .before .before .before .before .before .before .before .before .before .before .before .got .given .0 .0) (c .before .before .before .before .before .before .before .before .before .before .before .got .given .0 .1 .0) (c .before .before .before .before .before .before .before .before .before .before .before .got .given .0 .1 .1 .0) (c .before .before .before .before .before .before .before .before .before .before .before .got .given .0 .1 .1 .1 .0) (c .before .before .before .before .before .before .before .before .before .before .before .got .given .1) in omega arith
+  read-alternatives-add-skip-blanks-2 c =
+      let at-got = c .before .before .before .before .before .before .before .before .before .before .before .got in
+      let at-read-list = c .before .before .before .before .before .before .before .before .before .before .before .before .before .before .before .read-list in
+      let at-loop = c .before .before .before .before .before .before .before .before .before .before .before .before .before .before .before .before .before .loop in
+      let at-start = c .before .before .before .before .before .before .before .before .before .before .before .before .before .before .before .before .before .before .before .before .before .before .before .before in
+      let w = turned (at-start .args .text .now) (at-start .args .level) (at-start .args .count) (at-start .args .at) (at-start .args .n) (at-start .args .pool .now) (at-loop .pool) (at-loop .x) (at-loop .miss) (at-loop .m) (at-loop .c) (at-loop .k) (at-loop .inv) (at-read-list .result) (at-read-list .last .1 .1 .1 .1 .0) (at-read-list .ensures) (at-got .given .0 .0) (at-got .given .0 .1 .0) (at-got .given .0 .1 .1 .0) (at-got .given .0 .1 .1 .1 .0) (at-got .given .1) in omega arith
 
   read-alternatives-skip-blanks-requires-2 : read-alternatives-lts.Need-skip-blanks-requires-2 (read-alternatives-claims t) (read-alternatives-at t) read-alternatives.Post read-alternatives-Inv-loop read-alternatives-μ-loop
   read-alternatives-skip-blanks-requires-2 c κs = search needs
 
   read-alternatives-same-length : read-alternatives-lts.Need-same-length (read-alternatives-claims t) (read-alternatives-at t) read-alternatives.Post read-alternatives-Inv-loop read-alternatives-μ-loop
-  read-alternatives-same-length c = c .before .before .before .put-head2 .kept .0 ∙ (c .before .before .before .before .before .before .before .before .before .put-head .kept .0 ∙ (c .before .before .before .before .before .before .before .before .before .before .before .before .before .before .before .before .read-list .kept .1 .1 .1 .1 .0 ∙ c .before .before .before .before .before .before .before .before .before .before .before .before .before .before .before .before .before .before .loop .inv .kept))
+  read-alternatives-same-length c =
+      let at-put-head2 = c .before .before .before .put-head2 in
+      let at-put-head = c .before .before .before .before .before .before .before .before .before .put-head in
+      let at-read-list = c .before .before .before .before .before .before .before .before .before .before .before .before .before .before .before .before .read-list in
+      let at-loop = c .before .before .before .before .before .before .before .before .before .before .before .before .before .before .before .before .before .before .loop in
+      at-put-head2 .kept .0 ∙ (at-put-head .kept .0 ∙ (at-read-list .kept .1 .1 .1 .1 .0 ∙ at-loop .inv .kept))
 
   read-alternatives-returns-3 : read-alternatives-lts.Need-returns-3 (read-alternatives-claims t) (read-alternatives-at t) read-alternatives.Post read-alternatives-Inv-loop read-alternatives-μ-loop
-  read-alternatives-returns-3 c = let o = c .before .before .before .before .before .before .before .before .before .before .before .before .before .before .before .before .before .before .before .before .before .before .before .before .before .pre .1 .0 in let e = c .before .before .before .before .before .before .before .before .before .before .before .before .before .before .before .before .before .before .before .before .before .before .before .before .before .pre .0 in let h = c .before .before .before .before .before .before .before .before .before .before .before .before .before .before .before .before .before .before .before .before .before .before .before .before .before .pre .1 .1 in let f = c .before .before .before .before .before .before .before .before .before .before .before .before .before .before .before .before .before .before .before .before .if2 .left in let v = c .before .before .before .before .before .before .before .before .before .before .before .before .before .before .before .before .before .before .loop .inv in let r : (c .before .before .before .before .before .before .before .before .before .before .before .before .before .before .before .before .before .before .before .before .before .before .before .before .before .args .n) + 4 ≤ length (c .before .before .before .before .before .before .before .before .before .before .before .before .before .before .before .before .before .before .before .before .before .before .before .before .before .args .pool .now) = omega arith in let r′ : c .before .before .before .before .before .before .before .before .before .before .before .before .before .before .before .before .before .before .loop .m + 4 ≤ length (c .before .before .before .before .before .before .before .before .before .before .before .before .before .before .before .before .before .before .before .before .before .before .before .before .before .args .pool .now) = omega arith in listed-done (c .before .before .before .before .before .before .before .before .before .before .before .before .before .before .before .before .before .before .before .before .before .before .before .before .before .args .text .now) (c .before .before .before .before .before .before .before .before .before .before .before .before .before .before .before .before .before .before .before .before .before .before .before .before .before .args .level) (c .before .before .before .before .before .before .before .before .before .before .before .before .before .before .before .before .before .before .before .before .before .before .before .before .before .args .count) (c .before .before .before .before .before .before .before .before .before .before .before .before .before .before .before .before .before .before .before .before .before .before .before .before .before .args .at) (c .before .before .before .before .before .before .before .before .before .before .before .before .before .before .before .before .before .before .before .before .before .before .before .before .before .args .n) (c .before .before .before .before .before .before .before .before .before .before .before .before .before .before .before .before .before .before .before .before .before .before .before .before .before .args .pool .now) (c .before .before .before .before .before .before .before .before .before .before .before .before .before .before .before .before .before .before .loop .pool) (c .before .before .before .before .before .before .before .before .before .before .before .before .before .before .before .before .before .before .loop .x) (c .before .before .before .before .before .before .before .before .before .before .before .before .before .before .before .before .before .before .loop .miss) (c .before .before .before .before .before .before .before .before .before .before .before .before .before .before .before .before .before .before .loop .m) (c .before .before .before .before .before .before .before .before .before .before .before .before .before .before .before .before .before .before .loop .c) (c .before .before .before .before .before .before .before .before .before .before .before .before .before .before .before .before .before .before .loop .k) (c .before .before .before .before .before .before .before .before .before .before .before .before .before .before .before .before .before .before .loop .inv) (c .before .before .before .before .before .before .before .before .before .before .before .before .before .before .before .before .read-list .result) (c .before .before .before .before .before .before .before .before .before .before .before .before .before .before .before .before .read-list .last .1 .1 .1 .1 .0) (c .before .before .before .before .before .before .before .before .before .before .before .before .before .before .before .before .read-list .ensures) (c .before .before .before .before .before .before .before .before .before .before .before .before .got .given .0 .0) (c .before .before .before .before .before .before .before .before .before .before .before .before .got .given .0 .1 .0) (c .before .before .before .before .before .before .before .before .before .before .before .before .got .given .0 .1 .1 .0) (c .before .before .before .before .before .before .before .before .before .before .before .before .got .given .0 .1 .1 .1 .0) (c .skip-blanks2 .result) (c .before .before .before .before .before .before .before .before .before .put-head .last .0) (c .before .before .before .put-head2 .last .0) r r′ (sym (c .before .before .before .before .before .before .before .before .before .before .before .before .before .before .before .before .before .before .before .before .before .before .peek .ensures) ∙ c .before .before .before .before .before .before .before .before .before .before .before .before .before .before .before .before .before .before .before .before .before .if1 .left) f (c .before .before .before .before .before .before .before .before .before .before .before .before .got .given .1) (c .before .before .before .before .before .before .before .before .before .put-head .ensures) (c .before .before .before .put-head2 .ensures) (sym (c .before .before .before .before .before .before .peek2 .ensures) ∙ c .before .before .before .before .before .if3 .taken) (c .skip-blanks2 .ensures)
+  read-alternatives-returns-3 c =
+      let at-put-head2 = c .before .before .before .put-head2 in
+      let at-if3 = c .before .before .before .before .before .if3 in
+      let at-peek2 = c .before .before .before .before .before .before .peek2 in
+      let at-put-head = c .before .before .before .before .before .before .before .before .before .put-head in
+      let at-got = c .before .before .before .before .before .before .before .before .before .before .before .before .got in
+      let at-read-list = c .before .before .before .before .before .before .before .before .before .before .before .before .before .before .before .before .read-list in
+      let at-loop = c .before .before .before .before .before .before .before .before .before .before .before .before .before .before .before .before .before .before .loop in
+      let at-if2 = c .before .before .before .before .before .before .before .before .before .before .before .before .before .before .before .before .before .before .before .before .if2 in
+      let at-if1 = c .before .before .before .before .before .before .before .before .before .before .before .before .before .before .before .before .before .before .before .before .before .if1 in
+      let at-peek = c .before .before .before .before .before .before .before .before .before .before .before .before .before .before .before .before .before .before .before .before .before .before .peek in
+      let at-start = c .before .before .before .before .before .before .before .before .before .before .before .before .before .before .before .before .before .before .before .before .before .before .before .before .before in
+      let o = at-start .pre .1 .0 in let e = at-start .pre .0 in let h = at-start .pre .1 .1 in let f = at-if2 .left in let v = at-loop .inv in let r : (at-start .args .n) + 4 ≤ length (at-start .args .pool .now) = omega arith in let r′ : at-loop .m + 4 ≤ length (at-start .args .pool .now) = omega arith in listed-done (at-start .args .text .now) (at-start .args .level) (at-start .args .count) (at-start .args .at) (at-start .args .n) (at-start .args .pool .now) (at-loop .pool) (at-loop .x) (at-loop .miss) (at-loop .m) (at-loop .c) (at-loop .k) (at-loop .inv) (at-read-list .result) (at-read-list .last .1 .1 .1 .1 .0) (at-read-list .ensures) (at-got .given .0 .0) (at-got .given .0 .1 .0) (at-got .given .0 .1 .1 .0) (at-got .given .0 .1 .1 .1 .0) (c .skip-blanks2 .result) (at-put-head .last .0) (at-put-head2 .last .0) r r′ (sym (at-peek .ensures) ∙ at-if1 .left) f (at-got .given .1) (at-put-head .ensures) (at-put-head2 .ensures) (sym (at-peek2 .ensures) ∙ at-if3 .taken) (c .skip-blanks2 .ensures)
 
   read-alternatives-same-length-2 : read-alternatives-lts.Need-same-length-2 (read-alternatives-claims t) (read-alternatives-at t) read-alternatives.Post read-alternatives-Inv-loop read-alternatives-μ-loop
-  read-alternatives-same-length-2 c = (c .before .before .before .before .before .put-head .kept .0 ∙ (c .before .before .before .before .before .before .before .before .before .before .before .before .read-list .kept .1 .1 .1 .1 .0 ∙ c .before .before .before .before .before .before .before .before .before .before .before .before .before .before .loop .inv .kept))
+  read-alternatives-same-length-2 c =
+      let at-put-head = c .before .before .before .before .before .put-head in
+      let at-read-list = c .before .before .before .before .before .before .before .before .before .before .before .before .read-list in
+      let at-loop = c .before .before .before .before .before .before .before .before .before .before .before .before .before .before .loop in
+      (at-put-head .kept .0 ∙ (at-read-list .kept .1 .1 .1 .1 .0 ∙ at-loop .inv .kept))
 
   read-alternatives-returns-4 : read-alternatives-lts.Need-returns-4 (read-alternatives-claims t) (read-alternatives-at t) read-alternatives.Post read-alternatives-Inv-loop read-alternatives-μ-loop
-  read-alternatives-returns-4 c = listed-else (c .before .before .before .before .before .before .before .before .before .before .before .before .before .before .before .before .before .before .before .before .before .args .text .now) (c .before .before .before .before .before .before .before .before .before .before .before .before .before .before .before .before .before .before .before .before .before .args .level) (c .before .before .before .before .before .before .before .before .before .before .before .before .before .before .before .before .before .before .before .before .before .args .count) (c .before .before .before .before .before .before .before .before .before .before .before .before .before .before .before .before .before .before .before .before .before .args .at) (c .before .before .before .before .before .before .before .before .before .before .before .before .before .before .before .before .before .before .before .before .before .args .n) (c .before .before .before .before .before .before .before .before .before .before .before .before .before .before .before .before .before .before .before .before .before .args .pool .now) (c .before .before .before .before .before .before .before .before .before .before .before .before .before .before .loop .pool) (c .before .before .before .before .before .before .before .before .before .before .before .before .before .before .loop .x) (c .before .before .before .before .before .before .before .before .before .before .before .before .before .before .loop .miss) (c .before .before .before .before .before .before .before .before .before .before .before .before .before .before .loop .m) (c .before .before .before .before .before .before .before .before .before .before .before .before .before .before .loop .c) (c .before .before .before .before .before .before .before .before .before .before .before .before .before .before .loop .k) (c .before .before .before .before .before .before .before .before .before .before .before .before .before .before .loop .inv) (c .before .before .before .before .before .before .before .before .before .before .before .before .read-list .result) (c .before .before .before .before .before .before .before .before .before .before .before .before .read-list .last .1 .1 .1 .1 .0) (c .before .before .before .before .before .before .before .before .before .before .before .before .read-list .ensures) (c .before .before .before .before .before .before .before .before .got .given .0 .0) (c .before .before .before .before .before .before .before .before .got .given .0 .1 .0) (c .before .before .before .before .before .before .before .before .got .given .0 .1 .1 .0) (c .before .before .before .before .before .before .before .before .got .given .0 .1 .1 .1 .0) (c .before .before .before .before .before .put-head .last .0) (sym (c .before .before .before .before .before .before .before .before .before .before .before .before .before .before .before .before .before .before .peek .ensures) ∙ c .before .before .before .before .before .before .before .before .before .before .before .before .before .before .before .before .before .if1 .left) (c .before .before .before .before .before .before .before .before .before .before .before .before .before .before .before .before .if2 .left) (c .before .before .before .before .before .before .before .before .got .given .1) (λ z. c .before .if3 .left (c .before .before .peek2 .ensures ∙ z)) (λ z. c .if4 .taken (c .before .before .peek2 .ensures ∙ z))
+  read-alternatives-returns-4 c =
+      let at-if3 = c .before .if3 in
+      let at-peek2 = c .before .before .peek2 in
+      let at-put-head = c .before .before .before .before .before .put-head in
+      let at-got = c .before .before .before .before .before .before .before .before .got in
+      let at-read-list = c .before .before .before .before .before .before .before .before .before .before .before .before .read-list in
+      let at-loop = c .before .before .before .before .before .before .before .before .before .before .before .before .before .before .loop in
+      let at-if2 = c .before .before .before .before .before .before .before .before .before .before .before .before .before .before .before .before .if2 in
+      let at-if1 = c .before .before .before .before .before .before .before .before .before .before .before .before .before .before .before .before .before .if1 in
+      let at-peek = c .before .before .before .before .before .before .before .before .before .before .before .before .before .before .before .before .before .before .peek in
+      let at-start = c .before .before .before .before .before .before .before .before .before .before .before .before .before .before .before .before .before .before .before .before .before in
+      listed-else (at-start .args .text .now) (at-start .args .level) (at-start .args .count) (at-start .args .at) (at-start .args .n) (at-start .args .pool .now) (at-loop .pool) (at-loop .x) (at-loop .miss) (at-loop .m) (at-loop .c) (at-loop .k) (at-loop .inv) (at-read-list .result) (at-read-list .last .1 .1 .1 .1 .0) (at-read-list .ensures) (at-got .given .0 .0) (at-got .given .0 .1 .0) (at-got .given .0 .1 .1 .0) (at-got .given .0 .1 .1 .1 .0) (at-put-head .last .0) (sym (at-peek .ensures) ∙ at-if1 .left) (at-if2 .left) (at-got .given .1) (λ z. at-if3 .left (at-peek2 .ensures ∙ z)) (λ z. c .if4 .taken (at-peek2 .ensures ∙ z))
 
   read-alternatives-add-skip-blanks-3 : read-alternatives-lts.Need-add-skip-blanks-3 (read-alternatives-claims t) (read-alternatives-at t) read-alternatives.Post read-alternatives-Inv-loop read-alternatives-μ-loop
-  read-alternatives-add-skip-blanks-3 c = let w = turned (c .before .before .before .before .before .before .before .before .before .before .before .before .before .before .before .before .before .before .before .before .before .args .text .now) (c .before .before .before .before .before .before .before .before .before .before .before .before .before .before .before .before .before .before .before .before .before .args .level) (c .before .before .before .before .before .before .before .before .before .before .before .before .before .before .before .before .before .before .before .before .before .args .count) (c .before .before .before .before .before .before .before .before .before .before .before .before .before .before .before .before .before .before .before .before .before .args .at) (c .before .before .before .before .before .before .before .before .before .before .before .before .before .before .before .before .before .before .before .before .before .args .n) (c .before .before .before .before .before .before .before .before .before .before .before .before .before .before .before .before .before .before .before .before .before .args .pool .now) (c .before .before .before .before .before .before .before .before .before .before .before .before .before .before .loop .pool) (c .before .before .before .before .before .before .before .before .before .before .before .before .before .before .loop .x) (c .before .before .before .before .before .before .before .before .before .before .before .before .before .before .loop .miss) (c .before .before .before .before .before .before .before .before .before .before .before .before .before .before .loop .m) (c .before .before .before .before .before .before .before .before .before .before .before .before .before .before .loop .c) (c .before .before .before .before .before .before .before .before .before .before .before .before .before .before .loop .k) (c .before .before .before .before .before .before .before .before .before .before .before .before .before .before .loop .inv) (c .before .before .before .before .before .before .before .before .before .before .before .before .read-list .result) (c .before .before .before .before .before .before .before .before .before .before .before .before .read-list .last .1 .1 .1 .1 .0) (c .before .before .before .before .before .before .before .before .before .before .before .before .read-list .ensures) (c .before .before .before .before .before .before .before .before .got .given .0 .0) (c .before .before .before .before .before .before .before .before .got .given .0 .1 .0) (c .before .before .before .before .before .before .before .before .got .given .0 .1 .1 .0) (c .before .before .before .before .before .before .before .before .got .given .0 .1 .1 .1 .0) (c .before .before .before .before .before .before .before .before .got .given .1) in omega arith
+  read-alternatives-add-skip-blanks-3 c =
+      let at-got = c .before .before .before .before .before .before .before .before .got in
+      let at-read-list = c .before .before .before .before .before .before .before .before .before .before .before .before .read-list in
+      let at-loop = c .before .before .before .before .before .before .before .before .before .before .before .before .before .before .loop in
+      let at-start = c .before .before .before .before .before .before .before .before .before .before .before .before .before .before .before .before .before .before .before .before .before in
+      let w = turned (at-start .args .text .now) (at-start .args .level) (at-start .args .count) (at-start .args .at) (at-start .args .n) (at-start .args .pool .now) (at-loop .pool) (at-loop .x) (at-loop .miss) (at-loop .m) (at-loop .c) (at-loop .k) (at-loop .inv) (at-read-list .result) (at-read-list .last .1 .1 .1 .1 .0) (at-read-list .ensures) (at-got .given .0 .0) (at-got .given .0 .1 .0) (at-got .given .0 .1 .1 .0) (at-got .given .0 .1 .1 .1 .0) (at-got .given .1) in omega arith
 
   read-alternatives-skip-blanks-requires-3 : read-alternatives-lts.Need-skip-blanks-requires-3 (read-alternatives-claims t) (read-alternatives-at t) read-alternatives.Post read-alternatives-Inv-loop read-alternatives-μ-loop
   read-alternatives-skip-blanks-requires-3 c κs = search needs
 
   read-alternatives-loop-less : read-alternatives-lts.Need-loop-less (read-alternatives-claims t) (read-alternatives-at t) read-alternatives.Post read-alternatives-Inv-loop read-alternatives-μ-loop
-  read-alternatives-loop-less c = let w = turned (c .before .before .before .before .before .before .before .before .before .before .before .before .before .before .before .before .before .before .before .before .before .before .args .text .now) (c .before .before .before .before .before .before .before .before .before .before .before .before .before .before .before .before .before .before .before .before .before .before .args .level) (c .before .before .before .before .before .before .before .before .before .before .before .before .before .before .before .before .before .before .before .before .before .before .args .count) (c .before .before .before .before .before .before .before .before .before .before .before .before .before .before .before .before .before .before .before .before .before .before .args .at) (c .before .before .before .before .before .before .before .before .before .before .before .before .before .before .before .before .before .before .before .before .before .before .args .n) (c .before .before .before .before .before .before .before .before .before .before .before .before .before .before .before .before .before .before .before .before .before .before .args .pool .now) (c .before .before .before .before .before .before .before .before .before .before .before .before .before .before .before .loop .pool) (c .before .before .before .before .before .before .before .before .before .before .before .before .before .before .before .loop .x) (c .before .before .before .before .before .before .before .before .before .before .before .before .before .before .before .loop .miss) (c .before .before .before .before .before .before .before .before .before .before .before .before .before .before .before .loop .m) (c .before .before .before .before .before .before .before .before .before .before .before .before .before .before .before .loop .c) (c .before .before .before .before .before .before .before .before .before .before .before .before .before .before .before .loop .k) (c .before .before .before .before .before .before .before .before .before .before .before .before .before .before .before .loop .inv) (c .before .before .before .before .before .before .before .before .before .before .before .before .before .read-list .result) (c .before .before .before .before .before .before .before .before .before .before .before .before .before .read-list .last .1 .1 .1 .1 .0) (c .before .before .before .before .before .before .before .before .before .before .before .before .before .read-list .ensures) (c .before .before .before .before .before .before .before .before .before .got .given .0 .0) (c .before .before .before .before .before .before .before .before .before .got .given .0 .1 .0) (c .before .before .before .before .before .before .before .before .before .got .given .0 .1 .1 .0) (c .before .before .before .before .before .before .before .before .before .got .given .0 .1 .1 .1 .0) (c .before .before .before .before .before .before .before .before .before .got .given .1) in let s = c .skip-blanks3 .ensures in let f = skip-from (c .before .before .before .before .before .before .before .before .before .before .before .before .before .before .before .before .before .before .before .before .before .before .args .text .now) ((c .before .before .before .before .before .before .before .before .before .got .given .0 .0) + 1) in omega arith
+  read-alternatives-loop-less c =
+      let at-got = c .before .before .before .before .before .before .before .before .before .got in
+      let at-read-list = c .before .before .before .before .before .before .before .before .before .before .before .before .before .read-list in
+      let at-loop = c .before .before .before .before .before .before .before .before .before .before .before .before .before .before .before .loop in
+      let at-start = c .before .before .before .before .before .before .before .before .before .before .before .before .before .before .before .before .before .before .before .before .before .before in
+      let w = turned (at-start .args .text .now) (at-start .args .level) (at-start .args .count) (at-start .args .at) (at-start .args .n) (at-start .args .pool .now) (at-loop .pool) (at-loop .x) (at-loop .miss) (at-loop .m) (at-loop .c) (at-loop .k) (at-loop .inv) (at-read-list .result) (at-read-list .last .1 .1 .1 .1 .0) (at-read-list .ensures) (at-got .given .0 .0) (at-got .given .0 .1 .0) (at-got .given .0 .1 .1 .0) (at-got .given .0 .1 .1 .1 .0) (at-got .given .1) in let s = c .skip-blanks3 .ensures in let f = skip-from (at-start .args .text .now) ((at-got .given .0 .0) + 1) in omega arith
 
   read-alternatives-loop-again : read-alternatives-lts.Need-loop-again (read-alternatives-claims t) (read-alternatives-at t) read-alternatives.Post read-alternatives-Inv-loop read-alternatives-μ-loop
-  read-alternatives-loop-again c = let o = c .before .before .before .before .before .before .before .before .before .before .before .before .before .before .before .before .before .before .before .before .before .before .pre .1 .0 in let e = c .before .before .before .before .before .before .before .before .before .before .before .before .before .before .before .before .before .before .before .before .before .before .pre .0 in let h = c .before .before .before .before .before .before .before .before .before .before .before .before .before .before .before .before .before .before .before .before .before .before .pre .1 .1 in let f = c .before .before .before .before .before .before .before .before .before .before .before .before .before .before .before .before .before .if2 .left in let v = c .before .before .before .before .before .before .before .before .before .before .before .before .before .before .before .loop .inv in let r : (c .before .before .before .before .before .before .before .before .before .before .before .before .before .before .before .before .before .before .before .before .before .before .args .n) + 4 ≤ length (c .before .before .before .before .before .before .before .before .before .before .before .before .before .before .before .before .before .before .before .before .before .before .args .pool .now) = omega arith in let r′ : c .before .before .before .before .before .before .before .before .before .before .before .before .before .before .before .loop .m + 4 ≤ length (c .before .before .before .before .before .before .before .before .before .before .before .before .before .before .before .before .before .before .before .before .before .before .args .pool .now) = omega arith in listed-next (c .before .before .before .before .before .before .before .before .before .before .before .before .before .before .before .before .before .before .before .before .before .before .args .text .now) (c .before .before .before .before .before .before .before .before .before .before .before .before .before .before .before .before .before .before .before .before .before .before .args .level) (c .before .before .before .before .before .before .before .before .before .before .before .before .before .before .before .before .before .before .before .before .before .before .args .count) (c .before .before .before .before .before .before .before .before .before .before .before .before .before .before .before .before .before .before .before .before .before .before .args .at) (c .before .before .before .before .before .before .before .before .before .before .before .before .before .before .before .before .before .before .before .before .before .before .args .n) (c .before .before .before .before .before .before .before .before .before .before .before .before .before .before .before .before .before .before .before .before .before .before .args .pool .now) (c .before .before .before .before .before .before .before .before .before .before .before .before .before .before .before .loop .pool) (c .before .before .before .before .before .before .before .before .before .before .before .before .before .before .before .loop .x) (c .before .before .before .before .before .before .before .before .before .before .before .before .before .before .before .loop .miss) (c .before .before .before .before .before .before .before .before .before .before .before .before .before .before .before .loop .m) (c .before .before .before .before .before .before .before .before .before .before .before .before .before .before .before .loop .c) (c .before .before .before .before .before .before .before .before .before .before .before .before .before .before .before .loop .k) (c .before .before .before .before .before .before .before .before .before .before .before .before .before .before .before .loop .inv) (c .before .before .before .before .before .before .before .before .before .before .before .before .before .read-list .result) (c .before .before .before .before .before .before .before .before .before .before .before .before .before .read-list .last .1 .1 .1 .1 .0) (c .before .before .before .before .before .before .before .before .before .before .before .before .before .read-list .ensures) (c .before .before .before .before .before .before .before .before .before .got .given .0 .0) (c .before .before .before .before .before .before .before .before .before .got .given .0 .1 .0) (c .before .before .before .before .before .before .before .before .before .got .given .0 .1 .1 .0) (c .before .before .before .before .before .before .before .before .before .got .given .0 .1 .1 .1 .0) (c .skip-blanks3 .result) (c .before .before .before .before .before .before .put-head .last .0) r r′ (c .before .before .before .before .before .before .before .before .before .got .given .1) (c .before .before .before .before .before .before .put-head .ensures) (c .before .before .before .before .before .before .put-head .kept .0 ∙ (c .before .before .before .before .before .before .before .before .before .before .before .before .before .read-list .kept .1 .1 .1 .1 .0 ∙ c .before .before .before .before .before .before .before .before .before .before .before .before .before .before .before .loop .inv .kept)) (sym (c .before .before .before .peek2 .ensures) ∙ c .before .if4 .left) (c .skip-blanks3 .ensures)
+  read-alternatives-loop-again c =
+      let at-if4 = c .before .if4 in
+      let at-peek2 = c .before .before .before .peek2 in
+      let at-put-head = c .before .before .before .before .before .before .put-head in
+      let at-got = c .before .before .before .before .before .before .before .before .before .got in
+      let at-read-list = c .before .before .before .before .before .before .before .before .before .before .before .before .before .read-list in
+      let at-loop = c .before .before .before .before .before .before .before .before .before .before .before .before .before .before .before .loop in
+      let at-if2 = c .before .before .before .before .before .before .before .before .before .before .before .before .before .before .before .before .before .if2 in
+      let at-start = c .before .before .before .before .before .before .before .before .before .before .before .before .before .before .before .before .before .before .before .before .before .before in
+      let o = at-start .pre .1 .0 in let e = at-start .pre .0 in let h = at-start .pre .1 .1 in let f = at-if2 .left in let v = at-loop .inv in let r : (at-start .args .n) + 4 ≤ length (at-start .args .pool .now) = omega arith in let r′ : at-loop .m + 4 ≤ length (at-start .args .pool .now) = omega arith in listed-next (at-start .args .text .now) (at-start .args .level) (at-start .args .count) (at-start .args .at) (at-start .args .n) (at-start .args .pool .now) (at-loop .pool) (at-loop .x) (at-loop .miss) (at-loop .m) (at-loop .c) (at-loop .k) (at-loop .inv) (at-read-list .result) (at-read-list .last .1 .1 .1 .1 .0) (at-read-list .ensures) (at-got .given .0 .0) (at-got .given .0 .1 .0) (at-got .given .0 .1 .1 .0) (at-got .given .0 .1 .1 .1 .0) (c .skip-blanks3 .result) (at-put-head .last .0) r r′ (at-got .given .1) (at-put-head .ensures) (at-put-head .kept .0 ∙ (at-read-list .kept .1 .1 .1 .1 .0 ∙ at-loop .inv .kept)) (sym (at-peek2 .ensures) ∙ at-if4 .left) (c .skip-blanks3 .ensures)
 
   read-alternatives-enum-told : read-alternatives-lts.Need-enum-told (read-alternatives-claims t) (read-alternatives-at t) read-alternatives.Post read-alternatives-Inv-loop read-alternatives-μ-loop
   read-alternatives-enum-told c = search needs
 
   read-alternatives-same-length-3 : read-alternatives-lts.Need-same-length-3 (read-alternatives-claims t) (read-alternatives-at t) read-alternatives.Post read-alternatives-Inv-loop read-alternatives-μ-loop
-  read-alternatives-same-length-3 c = (c .before .before .before .before .read-list .kept .1 .1 .1 .1 .0 ∙ c .before .before .before .before .before .before .loop .inv .kept)
+  read-alternatives-same-length-3 c =
+      let at-read-list = c .before .before .before .before .read-list in
+      let at-loop = c .before .before .before .before .before .before .loop in
+      (at-read-list .kept .1 .1 .1 .1 .0 ∙ at-loop .inv .kept)
 
   read-alternatives-returns-5 : read-alternatives-lts.Need-returns-5 (read-alternatives-claims t) (read-alternatives-at t) read-alternatives.Post read-alternatives-Inv-loop read-alternatives-μ-loop
-  read-alternatives-returns-5 c = listed-missing (c .before .before .before .before .before .before .before .before .before .before .before .before .before .args .text .now) (c .before .before .before .before .before .before .before .before .before .before .before .before .before .args .level) (c .before .before .before .before .before .before .before .before .before .before .before .before .before .args .count) (c .before .before .before .before .before .before .before .before .before .before .before .before .before .args .at) (c .before .before .before .before .before .before .before .before .before .before .before .before .before .args .n) (c .before .before .before .before .before .before .before .before .before .before .before .before .before .args .pool .now) (c .before .before .before .before .before .before .loop .pool) (c .before .before .before .before .before .before .loop .x) (c .before .before .before .before .before .before .loop .miss) (c .before .before .before .before .before .before .loop .m) (c .before .before .before .before .before .before .loop .c) (c .before .before .before .before .before .before .loop .k) (c .before .before .before .before .before .before .loop .inv) (c .before .before .before .before .read-list .result) (c .before .before .before .before .read-list .last .1 .1 .1 .1 .0) (c .before .before .before .before .read-list .ensures) (sym (c .before .before .before .before .before .before .before .before .before .before .peek .ensures) ∙ c .before .before .before .before .before .before .before .before .before .if1 .left) (c .before .before .before .before .before .before .before .before .if2 .left) (c .enum-told .given .1) (c .before .before .before .before .read-list .last .1 .1 .1 .1 .0)
+  read-alternatives-returns-5 c =
+      let at-read-list = c .before .before .before .before .read-list in
+      let at-loop = c .before .before .before .before .before .before .loop in
+      let at-if2 = c .before .before .before .before .before .before .before .before .if2 in
+      let at-if1 = c .before .before .before .before .before .before .before .before .before .if1 in
+      let at-peek = c .before .before .before .before .before .before .before .before .before .before .peek in
+      let at-start = c .before .before .before .before .before .before .before .before .before .before .before .before .before in
+      listed-missing (at-start .args .text .now) (at-start .args .level) (at-start .args .count) (at-start .args .at) (at-start .args .n) (at-start .args .pool .now) (at-loop .pool) (at-loop .x) (at-loop .miss) (at-loop .m) (at-loop .c) (at-loop .k) (at-loop .inv) (at-read-list .result) (at-read-list .last .1 .1 .1 .1 .0) (at-read-list .ensures) (sym (at-peek .ensures) ∙ at-if1 .left) (at-if2 .left) (c .enum-told .given .1) (at-read-list .last .1 .1 .1 .1 .0)
 
   read-alternatives-enum-known-got-2 : read-alternatives-lts.Need-enum-known-got-2 (read-alternatives-claims t) (read-alternatives-at t) read-alternatives.Post read-alternatives-Inv-loop read-alternatives-μ-loop
   read-alternatives-enum-known-got-2 c = search needs
 
   read-alternatives-same-length-4 : read-alternatives-lts.Need-same-length-4 (read-alternatives-claims t) (read-alternatives-at t) read-alternatives.Post read-alternatives-Inv-loop read-alternatives-μ-loop
-  read-alternatives-same-length-4 c = (c .before .before .before .before .before .read-list .kept .1 .1 .1 .1 .0 ∙ c .before .before .before .before .before .before .before .loop .inv .kept)
+  read-alternatives-same-length-4 c =
+      let at-read-list = c .before .before .before .before .before .read-list in
+      let at-loop = c .before .before .before .before .before .before .before .loop in
+      (at-read-list .kept .1 .1 .1 .1 .0 ∙ at-loop .inv .kept)
 
   read-alternatives-returns-6 : read-alternatives-lts.Need-returns-6 (read-alternatives-claims t) (read-alternatives-at t) read-alternatives.Post read-alternatives-Inv-loop read-alternatives-μ-loop
-  read-alternatives-returns-6 c = listed-stop (c .before .before .before .before .before .before .before .before .before .before .before .before .before .before .args .text .now) (c .before .before .before .before .before .before .before .before .before .before .before .before .before .before .args .level) (c .before .before .before .before .before .before .before .before .before .before .before .before .before .before .args .count) (c .before .before .before .before .before .before .before .before .before .before .before .before .before .before .args .at) (c .before .before .before .before .before .before .before .before .before .before .before .before .before .before .args .n) (c .before .before .before .before .before .before .before .before .before .before .before .before .before .before .args .pool .now) (c .before .before .before .before .before .before .before .loop .pool) (c .before .before .before .before .before .before .before .loop .x) (c .before .before .before .before .before .before .before .loop .miss) (c .before .before .before .before .before .before .before .loop .m) (c .before .before .before .before .before .before .before .loop .c) (c .before .before .before .before .before .before .before .loop .k) (c .before .before .before .before .before .before .before .loop .inv) (c .before .before .before .before .before .read-list .result) (c .before .before .before .before .before .read-list .last .1 .1 .1 .1 .0) (c .before .before .before .before .before .read-list .ensures) (sym (c .before .before .before .before .before .before .before .before .before .before .before .peek .ensures) ∙ c .before .before .before .before .before .before .before .before .before .before .if1 .left) (c .before .before .before .before .before .before .before .before .before .if2 .left) (c .before .got2 .given .0 .0) (c .before .got2 .given .0 .1 .0) (c .before .got2 .given .1) (c .before .before .before .before .before .read-list .last .1 .1 .1 .1 .0)
+  read-alternatives-returns-6 c =
+      let at-got2 = c .before .got2 in
+      let at-read-list = c .before .before .before .before .before .read-list in
+      let at-loop = c .before .before .before .before .before .before .before .loop in
+      let at-if2 = c .before .before .before .before .before .before .before .before .before .if2 in
+      let at-if1 = c .before .before .before .before .before .before .before .before .before .before .if1 in
+      let at-peek = c .before .before .before .before .before .before .before .before .before .before .before .peek in
+      let at-start = c .before .before .before .before .before .before .before .before .before .before .before .before .before .before in
+      listed-stop (at-start .args .text .now) (at-start .args .level) (at-start .args .count) (at-start .args .at) (at-start .args .n) (at-start .args .pool .now) (at-loop .pool) (at-loop .x) (at-loop .miss) (at-loop .m) (at-loop .c) (at-loop .k) (at-loop .inv) (at-read-list .result) (at-read-list .last .1 .1 .1 .1 .0) (at-read-list .ensures) (sym (at-peek .ensures) ∙ at-if1 .left) (at-if2 .left) (at-got2 .given .0 .0) (at-got2 .given .0 .1 .0) (at-got2 .given .1) (at-read-list .last .1 .1 .1 .1 .0)
 
   read-list-returns : read-list-lts.Need-returns (read-list-claims t) (read-list-at t) read-list.Post read-list-Inv-loop read-list-μ-loop
-  read-list-returns c = list-says-refused (list (c .before .before .before .args .text .now) (c .before .before .before .args .level) (c .before .before .before .args .count) (c .before .before .before .args .at)) (c .before .before .before .args .n) (c .before .before .before .args .pool .now) (c .before .before .before .args .pool .now) HexStringTooDeep (c .before .before .before .args .at) (list-deep (c .before .before .before .args .text .now) (c .before .before .before .args .level) (c .before .before .before .args .count) (c .before .before .before .args .at) (c .if1 .taken))
+  read-list-returns c =
+      let at-start = c .before .before .before in
+      list-says-refused (list (at-start .args .text .now) (at-start .args .level) (at-start .args .count) (at-start .args .at)) (at-start .args .n) (at-start .args .pool .now) (at-start .args .pool .now) HexStringTooDeep (at-start .args .at) (list-deep (at-start .args .text .now) (at-start .args .level) (at-start .args .count) (at-start .args .at) (c .if1 .taken))
 
   read-list-loop-holds : read-list-lts.Need-loop-holds (read-list-claims t) (read-list-at t) read-list.Post read-list-Inv-loop read-list-μ-loop
-  read-list-loop-holds c = let o = c .before .before .before .pre .1 in tokened-start (c .before .before .before .args .text .now) (c .before .before .before .args .level) (c .before .before .before .args .count) (c .before .before .before .args .at) (c .before .before .before .args .n) (c .before .before .before .args .pool .now) (o .inside) (o .used) (o .few)
+  read-list-loop-holds c =
+      let at-start = c .before .before .before in
+      let o = at-start .pre .1 in tokened-start (at-start .args .text .now) (at-start .args .level) (at-start .args .count) (at-start .args .at) (at-start .args .n) (at-start .args .pool .now) (o .inside) (o .used) (o .few)
 
   read-list-read-token-requires : read-list-lts.Need-read-token-requires (read-list-claims t) (read-list-at t) read-list.Post read-list-Inv-loop read-list-μ-loop
-  read-list-read-token-requires c κs = let o = c .before .before .before .before .before .pre .1 in let e = c .before .before .before .before .before .pre .0 in let v = c .before .loop .inv in (omega arith, (record { inside = v .inside; short = o .short; shallow = o .shallow; few = v .few; used = v .room; pool = v .kept ∙ o .pool }, c .before .before .if1 .left))
+  read-list-read-token-requires c κs =
+      let at-loop = c .before .loop in
+      let at-if1 = c .before .before .if1 in
+      let at-start = c .before .before .before .before .before in
+      let o = at-start .pre .1 in let e = at-start .pre .0 in let v = at-loop .inv in (omega arith, (record { inside = v .inside; short = o .short; shallow = o .shallow; few = v .few; used = v .room; pool = v .kept ∙ o .pool }, at-if1 .left))
 
   read-list-enum-known-got : read-list-lts.Need-enum-known-got (read-list-claims t) (read-list-at t) read-list.Post read-list-Inv-loop read-list-μ-loop
   read-list-enum-known-got c = search needs
@@ -199,13 +330,25 @@ module _ (t : ℕ) where
   read-list-first-jump-requires c κs = search needs
 
   read-list-add-k : read-list-lts.Need-add-k (read-list-claims t) (read-list-at t) read-list.Post read-list-Inv-loop read-list-μ-loop
-  read-list-add-k c = let v = c .before .before .before .before .before .before .before .before .loop .inv in omega arith
+  read-list-add-k c =
+      let at-loop = c .before .before .before .before .before .before .before .before .loop in
+      let v = at-loop .inv in omega arith
 
   read-list-loop-less : read-list-lts.Need-loop-less (read-list-claims t) (read-list-at t) read-list.Post read-list-Inv-loop read-list-μ-loop
-  read-list-loop-less c = let s = stepped (c .before .before .before .before .before .before .before .before .before .before .before .before .args .text .now) (c .before .before .before .before .before .before .before .before .before .before .before .before .args .level) (c .before .before .before .before .before .before .before .before .before .before .before .before .args .count) (c .before .before .before .before .before .before .before .before .before .before .before .before .args .at) (c .before .before .before .before .before .before .before .before .before .before .before .before .args .n) (c .before .before .before .before .before .before .before .before .before .before .before .before .args .pool .now) (c .before .before .before .before .before .before .before .before .loop .pool) (c .before .before .before .before .before .before .before .before .loop .x) (c .before .before .before .before .before .before .before .before .loop .m) (c .before .before .before .before .before .before .before .before .loop .c) (c .before .before .before .before .before .before .before .before .loop .k) (c .before .before .before .before .before .before .before .before .loop .first) (c .before .before .before .before .before .before .before .before .loop .last) (c .before .before .before .before .before .before .before .before .loop .inv) (c .before .before .before .before .before .before .read-token .result) (c .before .before .before .before .before .before .read-token .last .1 .1 .1 .1 .0) (c .before .before .before .before .before .before .read-token .ensures) (c .before .before .got .given .0 .0) (c .before .before .got .given .0 .1 .0) (c .before .before .got .given .0 .1 .1 .0) (c .before .before .got .given .0 .1 .1 .1 .0) (c .before .before .got .given .1) in omega arith
+  read-list-loop-less c =
+      let at-got = c .before .before .got in
+      let at-read-token = c .before .before .before .before .before .before .read-token in
+      let at-loop = c .before .before .before .before .before .before .before .before .loop in
+      let at-start = c .before .before .before .before .before .before .before .before .before .before .before .before in
+      let s = stepped (at-start .args .text .now) (at-start .args .level) (at-start .args .count) (at-start .args .at) (at-start .args .n) (at-start .args .pool .now) (at-loop .pool) (at-loop .x) (at-loop .m) (at-loop .c) (at-loop .k) (at-loop .first) (at-loop .last) (at-loop .inv) (at-read-token .result) (at-read-token .last .1 .1 .1 .1 .0) (at-read-token .ensures) (at-got .given .0 .0) (at-got .given .0 .1 .0) (at-got .given .0 .1 .1 .0) (at-got .given .0 .1 .1 .1 .0) (at-got .given .1) in omega arith
 
   read-list-loop-again : read-list-lts.Need-loop-again (read-list-claims t) (read-list-at t) read-list.Post read-list-Inv-loop read-list-μ-loop
-  read-list-loop-again c = let o = c .before .before .before .before .before .before .before .before .before .before .before .before .pre .1 in let e = c .before .before .before .before .before .before .before .before .before .before .before .before .pre .0 in let v = c .before .before .before .before .before .before .before .before .loop .inv in let r : (c .before .before .before .before .before .before .before .before .before .before .before .before .args .n) ≤ length (c .before .before .before .before .before .before .before .before .before .before .before .before .args .pool .now) = omega arith in subst (λ (b : Bool). Tokened (c .before .before .before .before .before .before .before .before .before .before .before .before .args .text .now) (c .before .before .before .before .before .before .before .before .before .before .before .before .args .level) (c .before .before .before .before .before .before .before .before .before .before .before .before .args .count) (c .before .before .before .before .before .before .before .before .before .before .before .before .args .at) (c .before .before .before .before .before .before .before .before .before .before .before .before .args .n) (c .before .before .before .before .before .before .before .before .before .before .before .before .args .pool .now) (c .before .before .before .before .before .before .read-token .last .1 .1 .1 .1 .0) (c .before .before .got .given .0 .0) (c .before .before .got .given .0 .1 .0) (c .before .before .got .given .0 .1 .1 .0) (c .before .before .before .before .before .before .before .before .loop .k + 1) b (c .before .before .got .given .0 .1 .1 .1 .0)) (sym (c .first-jump .ensures)) (tokened-next (c .before .before .before .before .before .before .before .before .before .before .before .before .args .text .now) (c .before .before .before .before .before .before .before .before .before .before .before .before .args .level) (c .before .before .before .before .before .before .before .before .before .before .before .before .args .count) (c .before .before .before .before .before .before .before .before .before .before .before .before .args .at) (c .before .before .before .before .before .before .before .before .before .before .before .before .args .n) (c .before .before .before .before .before .before .before .before .before .before .before .before .args .pool .now) (c .before .before .before .before .before .before .before .before .loop .pool) (c .before .before .before .before .before .before .before .before .loop .x) (c .before .before .before .before .before .before .before .before .loop .m) (c .before .before .before .before .before .before .before .before .loop .c) (c .before .before .before .before .before .before .before .before .loop .k) (c .before .before .before .before .before .before .before .before .loop .first) (c .before .before .before .before .before .before .before .before .loop .last) (c .before .before .before .before .before .before .before .before .loop .inv) (c .before .before .before .before .before .before .read-token .result) (c .before .before .before .before .before .before .read-token .last .1 .1 .1 .1 .0) (c .before .before .before .before .before .before .read-token .ensures) (c .before .before .got .given .0 .0) (c .before .before .got .given .0 .1 .0) (c .before .before .got .given .0 .1 .1 .0) (c .before .before .got .given .0 .1 .1 .1 .0) r (c .before .before .before .before .before .before .read-token .kept .1 .1 .1 .1 .0) (c .before .before .got .given .1))
+  read-list-loop-again c =
+      let at-got = c .before .before .got in
+      let at-read-token = c .before .before .before .before .before .before .read-token in
+      let at-loop = c .before .before .before .before .before .before .before .before .loop in
+      let at-start = c .before .before .before .before .before .before .before .before .before .before .before .before in
+      let o = at-start .pre .1 in let e = at-start .pre .0 in let v = at-loop .inv in let r : (at-start .args .n) ≤ length (at-start .args .pool .now) = omega arith in subst (λ (b : Bool). Tokened (at-start .args .text .now) (at-start .args .level) (at-start .args .count) (at-start .args .at) (at-start .args .n) (at-start .args .pool .now) (at-read-token .last .1 .1 .1 .1 .0) (at-got .given .0 .0) (at-got .given .0 .1 .0) (at-got .given .0 .1 .1 .0) (at-loop .k + 1) b (at-got .given .0 .1 .1 .1 .0)) (sym (c .first-jump .ensures)) (tokened-next (at-start .args .text .now) (at-start .args .level) (at-start .args .count) (at-start .args .at) (at-start .args .n) (at-start .args .pool .now) (at-loop .pool) (at-loop .x) (at-loop .m) (at-loop .c) (at-loop .k) (at-loop .first) (at-loop .last) (at-loop .inv) (at-read-token .result) (at-read-token .last .1 .1 .1 .1 .0) (at-read-token .ensures) (at-got .given .0 .0) (at-got .given .0 .1 .0) (at-got .given .0 .1 .1 .0) (at-got .given .0 .1 .1 .1 .0) r (at-read-token .kept .1 .1 .1 .1 .0) (at-got .given .1))
 
   read-list-enum-told : read-list-lts.Need-enum-told (read-list-claims t) (read-list-at t) read-list.Post read-list-Inv-loop read-list-μ-loop
   read-list-enum-told c = search needs
@@ -214,19 +357,37 @@ module _ (t : ℕ) where
   read-list-list-end-requires c κs = search needs
 
   read-list-same-length : read-list-lts.Need-same-length (read-list-claims t) (read-list-at t) read-list.Post read-list-Inv-loop read-list-μ-loop
-  read-list-same-length c = c .before .before .before .before .before .read-token .kept .1 .1 .1 .1 .0 ∙ c .before .before .before .before .before .before .before .loop .inv .kept
+  read-list-same-length c =
+      let at-read-token = c .before .before .before .before .before .read-token in
+      let at-loop = c .before .before .before .before .before .before .before .loop in
+      at-read-token .kept .1 .1 .1 .1 .0 ∙ at-loop .inv .kept
 
   read-list-returns-2 : read-list-lts.Need-returns-2 (read-list-claims t) (read-list-at t) read-list.Post read-list-Inv-loop read-list-μ-loop
-  read-list-returns-2 c = subst (λ (r : ListGot). ListSays (list (c .before .before .before .before .before .before .before .before .before .before .before .args .text .now) (c .before .before .before .before .before .before .before .before .before .before .before .args .level) (c .before .before .before .before .before .before .before .before .before .before .before .args .count) (c .before .before .before .before .before .before .before .before .before .before .before .args .at)) (c .before .before .before .before .before .before .before .before .before .before .before .args .n) r (c .before .before .before .before .before .before .before .before .before .before .before .args .pool .now) (c .before .before .before .before .before .read-token .last .1 .1 .1 .1 .0)) (sym (c .list-end .ensures)) (tokened-end (c .before .before .before .before .before .before .before .before .before .before .before .args .text .now) (c .before .before .before .before .before .before .before .before .before .before .before .args .level) (c .before .before .before .before .before .before .before .before .before .before .before .args .count) (c .before .before .before .before .before .before .before .before .before .before .before .args .at) (c .before .before .before .before .before .before .before .before .before .before .before .args .n) (c .before .before .before .before .before .before .before .before .before .before .before .args .pool .now) (c .before .before .before .before .before .before .before .loop .pool) (c .before .before .before .before .before .before .before .loop .x) (c .before .before .before .before .before .before .before .loop .m) (c .before .before .before .before .before .before .before .loop .c) (c .before .before .before .before .before .before .before .loop .k) (c .before .before .before .before .before .before .before .loop .first) (c .before .before .before .before .before .before .before .loop .last) (c .before .before .before .before .before .before .before .loop .inv) (c .before .before .before .before .before .read-token .result) (c .before .before .before .before .before .read-token .last .1 .1 .1 .1 .0) (c .before .before .before .before .before .read-token .ensures) (c .before .before .before .before .before .before .before .before .if1 .left) (c .before .enum-told .given .1))
+  read-list-returns-2 c =
+      let at-enum-told = c .before .enum-told in
+      let at-read-token = c .before .before .before .before .before .read-token in
+      let at-loop = c .before .before .before .before .before .before .before .loop in
+      let at-if1 = c .before .before .before .before .before .before .before .before .if1 in
+      let at-start = c .before .before .before .before .before .before .before .before .before .before .before in
+      subst (λ (r : ListGot). ListSays (list (at-start .args .text .now) (at-start .args .level) (at-start .args .count) (at-start .args .at)) (at-start .args .n) r (at-start .args .pool .now) (at-read-token .last .1 .1 .1 .1 .0)) (sym (c .list-end .ensures)) (tokened-end (at-start .args .text .now) (at-start .args .level) (at-start .args .count) (at-start .args .at) (at-start .args .n) (at-start .args .pool .now) (at-loop .pool) (at-loop .x) (at-loop .m) (at-loop .c) (at-loop .k) (at-loop .first) (at-loop .last) (at-loop .inv) (at-read-token .result) (at-read-token .last .1 .1 .1 .1 .0) (at-read-token .ensures) (at-if1 .left) (at-enum-told .given .1))
 
   read-list-enum-known-got-2 : read-list-lts.Need-enum-known-got-2 (read-list-claims t) (read-list-at t) read-list.Post read-list-Inv-loop read-list-μ-loop
   read-list-enum-known-got-2 c = search needs
 
   read-list-same-length-2 : read-list-lts.Need-same-length-2 (read-list-claims t) (read-list-at t) read-list.Post read-list-Inv-loop read-list-μ-loop
-  read-list-same-length-2 c = c .before .before .before .before .before .read-token .kept .1 .1 .1 .1 .0 ∙ c .before .before .before .before .before .before .before .loop .inv .kept
+  read-list-same-length-2 c =
+      let at-read-token = c .before .before .before .before .before .read-token in
+      let at-loop = c .before .before .before .before .before .before .before .loop in
+      at-read-token .kept .1 .1 .1 .1 .0 ∙ at-loop .inv .kept
 
   read-list-returns-3 : read-list-lts.Need-returns-3 (read-list-claims t) (read-list-at t) read-list.Post read-list-Inv-loop read-list-μ-loop
-  read-list-returns-3 c = tokened-stop (c .before .before .before .before .before .before .before .before .before .before .before .args .text .now) (c .before .before .before .before .before .before .before .before .before .before .before .args .level) (c .before .before .before .before .before .before .before .before .before .before .before .args .count) (c .before .before .before .before .before .before .before .before .before .before .before .args .at) (c .before .before .before .before .before .before .before .before .before .before .before .args .n) (c .before .before .before .before .before .before .before .before .before .before .before .args .pool .now) (c .before .before .before .before .before .before .before .loop .pool) (c .before .before .before .before .before .before .before .loop .x) (c .before .before .before .before .before .before .before .loop .m) (c .before .before .before .before .before .before .before .loop .c) (c .before .before .before .before .before .before .before .loop .k) (c .before .before .before .before .before .before .before .loop .first) (c .before .before .before .before .before .before .before .loop .last) (c .before .before .before .before .before .before .before .loop .inv) (c .before .before .before .before .before .read-token .result) (c .before .before .before .before .before .read-token .last .1 .1 .1 .1 .0) (c .before .before .before .before .before .read-token .ensures) (c .before .before .before .before .before .before .before .before .if1 .left) (c .before .got2 .given .0 .0) (c .before .got2 .given .0 .1 .0) (c .before .got2 .given .1)
+  read-list-returns-3 c =
+      let at-got2 = c .before .got2 in
+      let at-read-token = c .before .before .before .before .before .read-token in
+      let at-loop = c .before .before .before .before .before .before .before .loop in
+      let at-if1 = c .before .before .before .before .before .before .before .before .if1 in
+      let at-start = c .before .before .before .before .before .before .before .before .before .before .before in
+      tokened-stop (at-start .args .text .now) (at-start .args .level) (at-start .args .count) (at-start .args .at) (at-start .args .n) (at-start .args .pool .now) (at-loop .pool) (at-loop .x) (at-loop .m) (at-loop .c) (at-loop .k) (at-loop .first) (at-loop .last) (at-loop .inv) (at-read-token .result) (at-read-token .last .1 .1 .1 .1 .0) (at-read-token .ensures) (at-if1 .left) (at-got2 .given .0 .0) (at-got2 .given .0 .1 .0) (at-got2 .given .1)
 
   read-token-plain-token-requires : read-token-lts.Need-plain-token-requires (read-token-claims t) (read-token-at t) read-token.Post
   read-token-plain-token-requires c κs = search needs
@@ -235,22 +396,37 @@ module _ (t : ℕ) where
   read-token-enum-known-piece c = search needs
 
   read-token-returns : read-token-lts.Need-returns (read-token-claims t) (read-token-at t) read-token.Post
-  read-token-returns c = says-refused (token (c .before .before .before .before .before .before .before .args .text .now) (c .before .before .before .before .before .before .before .args .level) (c .before .before .before .before .before .before .before .args .count) (c .before .before .before .before .before .before .before .args .at)) (c .before .before .before .before .before .before .before .args .n) (c .before .before .before .before .before .before .before .args .pool .now) (c .before .before .before .before .before .before .before .args .pool .now) TooManyTokens (c .before .before .before .before .before .before .before .args .at) (token-full (c .before .before .before .before .before .before .before .args .text .now) (c .before .before .before .before .before .before .before .args .level) (c .before .before .before .before .before .before .before .args .count) (c .before .before .before .before .before .before .before .args .at) (sym (c .before .before .before .before .plain-token .ensures) ∙ ap pieceOf (c .before .before .piece .given .1)) (c .if1 .taken))
+  read-token-returns c =
+      let at-piece = c .before .before .piece in
+      let at-plain-token = c .before .before .before .before .plain-token in
+      let at-start = c .before .before .before .before .before .before .before in
+      says-refused (token (at-start .args .text .now) (at-start .args .level) (at-start .args .count) (at-start .args .at)) (at-start .args .n) (at-start .args .pool .now) (at-start .args .pool .now) TooManyTokens (at-start .args .at) (token-full (at-start .args .text .now) (at-start .args .level) (at-start .args .count) (at-start .args .at) (sym (at-plain-token .ensures) ∙ ap pieceOf (at-piece .given .1)) (c .if1 .taken))
 
   read-token-put-plain-requires : read-token-lts.Need-put-plain-requires (read-token-claims t) (read-token-at t) read-token.Post
-  read-token-put-plain-requires c κs = let o = c .before .before .before .before .before .before .before .before .pre .1 .0 in let e = c .before .before .before .before .before .before .before .before .pre .0 in let f = c .before .if1 .left in omega arith
+  read-token-put-plain-requires c κs =
+      let at-if1 = c .before .if1 in
+      let at-start = c .before .before .before .before .before .before .before .before in
+      let o = at-start .pre .1 .0 in let e = at-start .pre .0 in let f = at-if1 .left in omega arith
 
   read-token-add-t19 : read-token-lts.Need-add-t19 (read-token-claims t) (read-token-at t) read-token.Post
-  read-token-add-t19 c = let o = c .before .before .before .before .before .before .before .before .before .before .before .pre .1 .0 in let e = c .before .before .before .before .before .before .before .before .before .before .before .pre .0 in let f = c .before .before .before .before .if1 .left in omega arith
+  read-token-add-t19 c =
+      let at-if1 = c .before .before .before .before .if1 in
+      let at-start = c .before .before .before .before .before .before .before .before .before .before .before in
+      let o = at-start .pre .1 .0 in let e = at-start .pre .0 in let f = at-if1 .left in omega arith
 
   read-token-add-t20 : read-token-lts.Need-add-t20 (read-token-claims t) (read-token-at t) read-token.Post
-  read-token-add-t20 c = let o = c .before .before .before .before .before .before .before .before .before .before .before .pre .1 .0 in let e = c .before .before .before .before .before .before .before .before .before .before .before .pre .0 in let f = c .before .before .before .before .if1 .left in omega arith
+  read-token-add-t20 c =
+      let at-if1 = c .before .before .before .before .if1 in
+      let at-start = c .before .before .before .before .before .before .before .before .before .before .before in
+      let o = at-start .pre .1 .0 in let e = at-start .pre .0 in let f = at-if1 .left in omega arith
 
   read-token-enum-told : read-token-lts.Need-enum-told (read-token-claims t) (read-token-at t) read-token.Post
   read-token-enum-told c = search needs
 
   read-token-read-alternatives-requires : read-token-lts.Need-read-alternatives-requires (read-token-claims t) (read-token-at t) read-token.Post
-  read-token-read-alternatives-requires c κs = let o = c .before .before .before .before .before .before .pre .1 .0 in let e = c .before .before .before .before .before .before .pre .0 in (omega arith, c .before .before .before .before .before .before .pre .1)
+  read-token-read-alternatives-requires c κs =
+      let at-start = c .before .before .before .before .before .before in
+      let o = at-start .pre .1 .0 in let e = at-start .pre .0 in (omega arith, at-start .pre .1)
 
   read-token-enum-known-piece-2 : read-token-lts.Need-enum-known-piece-2 (read-token-claims t) (read-token-at t) read-token.Post
   read-token-enum-known-piece-2 c = search needs
@@ -259,16 +435,31 @@ module _ (t : ℕ) where
   read-token-same-length c = search needs
 
   read-token-returns-2 : read-token-lts.Need-returns-2 (read-token-claims t) (read-token-at t) read-token.Post
-  read-token-returns-2 c = let w : length (entriesOf (tokenOf (c .before .before .before .before .before .before .piece .given .0 .0))) ≡ 4 = one-entry (c .before .before .before .before .before .before .before .before .before .before .before .args .text .now) (c .before .before .before .before .before .before .before .before .before .before .before .args .level) (c .before .before .before .before .before .before .before .before .before .before .before .args .count) (c .before .before .before .before .before .before .before .before .before .before .before .args .at) (sym (c .before .before .before .before .before .before .before .before .plain-token .ensures) ∙ ap pieceOf (c .before .before .before .before .before .before .piece .given .1)) in says-read (token (c .before .before .before .before .before .before .before .before .before .before .before .args .text .now) (c .before .before .before .before .before .before .before .before .before .before .before .args .level) (c .before .before .before .before .before .before .before .before .before .before .before .args .count) (c .before .before .before .before .before .before .before .before .before .before .before .args .at)) (c .before .before .before .before .before .before .before .before .before .before .before .args .n) (c .before .before .before .before .before .before .before .before .before .before .before .args .pool .now) (c .before .before .put-plain .last .0) (tokenOf (c .before .before .before .before .before .before .piece .given .0 .0)) (c .before .before .before .before .before .before .piece .given .0 .1 .1 .0) ((c .before .before .before .before .before .before .before .before .before .before .before .args .count) + 1) ((c .before .before .before .before .before .before .before .before .before .before .before .args .n) + 4) (c .before .before .put-plain .result) (token-found (c .before .before .before .before .before .before .before .before .before .before .before .args .text .now) (c .before .before .before .before .before .before .before .before .before .before .before .args .level) (c .before .before .before .before .before .before .before .before .before .before .before .args .count) (c .before .before .before .before .before .before .before .before .before .before .before .args .at) (sym (c .before .before .before .before .before .before .before .before .plain-token .ensures) ∙ ap pieceOf (c .before .before .before .before .before .before .piece .given .1)) (c .before .before .before .before .if1 .left)) (omega arith) (c .before .before .put-plain .ensures .0) (c .before .before .put-plain .ensures .1)
+  read-token-returns-2 c =
+      let at-put-plain = c .before .before .put-plain in
+      let at-if1 = c .before .before .before .before .if1 in
+      let at-piece = c .before .before .before .before .before .before .piece in
+      let at-plain-token = c .before .before .before .before .before .before .before .before .plain-token in
+      let at-start = c .before .before .before .before .before .before .before .before .before .before .before in
+      let w : length (entriesOf (tokenOf (at-piece .given .0 .0))) ≡ 4 = one-entry (at-start .args .text .now) (at-start .args .level) (at-start .args .count) (at-start .args .at) (sym (at-plain-token .ensures) ∙ ap pieceOf (at-piece .given .1)) in says-read (token (at-start .args .text .now) (at-start .args .level) (at-start .args .count) (at-start .args .at)) (at-start .args .n) (at-start .args .pool .now) (at-put-plain .last .0) (tokenOf (at-piece .given .0 .0)) (at-piece .given .0 .1 .1 .0) ((at-start .args .count) + 1) ((at-start .args .n) + 4) (at-put-plain .result) (token-found (at-start .args .text .now) (at-start .args .level) (at-start .args .count) (at-start .args .at) (sym (at-plain-token .ensures) ∙ ap pieceOf (at-piece .given .1)) (at-if1 .left)) (omega arith) (at-put-plain .ensures .0) (at-put-plain .ensures .1)
 
   read-token-same-length-2 : read-token-lts.Need-same-length-2 (read-token-claims t) (read-token-at t) read-token.Post
   read-token-same-length-2 c = search needs
 
   read-token-returns-3 : read-token-lts.Need-returns-3 (read-token-claims t) (read-token-at t) read-token.Post
-  read-token-returns-3 c = says-same (token (c .before .before .before .before .before .before .before .before .before .args .text .now) (c .before .before .before .before .before .before .before .before .before .args .level) (c .before .before .before .before .before .before .before .before .before .args .count) (c .before .before .before .before .before .before .before .before .before .args .at)) (alternatives (c .before .before .before .before .before .before .before .before .before .args .text .now) (c .before .before .before .before .before .before .before .before .before .args .level) (c .before .before .before .before .before .before .before .before .before .args .count) (c .before .before .before .before .before .before .before .before .before .args .at)) _ _ _ _ (token-other (c .before .before .before .before .before .before .before .before .before .args .text .now) (c .before .before .before .before .before .before .before .before .before .args .level) (c .before .before .before .before .before .before .before .before .before .args .count) (c .before .before .before .before .before .before .before .before .before .args .at) (sym (c .before .before .before .before .before .before .plain-token .ensures) ∙ ap pieceOf (c .before .before .before .before .enum-told .given .1))) (c .before .before .read-alternatives .ensures)
+  read-token-returns-3 c =
+      let at-read-alternatives = c .before .before .read-alternatives in
+      let at-enum-told = c .before .before .before .before .enum-told in
+      let at-plain-token = c .before .before .before .before .before .before .plain-token in
+      let at-start = c .before .before .before .before .before .before .before .before .before in
+      says-same (token (at-start .args .text .now) (at-start .args .level) (at-start .args .count) (at-start .args .at)) (alternatives (at-start .args .text .now) (at-start .args .level) (at-start .args .count) (at-start .args .at)) _ _ _ _ (token-other (at-start .args .text .now) (at-start .args .level) (at-start .args .count) (at-start .args .at) (sym (at-plain-token .ensures) ∙ ap pieceOf (at-enum-told .given .1))) (at-read-alternatives .ensures)
 
   read-token-returns-4 : read-token-lts.Need-returns-4 (read-token-claims t) (read-token-at t) read-token.Post
-  read-token-returns-4 c = says-refused (token (c .before .before .before .before .before .before .args .text .now) (c .before .before .before .before .before .before .args .level) (c .before .before .before .before .before .before .args .count) (c .before .before .before .before .before .before .args .at)) (c .before .before .before .before .before .before .args .n) (c .before .before .before .before .before .before .args .pool .now) (c .before .before .before .before .before .before .args .pool .now) _ _ (token-refuses (c .before .before .before .before .before .before .args .text .now) (c .before .before .before .before .before .before .args .level) (c .before .before .before .before .before .before .args .count) (c .before .before .before .before .before .before .args .at) (sym (c .before .before .before .plain-token .ensures) ∙ ap pieceOf (c .before .piece2 .given .1)))
+  read-token-returns-4 c =
+      let at-piece2 = c .before .piece2 in
+      let at-plain-token = c .before .before .before .plain-token in
+      let at-start = c .before .before .before .before .before .before in
+      says-refused (token (at-start .args .text .now) (at-start .args .level) (at-start .args .count) (at-start .args .at)) (at-start .args .n) (at-start .args .pool .now) (at-start .args .pool .now) _ _ (token-refuses (at-start .args .text .now) (at-start .args .level) (at-start .args .count) (at-start .args .at) (sym (at-plain-token .ensures) ∙ ap pieceOf (at-piece2 .given .1)))
 
 pub +read-alternatives+read-list+read-token-spec : {M : Type 1} → statement M
 +read-alternatives+read-list+read-token-spec =

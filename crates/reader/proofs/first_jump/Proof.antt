@@ -7,7 +7,9 @@ returns : tie.Need-returns
 returns c = rw (c .if1 .taken)
 
 returns-2 : tie.Need-returns-2
-returns-2 c = rw (ne-eqb (c .before .args .k) 0 (c .if1 .left))
+returns-2 c =
+    let at-start = c .before in
+    rw (ne-eqb (at-start .args .k) 0 (c .if1 .left))
 
 pub first-jump-spec : {M : Type 1} → statement M
 first-jump-spec = tie.close (tie.spec returns returns-2)

@@ -70,42 +70,72 @@ same-length c = search needs
 
 returns : tie.Need-returns
 unfolding isJump entriesOf
-returns c = let e = c .before .before .before .before .before .before .tok .given .1 in (rw e refl, c .before .before .put .ensures ∙ ap (λ (v : ℕ). written (c .before .before .before .before .before .before .before .before .before .args .pool .now) (c .before .before .before .before .before .before .before .before .before .args .n) (0 ∷ v ∷ 0 ∷ 0 ∷ [])) (c .before .before .before .wide .ensures) ∙ ap (λ (k : Plain). written (c .before .before .before .before .before .before .before .before .before .args .pool .now) (c .before .before .before .before .before .before .before .before .before .args .n) (entriesOf (tokenOf k))) (sym e))
+returns c =
+    let at-put = c .before .before .put in
+    let at-wide = c .before .before .before .wide in
+    let at-tok = c .before .before .before .before .before .before .tok in
+    let at-start = c .before .before .before .before .before .before .before .before .before in
+    let e = at-tok .given .1 in (rw e refl, at-put .ensures ∙ ap (λ (v : ℕ). written (at-start .args .pool .now) (at-start .args .n) (0 ∷ v ∷ 0 ∷ 0 ∷ [])) (at-wide .ensures) ∙ ap (λ (k : Plain). written (at-start .args .pool .now) (at-start .args .n) (entriesOf (tokenOf k))) (sym e))
 
 same-length-2 : tie.Need-same-length-2
 same-length-2 c = search needs
 
 returns-2 : tie.Need-returns-2
 unfolding isJump entriesOf
-returns-2 c = let e = c .before .before .before .before .before .before .tok2 .given .1 in (rw e refl, c .before .before .put2 .ensures ∙ ap (λ (v : ℕ). written (c .before .before .before .before .before .before .before .before .before .args .pool .now) (c .before .before .before .before .before .before .before .before .before .args .n) (1 ∷ v ∷ 0 ∷ 0 ∷ [])) (c .before .before .before .wide2 .ensures) ∙ ap (λ (k : Plain). written (c .before .before .before .before .before .before .before .before .before .args .pool .now) (c .before .before .before .before .before .before .before .before .before .args .n) (entriesOf (tokenOf k))) (sym e))
+returns-2 c =
+    let at-put2 = c .before .before .put2 in
+    let at-wide2 = c .before .before .before .wide2 in
+    let at-tok2 = c .before .before .before .before .before .before .tok2 in
+    let at-start = c .before .before .before .before .before .before .before .before .before in
+    let e = at-tok2 .given .1 in (rw e refl, at-put2 .ensures ∙ ap (λ (v : ℕ). written (at-start .args .pool .now) (at-start .args .n) (1 ∷ v ∷ 0 ∷ 0 ∷ [])) (at-wide2 .ensures) ∙ ap (λ (k : Plain). written (at-start .args .pool .now) (at-start .args .n) (entriesOf (tokenOf k))) (sym e))
 
 same-length-3 : tie.Need-same-length-3
 same-length-3 c = search needs
 
 returns-3 : tie.Need-returns-3
 unfolding isJump entriesOf
-returns-3 c = let e = c .before .before .before .before .before .before .before .tok3 .given .1 in (rw e refl, c .before .before .put3 .ensures ∙ ap₂ (λ (v m : ℕ). written (c .before .before .before .before .before .before .before .before .before .before .args .pool .now) (c .before .before .before .before .before .before .before .before .before .before .args .n) (2 ∷ v ∷ m ∷ 0 ∷ [])) (c .before .before .before .before .wide3 .ensures) (c .before .before .before .mask-number .ensures) ∙ ap (λ (k : Plain). written (c .before .before .before .before .before .before .before .before .before .before .args .pool .now) (c .before .before .before .before .before .before .before .before .before .before .args .n) (entriesOf (tokenOf k))) (sym e))
+returns-3 c =
+    let at-put3 = c .before .before .put3 in
+    let at-mask-number = c .before .before .before .mask-number in
+    let at-wide3 = c .before .before .before .before .wide3 in
+    let at-tok3 = c .before .before .before .before .before .before .before .tok3 in
+    let at-start = c .before .before .before .before .before .before .before .before .before .before in
+    let e = at-tok3 .given .1 in (rw e refl, at-put3 .ensures ∙ ap₂ (λ (v m : ℕ). written (at-start .args .pool .now) (at-start .args .n) (2 ∷ v ∷ m ∷ 0 ∷ [])) (at-wide3 .ensures) (at-mask-number .ensures) ∙ ap (λ (k : Plain). written (at-start .args .pool .now) (at-start .args .n) (entriesOf (tokenOf k))) (sym e))
 
 same-length-4 : tie.Need-same-length-4
 same-length-4 c = search needs
 
 returns-4 : tie.Need-returns-4
 unfolding isJump entriesOf
-returns-4 c = let e = c .before .before .before .before .before .before .before .tok4 .given .1 in (rw e refl, c .before .before .put4 .ensures ∙ ap₂ (λ (v m : ℕ). written (c .before .before .before .before .before .before .before .before .before .before .args .pool .now) (c .before .before .before .before .before .before .before .before .before .before .args .n) (3 ∷ v ∷ m ∷ 0 ∷ [])) (c .before .before .before .before .wide4 .ensures) (c .before .before .before .mask-number2 .ensures) ∙ ap (λ (k : Plain). written (c .before .before .before .before .before .before .before .before .before .before .args .pool .now) (c .before .before .before .before .before .before .before .before .before .before .args .n) (entriesOf (tokenOf k))) (sym e))
+returns-4 c =
+    let at-put4 = c .before .before .put4 in
+    let at-mask-number2 = c .before .before .before .mask-number2 in
+    let at-wide4 = c .before .before .before .before .wide4 in
+    let at-tok4 = c .before .before .before .before .before .before .before .tok4 in
+    let at-start = c .before .before .before .before .before .before .before .before .before .before in
+    let e = at-tok4 .given .1 in (rw e refl, at-put4 .ensures ∙ ap₂ (λ (v m : ℕ). written (at-start .args .pool .now) (at-start .args .n) (3 ∷ v ∷ m ∷ 0 ∷ [])) (at-wide4 .ensures) (at-mask-number2 .ensures) ∙ ap (λ (k : Plain). written (at-start .args .pool .now) (at-start .args .n) (entriesOf (tokenOf k))) (sym e))
 
 same-length-5 : tie.Need-same-length-5
 same-length-5 c = search needs
 
 returns-5 : tie.Need-returns-5
 unfolding isJump entriesOf
-returns-5 c = let e = c .before .before .before .before .before .tok5 .given .1 in (rw e refl, c .before .before .put5 .ensures ∙ refl ∙ ap (λ (k : Plain). written (c .before .before .before .before .before .before .before .before .args .pool .now) (c .before .before .before .before .before .before .before .before .args .n) (entriesOf (tokenOf k))) (sym e))
+returns-5 c =
+    let at-put5 = c .before .before .put5 in
+    let at-tok5 = c .before .before .before .before .before .tok5 in
+    let at-start = c .before .before .before .before .before .before .before .before in
+    let e = at-tok5 .given .1 in (rw e refl, at-put5 .ensures ∙ refl ∙ ap (λ (k : Plain). written (at-start .args .pool .now) (at-start .args .n) (entriesOf (tokenOf k))) (sym e))
 
 same-length-6 : tie.Need-same-length-6
 same-length-6 c = search needs
 
 returns-6 : tie.Need-returns-6
 unfolding isJump entriesOf
-returns-6 c = let e = c .before .before .before .before .before .tok6 .given .1 in (rw e refl, c .before .before .put6 .ensures ∙ refl ∙ ap (λ (k : Plain). written (c .before .before .before .before .before .before .before .before .args .pool .now) (c .before .before .before .before .before .before .before .before .args .n) (entriesOf (tokenOf k))) (sym e))
+returns-6 c =
+    let at-put6 = c .before .before .put6 in
+    let at-tok6 = c .before .before .before .before .before .tok6 in
+    let at-start = c .before .before .before .before .before .before .before .before in
+    let e = at-tok6 .given .1 in (rw e refl, at-put6 .ensures ∙ refl ∙ ap (λ (k : Plain). written (at-start .args .pool .now) (at-start .args .n) (entriesOf (tokenOf k))) (sym e))
 
 pub put-plain-spec : {M : Type 1} → statement M
 put-plain-spec =

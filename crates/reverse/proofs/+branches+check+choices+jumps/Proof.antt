@@ -134,16 +134,22 @@ module _ (t : ℕ) where
 
   branches-sub-bs : branches-lts.Need-sub-bs (branches-claims t) (branches-at t) branches.Post branches-Inv-loop branches-μ-loop branches-Inv-branches branches-μ-branches
   branches-sub-bs c =
-      let L = c .before .before .before .before .branches .bs .now in
-      let W = c .before .w .given .0 .0 in
-      let e = sym (c .before .before .before .first-word .ensures) ∙ c .before .w .given .1 in
+      let at-w = c .before .w in
+      let at-first-word = c .before .before .before .first-word in
+      let at-branches = c .before .before .before .before .branches in
+      let L = at-branches .bs .now in
+      let W = at-w .given .0 .0 in
+      let e = sym (at-first-word .ensures) ∙ at-w .given .1 in
       word-pos L W e
 
   branches-part-bs-start : branches-lts.Need-part-bs-start (branches-claims t) (branches-at t) branches.Post branches-Inv-loop branches-μ-loop branches-Inv-branches branches-μ-branches
   branches-part-bs-start c =
-      let L = c .before .before .before .before .branches .bs .now in
-      let W = c .before .w .given .0 .0 in
-      let e = sym (c .before .before .before .first-word .ensures) ∙ c .before .w .given .1 in
+      let at-w = c .before .w in
+      let at-first-word = c .before .before .before .first-word in
+      let at-branches = c .before .before .before .before .branches in
+      let L = at-branches .bs .now in
+      let W = at-w .given .0 .0 in
+      let e = sym (at-first-word .ensures) ∙ at-w .given .1 in
       word-pos L W e
 
   branches-part-bs-end : branches-lts.Need-part-bs-end (branches-claims t) (branches-at t) branches.Post branches-Inv-loop branches-μ-loop branches-Inv-branches branches-μ-branches
@@ -154,19 +160,25 @@ module _ (t : ℕ) where
 
   branches-slice-aggregate-flat : branches-lts.Need-slice-aggregate-flat (branches-claims t) (branches-at t) branches.Post branches-Inv-loop branches-μ-loop branches-Inv-branches branches-μ-branches
   branches-slice-aggregate-flat c =
-      let L = c .before .before .before .before .before .before .branches .bs .now in
-      let W = c .before .before .before .w .given .0 .0 in
-      let e = sym (c .before .before .before .before .before .first-word .ensures) ∙ c .before .before .before .w .given .1 in
-      let sb = c .before .before .before .before .before .before .branches .inv .0 in
+      let at-w = c .before .before .before .w in
+      let at-first-word = c .before .before .before .before .before .first-word in
+      let at-branches = c .before .before .before .before .before .before .branches in
+      let L = at-branches .bs .now in
+      let W = at-w .given .0 .0 in
+      let e = sym (at-first-word .ensures) ∙ at-w .given .1 in
+      let sb = at-branches .inv .0 in
       let marked = alts.head-marked L W e sb in
       sym (length-take-le _ _ (marked .fits))
 
   branches-flat-requires : branches-lts.Need-flat-requires (branches-claims t) (branches-at t) branches.Post branches-Inv-loop branches-μ-loop branches-Inv-branches branches-μ-branches
   branches-flat-requires c κs =
-      let L = c .before .before .before .before .before .before .branches .bs .now in
-      let W = c .before .before .before .w .given .0 .0 in
-      let e = sym (c .before .before .before .before .before .first-word .ensures) ∙ c .before .before .before .w .given .1 in
-      let sb = c .before .before .before .before .before .before .branches .inv .0 in
+      let at-w = c .before .before .before .w in
+      let at-first-word = c .before .before .before .before .before .first-word in
+      let at-branches = c .before .before .before .before .before .before .branches in
+      let L = at-branches .bs .now in
+      let W = at-w .given .0 .0 in
+      let e = sym (at-first-word .ensures) ∙ at-w .given .1 in
+      let sb = at-branches .inv .0 in
       let marked = alts.head-marked L W e sb in
       marked .inside
 
@@ -175,8 +187,11 @@ module _ (t : ℕ) where
 
   branches-slice-aggregate-head : branches-lts.Need-slice-aggregate-head (branches-claims t) (branches-at t) branches.Post branches-Inv-loop branches-μ-loop branches-Inv-branches branches-μ-branches
   branches-slice-aggregate-head c =
-      let M = c .before .before .before .before .before .before .before .before .before .before .before .before .before .before .before .args .mem .now in
-      let fits = sym (c .before .before .got .given .1) ∙ c .before .before .before .before .flat .ensures in
+      let at-got = c .before .before .got in
+      let at-flat = c .before .before .before .before .flat in
+      let at-start = c .before .before .before .before .before .before .before .before .before .before .before .before .before .before .before in
+      let M = at-start .args .mem .now in
+      let fits = sym (at-got .given .1) ∙ at-flat .ensures in
       let within = left-fits long _ (reverse M) _ fits in
       sym (length-take-le _ M (omega (arith, within, length-reverse M)))
 
@@ -185,11 +200,13 @@ module _ (t : ℕ) where
 
   branches-loop-holds : branches-lts.Need-loop-holds (branches-claims t) (branches-at t) branches.Post branches-Inv-loop branches-μ-loop branches-Inv-branches branches-μ-branches
   branches-loop-holds c =
-      let p = prog (c .before .before .before .before .before .before .before .before .before .before .before .before .before .before .before .args .rest .now) in
-      let M = c .before .before .before .before .before .before .before .before .before .before .before .before .before .before .before .args .mem .now in
-      let N = take (c .before .before .got .given .0 .0) M in
-      let F = c .before .before .before .before .before .before .before .before .before .before .before .before .before .before .before .args .from in
-      let T = c .before .before .before .before .before .before .before .before .before .before .before .before .before .before .before .args .to in
+      let at-got = c .before .before .got in
+      let at-start = c .before .before .before .before .before .before .before .before .before .before .before .before .before .before .before in
+      let p = prog (at-start .args .rest .now) in
+      let M = at-start .args .mem .now in
+      let N = take (at-got .given .0 .0) M in
+      let F = at-start .args .from in
+      let T = at-start .args .to in
       (omega arith, range-below p (reverse N) F T)
 
   branches-sub-n : branches-lts.Need-sub-n (branches-claims t) (branches-at t) branches.Post branches-Inv-loop branches-μ-loop branches-Inv-branches branches-μ-branches
@@ -209,14 +226,17 @@ module _ (t : ℕ) where
 
   branches-slice-aggregate-check : branches-lts.Need-slice-aggregate-check (branches-claims t) (branches-at t) branches.Post branches-Inv-loop branches-μ-loop branches-Inv-branches branches-μ-branches
   branches-slice-aggregate-check c =
-      let M = c .before .before .before .before .before .before .before .before .before .before .before .before .before .before .before .before .before .before .before .before .args .mem .now in
-      let N = take (c .before .before .before .before .before .before .before .got .given .0 .0) M in
+      let at-got = c .before .before .before .before .before .before .before .got in
+      let at-start = c .before .before .before .before .before .before .before .before .before .before .before .before .before .before .before .before .before .before .before .before in
+      let M = at-start .args .mem .now in
+      let N = take (at-got .given .0 .0) M in
       sym (length-take-le _ N (omega arith))
 
   branches-check-requires : branches-lts.Need-check-requires (branches-claims t) (branches-at t) branches.Post branches-Inv-loop branches-μ-loop branches-Inv-branches branches-μ-branches
   branches-check-requires c κs =
-      let R = c .before .before .before .before .before .before .before .before .before .before .before .before .before .before .before .before .before .before .before .before .args .rest .now in
-      (omega (arith, length-from 0 R, c .before .before .before .before .before .before .before .before .before .before .before .before .before .before .before .before .before .before .before .before .pre .0), subst Sound (sym (whole R)) (c .before .before .before .before .before .before .before .before .before .before .before .before .before .before .before .before .before .before .before .before .pre .1 .1))
+      let at-start = c .before .before .before .before .before .before .before .before .before .before .before .before .before .before .before .before .before .before .before .before in
+      let R = at-start .args .rest .now in
+      (omega (arith, length-from 0 R, at-start .pre .0), subst Sound (sym (whole R)) (at-start .pre .1 .1))
 
   branches-enum-known-got-2 : branches-lts.Need-enum-known-got-2 (branches-claims t) (branches-at t) branches.Post branches-Inv-loop branches-μ-loop branches-Inv-branches branches-μ-branches
   branches-enum-known-got-2 c = search needs
@@ -229,26 +249,36 @@ module _ (t : ℕ) where
 
   branches-loop-again : branches-lts.Need-loop-again (branches-claims t) (branches-at t) branches.Post branches-Inv-loop branches-μ-loop branches-Inv-branches branches-μ-branches
   branches-loop-again c =
-      let p = prog (c .before .before .before .before .before .before .before .before .before .before .before .before .before .before .before .before .before .before .before .before .before .before .before .args .rest .now) in
-      let M = c .before .before .before .before .before .before .before .before .before .before .before .before .before .before .before .before .before .before .before .before .before .before .before .args .mem .now in
-      let N = take (c .before .before .before .before .before .before .before .before .before .before .got .given .0 .0) M in
-      let F = c .before .before .before .before .before .before .before .before .before .before .before .before .before .before .before .before .before .before .before .before .before .before .before .args .from in
-      let n = c .before .before .before .before .before .before .before .loop .n in
-      let R = c .before .before .before .before .before .before .before .before .before .before .before .before .before .before .before .before .before .before .before .before .before .before .before .args .rest .now in
-      let tried = c .before .before .check .ensures ∙ ap (λ (l : List ℕ). answer (backward (prog l) (take (length N - (n - 1)) N))) (whole R) in
-      (omega (arith, c .before .before .before .before .before .before .before .loop .inv .0), c .before .before .before .before .before .before .before .loop .inv .1 ∙ ranges.below-next p (reverse N) F n (c .before .before .before .before .before .before .loop-test .taken) _ (back-part _ N (c .before .before .before .before .before .if1 .taken)) (omega (arith, c .before .before .before .before .before .if1 .taken, length-reverse N)) (sym (c .enum-told2 .given .1) ∙ tried))
+      let at-check = c .before .before .check in
+      let at-if1 = c .before .before .before .before .before .if1 in
+      let at-loop-test = c .before .before .before .before .before .before .loop-test in
+      let at-loop = c .before .before .before .before .before .before .before .loop in
+      let at-got = c .before .before .before .before .before .before .before .before .before .before .got in
+      let at-start = c .before .before .before .before .before .before .before .before .before .before .before .before .before .before .before .before .before .before .before .before .before .before .before in
+      let p = prog (at-start .args .rest .now) in
+      let M = at-start .args .mem .now in
+      let N = take (at-got .given .0 .0) M in
+      let F = at-start .args .from in
+      let n = at-loop .n in
+      let R = at-start .args .rest .now in
+      let tried = at-check .ensures ∙ ap (λ (l : List ℕ). answer (backward (prog l) (take (length N - (n - 1)) N))) (whole R) in
+      (omega (arith, at-loop .inv .0), at-loop .inv .1 ∙ ranges.below-next p (reverse N) F n (at-loop-test .taken) _ (back-part _ N (at-if1 .taken)) (omega (arith, at-if1 .taken, length-reverse N)) (sym (c .enum-told2 .given .1) ∙ tried))
 
   branches-loop-less-2 : branches-lts.Need-loop-less-2 (branches-claims t) (branches-at t) branches.Post branches-Inv-loop branches-μ-loop branches-Inv-branches branches-μ-branches
   branches-loop-less-2 c = search needs
 
   branches-loop-again-2 : branches-lts.Need-loop-again-2 (branches-claims t) (branches-at t) branches.Post branches-Inv-loop branches-μ-loop branches-Inv-branches branches-μ-branches
   branches-loop-again-2 c =
-      let p = prog (c .before .before .before .before .before .before .before .before .before .before .before .before .before .before .before .before .before .before .args .rest .now) in
-      let M = c .before .before .before .before .before .before .before .before .before .before .before .before .before .before .before .before .before .before .args .mem .now in
-      let N = take (c .before .before .before .before .before .got .given .0 .0) M in
-      let F = c .before .before .before .before .before .before .before .before .before .before .before .before .before .before .before .before .before .before .args .from in
-      let n = c .before .before .loop .n in
-      (omega (arith, c .before .before .loop .inv .0), c .before .before .loop .inv .1 ∙ ranges.below-skip p (reverse N) F n (c .before .loop-test .taken) (omega (arith, c .if1 .left, length-reverse N)))
+      let at-loop-test = c .before .loop-test in
+      let at-loop = c .before .before .loop in
+      let at-got = c .before .before .before .before .before .got in
+      let at-start = c .before .before .before .before .before .before .before .before .before .before .before .before .before .before .before .before .before .before in
+      let p = prog (at-start .args .rest .now) in
+      let M = at-start .args .mem .now in
+      let N = take (at-got .given .0 .0) M in
+      let F = at-start .args .from in
+      let n = at-loop .n in
+      (omega (arith, at-loop .inv .0), at-loop .inv .1 ∙ ranges.below-skip p (reverse N) F n (at-loop-test .taken) (omega (arith, c .if1 .left, length-reverse N)))
 
   branches-enum-told-3 : branches-lts.Need-enum-told-3 (branches-claims t) (branches-at t) branches.Post branches-Inv-loop branches-μ-loop branches-Inv-branches branches-μ-branches
   branches-enum-told-3 c = search needs
@@ -258,19 +288,25 @@ module _ (t : ℕ) where
 
   branches-sub-bs-2 : branches-lts.Need-sub-bs-2 (branches-claims t) (branches-at t) branches.Post branches-Inv-loop branches-μ-loop branches-Inv-branches branches-μ-branches
   branches-sub-bs-2 c =
-      let L = c .before .before .before .before .before .before .before .before .branches .bs .now in
-      let W = c .before .before .before .before .before .w .given .0 .0 in
-      let e = sym (c .before .before .before .before .before .before .before .first-word .ensures) ∙ c .before .before .before .before .before .w .given .1 in
-      let sb = c .before .before .before .before .before .before .before .before .branches .inv .0 in
+      let at-w = c .before .before .before .before .before .w in
+      let at-first-word = c .before .before .before .before .before .before .before .first-word in
+      let at-branches = c .before .before .before .before .before .before .before .before .branches in
+      let L = at-branches .bs .now in
+      let W = at-w .given .0 .0 in
+      let e = sym (at-first-word .ensures) ∙ at-w .given .1 in
+      let sb = at-branches .inv .0 in
       let marked = alts.head-marked L W e sb in
       marked .fits
 
   branches-part-bs-start-2 : branches-lts.Need-part-bs-start-2 (branches-claims t) (branches-at t) branches.Post branches-Inv-loop branches-μ-loop branches-Inv-branches branches-μ-branches
   branches-part-bs-start-2 c =
-      let L = c .before .before .before .before .before .before .before .before .branches .bs .now in
-      let W = c .before .before .before .before .before .w .given .0 .0 in
-      let e = sym (c .before .before .before .before .before .before .before .first-word .ensures) ∙ c .before .before .before .before .before .w .given .1 in
-      let sb = c .before .before .before .before .before .before .before .before .branches .inv .0 in
+      let at-w = c .before .before .before .before .before .w in
+      let at-first-word = c .before .before .before .before .before .before .before .first-word in
+      let at-branches = c .before .before .before .before .before .before .before .before .branches in
+      let L = at-branches .bs .now in
+      let W = at-w .given .0 .0 in
+      let e = sym (at-first-word .ensures) ∙ at-w .given .1 in
+      let sb = at-branches .inv .0 in
       let marked = alts.head-marked L W e sb in
       marked .fits
 
@@ -279,54 +315,77 @@ module _ (t : ℕ) where
 
   branches-branches-less : branches-lts.Need-branches-less (branches-claims t) (branches-at t) branches.Post branches-Inv-loop branches-μ-loop branches-Inv-branches branches-μ-branches
   branches-branches-less c =
-      let L = c .before .before .before .before .before .before .before .before .before .branches .bs .now in
-      let W = c .before .before .before .before .before .before .w .given .0 .0 in
-      let e = sym (c .before .before .before .before .before .before .before .before .first-word .ensures) ∙ c .before .before .before .before .before .before .w .given .1 in
+      let at-w = c .before .before .before .before .before .before .w in
+      let at-first-word = c .before .before .before .before .before .before .before .before .first-word in
+      let at-branches = c .before .before .before .before .before .before .before .before .before .branches in
+      let L = at-branches .bs .now in
+      let W = at-w .given .0 .0 in
+      let e = sym (at-first-word .ensures) ∙ at-w .given .1 in
       omega (arith, word-pos L W e, length-from 1 L, length-from (W / 256 % 256) (from 1 L))
 
   branches-branches-again : branches-lts.Need-branches-again (branches-claims t) (branches-at t) branches.Post branches-Inv-loop branches-μ-loop branches-Inv-branches branches-μ-branches
   branches-branches-again c =
-      let L = c .before .before .before .before .before .before .before .before .before .branches .bs .now in
-      let W = c .before .before .before .before .before .before .w .given .0 .0 in
-      let e = sym (c .before .before .before .before .before .before .before .before .first-word .ensures) ∙ c .before .before .before .before .before .before .w .given .1 in
-      let sb = c .before .before .before .before .before .before .before .before .before .branches .inv .0 in
-      let p = prog (c .before .before .before .before .before .before .before .before .before .before .before .before .before .args .rest .now) in
-      let q = range (c .before .before .before .before .before .before .before .before .before .before .before .before .before .args .from) (c .before .before .before .before .before .before .before .before .before .before .before .before .before .args .to) ▹ p in
-      let M = c .before .before .before .before .before .before .before .before .before .before .before .before .before .args .mem .now in
-      let F = c .before .before .before .before .before .before .before .before .before .before .before .before .before .args .from in (
+      let at-match2 = c .before .match2 in
+      let at-flat = c .before .before .flat in
+      let at-w = c .before .before .before .before .before .before .w in
+      let at-first-word = c .before .before .before .before .before .before .before .before .first-word in
+      let at-branches = c .before .before .before .before .before .before .before .before .before .branches in
+      let at-start = c .before .before .before .before .before .before .before .before .before .before .before .before .before in
+      let L = at-branches .bs .now in
+      let W = at-w .given .0 .0 in
+      let e = sym (at-first-word .ensures) ∙ at-w .given .1 in
+      let sb = at-branches .inv .0 in
+      let p = prog (at-start .args .rest .now) in
+      let q = range (at-start .args .from) (at-start .args .to) ▹ p in
+      let M = at-start .args .mem .now in
+      let F = at-start .args .from in (
         alts.head-after L W e sb,
-        c .before .before .before .before .before .before .before .before .before .branches .inv .1 ∙ ⊎-elim
-            (λ w. alts.head-skip L W e sb long q (reverse M) _ _ (back-left _ M) (sym (w .1 .given .1) ∙ c .before .before .flat .ensures) (w .4 .inv .1 ∙ below-none p _ F (w .4 .n) (w .5 .left)))
-            (λ w. alts.head-none L W e sb long q (reverse M) (sym (w .1 .given .1) ∙ c .before .before .flat .ensures))
-            (c .before .match2 .came),
+        at-branches .inv .1 ∙ ⊎-elim
+            (λ w. alts.head-skip L W e sb long q (reverse M) _ _ (back-left _ M) (sym (w .1 .given .1) ∙ at-flat .ensures) (w .4 .inv .1 ∙ below-none p _ F (w .4 .n) (w .5 .left)))
+            (λ w. alts.head-none L W e sb long q (reverse M) (sym (w .1 .given .1) ∙ at-flat .ensures))
+            (at-match2 .came),
       )
 
   branches-returns : branches-lts.Need-returns (branches-claims t) (branches-at t) branches.Post branches-Inv-loop branches-μ-loop branches-Inv-branches branches-μ-branches
   branches-returns c =
-      let L = c .before .before .before .branches .bs .now in
-      let p = prog (c .before .before .before .before .before .before .before .args .rest .now) in
-      let q = range (c .before .before .before .before .before .before .before .args .from) (c .before .before .before .before .before .before .before .args .to) ▹ p in
-      let M = c .before .before .before .before .before .before .before .args .mem .now in
-      ap answer (sym (c .before .before .before .branches .inv .1 ∙ alts.heads-over long L q (reverse M) (sym (c .before .before .first-word .ensures) ∙ c .enum-told .given .1)))
+      let at-first-word = c .before .before .first-word in
+      let at-branches = c .before .before .before .branches in
+      let at-start = c .before .before .before .before .before .before .before in
+      let L = at-branches .bs .now in
+      let p = prog (at-start .args .rest .now) in
+      let q = range (at-start .args .from) (at-start .args .to) ▹ p in
+      let M = at-start .args .mem .now in
+      ap answer (sym (at-branches .inv .1 ∙ alts.heads-over long L q (reverse M) (sym (at-first-word .ensures) ∙ c .enum-told .given .1)))
 
   branches-returns-2 : branches-lts.Need-returns-2 (branches-claims t) (branches-at t) branches.Post branches-Inv-loop branches-μ-loop branches-Inv-branches branches-μ-branches
   branches-returns-2 c =
-      let L = c .before .before .before .before .before .before .before .before .before .before .before .before .before .before .before .before .before .before .before .before .branches .bs .now in
-      let W = c .before .before .before .before .before .before .before .before .before .before .before .before .before .before .before .before .before .w .given .0 .0 in
-      let e = sym (c .before .before .before .before .before .before .before .before .before .before .before .before .before .before .before .before .before .before .before .first-word .ensures) ∙ c .before .before .before .before .before .before .before .before .before .before .before .before .before .before .before .before .before .w .given .1 in
-      let sb = c .before .before .before .before .before .before .before .before .before .before .before .before .before .before .before .before .before .before .before .before .branches .inv .0 in
-      let p = prog (c .before .before .before .before .before .before .before .before .before .before .before .before .before .before .before .before .before .before .before .before .before .before .before .before .args .rest .now) in
-      let q = range (c .before .before .before .before .before .before .before .before .before .before .before .before .before .before .before .before .before .before .before .before .before .before .before .before .args .from) (c .before .before .before .before .before .before .before .before .before .before .before .before .before .before .before .before .before .before .before .before .before .before .before .before .args .to) ▹ p in
-      let M = c .before .before .before .before .before .before .before .before .before .before .before .before .before .before .before .before .before .before .before .before .before .before .before .before .args .mem .now in
-      let fits = sym (c .before .before .before .before .before .before .before .before .before .before .before .got .given .1) ∙ c .before .before .before .before .before .before .before .before .before .before .before .before .before .flat .ensures in
-      let N = take (c .before .before .before .before .before .before .before .before .before .before .before .got .given .0 .0) M in
-      let F = c .before .before .before .before .before .before .before .before .before .before .before .before .before .before .before .before .before .before .before .before .before .before .before .before .args .from in
-      let n = c .before .before .before .before .before .before .before .before .loop .n in
-      let R = c .before .before .before .before .before .before .before .before .before .before .before .before .before .before .before .before .before .before .before .before .before .before .before .before .args .rest .now in
-      let tried = c .before .before .before .check .ensures ∙ ap (λ (l : List ℕ). answer (backward (prog l) (take (length N - (n - 1)) N))) (whole R) in
+      let at-got2 = c .before .got2 in
+      let at-check = c .before .before .before .check in
+      let at-if1 = c .before .before .before .before .before .before .if1 in
+      let at-loop-test = c .before .before .before .before .before .before .before .loop-test in
+      let at-loop = c .before .before .before .before .before .before .before .before .loop in
+      let at-got = c .before .before .before .before .before .before .before .before .before .before .before .got in
+      let at-flat = c .before .before .before .before .before .before .before .before .before .before .before .before .before .flat in
+      let at-w = c .before .before .before .before .before .before .before .before .before .before .before .before .before .before .before .before .before .w in
+      let at-first-word = c .before .before .before .before .before .before .before .before .before .before .before .before .before .before .before .before .before .before .before .first-word in
+      let at-branches = c .before .before .before .before .before .before .before .before .before .before .before .before .before .before .before .before .before .before .before .before .branches in
+      let at-start = c .before .before .before .before .before .before .before .before .before .before .before .before .before .before .before .before .before .before .before .before .before .before .before .before in
+      let L = at-branches .bs .now in
+      let W = at-w .given .0 .0 in
+      let e = sym (at-first-word .ensures) ∙ at-w .given .1 in
+      let sb = at-branches .inv .0 in
+      let p = prog (at-start .args .rest .now) in
+      let q = range (at-start .args .from) (at-start .args .to) ▹ p in
+      let M = at-start .args .mem .now in
+      let fits = sym (at-got .given .1) ∙ at-flat .ensures in
+      let N = take (at-got .given .0 .0) M in
+      let F = at-start .args .from in
+      let n = at-loop .n in
+      let R = at-start .args .rest .now in
+      let tried = at-check .ensures ∙ ap (λ (l : List ℕ). answer (backward (prog l) (take (length N - (n - 1)) N))) (whole R) in
       alts.head-take L W e sb long q (reverse M) _ _ (back-left _ M) fits _
-      (ranges.below-take p (reverse N) F n (c .before .before .before .before .before .before .before .loop-test .taken) _ (back-part _ N (c .before .before .before .before .before .before .if1 .taken)) (omega (arith, c .before .before .before .before .before .before .if1 .taken, length-reverse N)) _ (sym (c .before .got2 .given .1) ∙ tried) ∙ ap answer (sym (c .before .before .before .before .before .before .before .before .loop .inv .1)))
-      ∙ ap answer (sym (c .before .before .before .before .before .before .before .before .before .before .before .before .before .before .before .before .before .before .before .before .branches .inv .1))
+      (ranges.below-take p (reverse N) F n (at-loop-test .taken) _ (back-part _ N (at-if1 .taken)) (omega (arith, at-if1 .taken, length-reverse N)) _ (sym (at-got2 .given .1) ∙ tried) ∙ ap answer (sym (at-loop .inv .1)))
+      ∙ ap answer (sym (at-branches .inv .1))
 
   check-loop-holds : check-lts.Need-loop-holds (check-claims t) (check-at t) check.Post check-Inv-loop check-μ-loop
   check-loop-holds c = search needs
@@ -342,23 +401,31 @@ module _ (t : ℕ) where
 
   check-returns : check-lts.Need-returns (check-claims t) (check-at t) check.Post check-Inv-loop check-μ-loop
   check-returns c =
-      let M = c .before .before .before .loop .m .now in
-      let inv = c .before .before .before .loop .inv .2 in
-      let L = c .before .before .before .loop .ns .now in
-      ap Left (sym (length-reverse M)) ∙ ap answer (sym (inv ∙ turns.end-left long L (reverse M) (sym (c .before .before .first-word .ensures) ∙ c .enum-told .given .1)))
+      let at-first-word = c .before .before .first-word in
+      let at-loop = c .before .before .before .loop in
+      let M = at-loop .m .now in
+      let inv = at-loop .inv .2 in
+      let L = at-loop .ns .now in
+      ap Left (sym (length-reverse M)) ∙ ap answer (sym (inv ∙ turns.end-left long L (reverse M) (sym (at-first-word .ensures) ∙ c .enum-told .given .1)))
 
   check-sub-ns : check-lts.Need-sub-ns (check-claims t) (check-at t) check.Post check-Inv-loop check-μ-loop
   check-sub-ns c =
-      let L = c .before .before .before .before .loop .ns .now in
-      let W = c .before .w .given .0 .0 in
-      let e = sym (c .before .before .before .first-word .ensures) ∙ c .before .w .given .1 in
+      let at-w = c .before .w in
+      let at-first-word = c .before .before .before .first-word in
+      let at-loop = c .before .before .before .before .loop in
+      let L = at-loop .ns .now in
+      let W = at-w .given .0 .0 in
+      let e = sym (at-first-word .ensures) ∙ at-w .given .1 in
       word-pos L W e
 
   check-part-ns-start : check-lts.Need-part-ns-start (check-claims t) (check-at t) check.Post check-Inv-loop check-μ-loop
   check-part-ns-start c =
-      let L = c .before .before .before .before .loop .ns .now in
-      let W = c .before .w .given .0 .0 in
-      let e = sym (c .before .before .before .first-word .ensures) ∙ c .before .w .given .1 in
+      let at-w = c .before .w in
+      let at-first-word = c .before .before .before .first-word in
+      let at-loop = c .before .before .before .before .loop in
+      let L = at-loop .ns .now in
+      let W = at-w .given .0 .0 in
+      let e = sym (at-first-word .ensures) ∙ at-w .given .1 in
       word-pos L W e
 
   check-part-ns-end : check-lts.Need-part-ns-end (check-claims t) (check-at t) check.Post check-Inv-loop check-μ-loop
@@ -378,27 +445,39 @@ module _ (t : ℕ) where
 
   check-returns-2 : check-lts.Need-returns-2 (check-claims t) (check-at t) check.Post check-Inv-loop check-μ-loop
   check-returns-2 c =
-      let inv = c .before .before .before .before .before .before .before .before .before .before .loop .inv .2 in
-      let L = c .before .before .before .before .before .before .before .before .before .before .loop .ns .now in
-      let W = c .before .before .before .before .before .before .before .w .given .0 .0 in
-      let e = sym (c .before .before .before .before .before .before .before .before .before .first-word .ensures) ∙ c .before .before .before .before .before .before .before .w .given .1 in
-      let M = c .before .before .before .before .before .before .before .before .before .before .loop .m .now in
-      let test = is-test W (sym (c .before .before .before .if1 .taken) ∙ c .before .before .before .before .tests-byte .ensures) in
-      ap answer (sym (inv ∙ turns.stop-short L W e long (reverse M) (test .0) (test .1) (sym (c .before .before .last-byte .ensures) ∙ c .enum-told2 .given .1)))
+      let at-last-byte = c .before .before .last-byte in
+      let at-if1 = c .before .before .before .if1 in
+      let at-tests-byte = c .before .before .before .before .tests-byte in
+      let at-w = c .before .before .before .before .before .before .before .w in
+      let at-first-word = c .before .before .before .before .before .before .before .before .before .first-word in
+      let at-loop = c .before .before .before .before .before .before .before .before .before .before .loop in
+      let inv = at-loop .inv .2 in
+      let L = at-loop .ns .now in
+      let W = at-w .given .0 .0 in
+      let e = sym (at-first-word .ensures) ∙ at-w .given .1 in
+      let M = at-loop .m .now in
+      let test = is-test W (sym (at-if1 .taken) ∙ at-tests-byte .ensures) in
+      ap answer (sym (inv ∙ turns.stop-short L W e long (reverse M) (test .0) (test .1) (sym (at-last-byte .ensures) ∙ c .enum-told2 .given .1)))
 
   check-sub-keep : check-lts.Need-sub-keep (check-claims t) (check-at t) check.Post check-Inv-loop check-μ-loop
   check-sub-keep c =
-      let M = c .before .before .before .before .before .before .before .before .before .before .before .loop .m .now in
-      let B = c .before .b .given .0 .0 in
-      let f = sym (c .before .before .before .last-byte .ensures) ∙ c .before .b .given .1 in
+      let at-b = c .before .b in
+      let at-last-byte = c .before .before .before .last-byte in
+      let at-loop = c .before .before .before .before .before .before .before .before .before .before .before .loop in
+      let M = at-loop .m .now in
+      let B = at-b .given .0 .0 in
+      let f = sym (at-last-byte .ensures) ∙ at-b .given .1 in
       let pos = last-pos M B f in
       pos
 
   check-slice-aggregate-m : check-lts.Need-slice-aggregate-m (check-claims t) (check-at t) check.Post check-Inv-loop check-μ-loop
   check-slice-aggregate-m c =
-      let M = c .before .before .before .before .before .before .before .before .before .before .before .before .loop .m .now in
-      let B = c .before .before .b .given .0 .0 in
-      let f = sym (c .before .before .before .before .last-byte .ensures) ∙ c .before .before .b .given .1 in
+      let at-b = c .before .before .b in
+      let at-last-byte = c .before .before .before .before .last-byte in
+      let at-loop = c .before .before .before .before .before .before .before .before .before .before .before .before .loop in
+      let M = at-loop .m .now in
+      let B = at-b .given .0 .0 in
+      let f = sym (at-last-byte .ensures) ∙ at-b .given .1 in
       let pos = last-pos M B f in
       sym (length-take-le _ M (omega (arith, pos)))
 
@@ -407,48 +486,71 @@ module _ (t : ℕ) where
 
   check-loop-less : check-lts.Need-loop-less (check-claims t) (check-at t) check.Post check-Inv-loop check-μ-loop
   check-loop-less c =
-      let L = c .before .before .before .before .before .before .before .before .before .before .before .before .before .before .loop .ns .now in
-      let W = c .before .before .before .before .before .before .before .before .before .before .before .w .given .0 .0 in
-      let e = sym (c .before .before .before .before .before .before .before .before .before .before .before .before .before .first-word .ensures) ∙ c .before .before .before .before .before .before .before .before .before .before .before .w .given .1 in
-      omega (arith, word-pos L W e, length-from 1 L, c .before .before .before .before .before .before .before .before .before .before .before .before .before .before .loop .inv .0)
+      let at-w = c .before .before .before .before .before .before .before .before .before .before .before .w in
+      let at-first-word = c .before .before .before .before .before .before .before .before .before .before .before .before .before .first-word in
+      let at-loop = c .before .before .before .before .before .before .before .before .before .before .before .before .before .before .loop in
+      let L = at-loop .ns .now in
+      let W = at-w .given .0 .0 in
+      let e = sym (at-first-word .ensures) ∙ at-w .given .1 in
+      omega (arith, word-pos L W e, length-from 1 L, at-loop .inv .0)
 
   check-loop-again : check-lts.Need-loop-again (check-claims t) (check-at t) check.Post check-Inv-loop check-μ-loop
   check-loop-again c =
-      let L = c .before .before .before .before .before .before .before .before .before .before .before .before .before .before .loop .ns .now in
-      let W = c .before .before .before .before .before .before .before .before .before .before .before .w .given .0 .0 in
-      let e = sym (c .before .before .before .before .before .before .before .before .before .before .before .before .before .first-word .ensures) ∙ c .before .before .before .before .before .before .before .before .before .before .before .w .given .1 in
-      let test = is-test W (sym (c .before .before .before .before .before .before .before .if1 .taken) ∙ c .before .before .before .before .before .before .before .before .tests-byte .ensures) in
-      let sound = c .before .before .before .before .before .before .before .before .before .before .before .before .before .before .loop .inv .1 in
-      let inv = c .before .before .before .before .before .before .before .before .before .before .before .before .before .before .loop .inv .2 in
-      let M = c .before .before .before .before .before .before .before .before .before .before .before .before .before .before .loop .m .now in
-      let B = c .before .before .before .before .b .given .0 .0 in
-      let f = sym (c .before .before .before .before .before .before .last-byte .ensures) ∙ c .before .before .before .before .b .given .1 in
+      let at-word-passes = c .before .word-passes in
+      let at-b = c .before .before .before .before .b in
+      let at-last-byte = c .before .before .before .before .before .before .last-byte in
+      let at-if1 = c .before .before .before .before .before .before .before .if1 in
+      let at-tests-byte = c .before .before .before .before .before .before .before .before .tests-byte in
+      let at-w = c .before .before .before .before .before .before .before .before .before .before .before .w in
+      let at-first-word = c .before .before .before .before .before .before .before .before .before .before .before .before .before .first-word in
+      let at-loop = c .before .before .before .before .before .before .before .before .before .before .before .before .before .before .loop in
+      let L = at-loop .ns .now in
+      let W = at-w .given .0 .0 in
+      let e = sym (at-first-word .ensures) ∙ at-w .given .1 in
+      let test = is-test W (sym (at-if1 .taken) ∙ at-tests-byte .ensures) in
+      let sound = at-loop .inv .1 in
+      let inv = at-loop .inv .2 in
+      let M = at-loop .m .now in
+      let B = at-b .given .0 .0 in
+      let f = sym (at-last-byte .ensures) ∙ at-b .given .1 in
       let pos = last-pos M B f in
-      (omega (arith, word-pos L W e, length-from 1 L, c .before .before .before .before .before .before .before .before .before .before .before .before .before .before .loop .inv .0), turns.tail-sound L W e (test .1) sound, inv ∙ turns.turn-one L W e long (reverse M) _ (back-part 1 M pos) (test .0) B (test .1) f (passes-as W B (test .0) (test .1) (sym (c .if2 .taken) ∙ c .before .word-passes .ensures)))
+      (omega (arith, word-pos L W e, length-from 1 L, at-loop .inv .0), turns.tail-sound L W e (test .1) sound, inv ∙ turns.turn-one L W e long (reverse M) _ (back-part 1 M pos) (test .0) B (test .1) f (passes-as W B (test .0) (test .1) (sym (c .if2 .taken) ∙ at-word-passes .ensures)))
 
   check-returns-3 : check-lts.Need-returns-3 (check-claims t) (check-at t) check.Post check-Inv-loop check-μ-loop
   check-returns-3 c =
-      let inv = c .before .before .before .before .before .before .before .before .before .before .before .before .before .before .loop .inv .2 in
-      let L = c .before .before .before .before .before .before .before .before .before .before .before .before .before .before .loop .ns .now in
-      let W = c .before .before .before .before .before .before .before .before .before .before .before .w .given .0 .0 in
-      let e = sym (c .before .before .before .before .before .before .before .before .before .before .before .before .before .first-word .ensures) ∙ c .before .before .before .before .before .before .before .before .before .before .before .w .given .1 in
-      let M = c .before .before .before .before .before .before .before .before .before .before .before .before .before .before .loop .m .now in
-      let test = is-test W (sym (c .before .before .before .before .before .before .before .if1 .taken) ∙ c .before .before .before .before .before .before .before .before .tests-byte .ensures) in
-      let B = c .before .before .before .before .b .given .0 .0 in
-      let f = sym (c .before .before .before .before .before .before .last-byte .ensures) ∙ c .before .before .before .before .b .given .1 in
-      ap answer (sym (inv ∙ turns.stop-one L W e long (reverse M) (test .0) B (test .1) f (passes-as W B (test .0) (test .1) (sym (c .if2 .left) ∙ c .before .word-passes .ensures))))
+      let at-word-passes = c .before .word-passes in
+      let at-b = c .before .before .before .before .b in
+      let at-last-byte = c .before .before .before .before .before .before .last-byte in
+      let at-if1 = c .before .before .before .before .before .before .before .if1 in
+      let at-tests-byte = c .before .before .before .before .before .before .before .before .tests-byte in
+      let at-w = c .before .before .before .before .before .before .before .before .before .before .before .w in
+      let at-first-word = c .before .before .before .before .before .before .before .before .before .before .before .before .before .first-word in
+      let at-loop = c .before .before .before .before .before .before .before .before .before .before .before .before .before .before .loop in
+      let inv = at-loop .inv .2 in
+      let L = at-loop .ns .now in
+      let W = at-w .given .0 .0 in
+      let e = sym (at-first-word .ensures) ∙ at-w .given .1 in
+      let M = at-loop .m .now in
+      let test = is-test W (sym (at-if1 .taken) ∙ at-tests-byte .ensures) in
+      let B = at-b .given .0 .0 in
+      let f = sym (at-last-byte .ensures) ∙ at-b .given .1 in
+      ap answer (sym (inv ∙ turns.stop-one L W e long (reverse M) (test .0) B (test .1) f (passes-as W B (test .0) (test .1) (sym (c .if2 .left) ∙ at-word-passes .ensures))))
 
   check-cast-n : check-lts.Need-cast-n (check-claims t) (check-at t) check.Post check-Inv-loop check-μ-loop
   check-cast-n c = search needs
 
   check-returns-4 : check-lts.Need-returns-4 (check-claims t) (check-at t) check.Post check-Inv-loop check-μ-loop
   check-returns-4 c =
-      let inv = c .before .before .before .before .before .before .before .before .before .loop .inv .2 in
-      let L = c .before .before .before .before .before .before .before .before .before .loop .ns .now in
-      let W = c .before .before .before .before .before .before .w .given .0 .0 in
-      let e = sym (c .before .before .before .before .before .before .before .before .first-word .ensures) ∙ c .before .before .before .before .before .before .w .given .1 in
-      let M = c .before .before .before .before .before .before .before .before .before .loop .m .now in
-      let kind = kind-jump W (c .before .if3 .taken) in
+      let at-if3 = c .before .if3 in
+      let at-w = c .before .before .before .before .before .before .w in
+      let at-first-word = c .before .before .before .before .before .before .before .before .first-word in
+      let at-loop = c .before .before .before .before .before .before .before .before .before .loop in
+      let inv = at-loop .inv .2 in
+      let L = at-loop .ns .now in
+      let W = at-w .given .0 .0 in
+      let e = sym (at-first-word .ensures) ∙ at-w .given .1 in
+      let M = at-loop .m .now in
+      let kind = kind-jump W (at-if3 .taken) in
       ap answer (sym (inv ∙ turns.stop-jump L W e long (reverse M) _ kind (omega (arith, c .if4 .taken, length-reverse M))))
 
   check-sub-keep-2 : check-lts.Need-sub-keep-2 (check-claims t) (check-at t) check.Post check-Inv-loop check-μ-loop
@@ -456,26 +558,35 @@ module _ (t : ℕ) where
 
   check-slice-aggregate-m-2 : check-lts.Need-slice-aggregate-m-2 (check-claims t) (check-at t) check.Post check-Inv-loop check-μ-loop
   check-slice-aggregate-m-2 c =
-      let M = c .before .before .before .before .before .before .before .before .before .before .loop .m .now in
+      let at-loop = c .before .before .before .before .before .before .before .before .before .before .loop in
+      let M = at-loop .m .now in
       sym (length-take-le _ M (omega arith))
 
   check-loop-less-2 : check-lts.Need-loop-less-2 (check-claims t) (check-at t) check.Post check-Inv-loop check-μ-loop
   check-loop-less-2 c =
-      let L = c .before .before .before .before .before .before .before .before .before .before .loop .ns .now in
-      let W = c .before .before .before .before .before .before .before .w .given .0 .0 in
-      let e = sym (c .before .before .before .before .before .before .before .before .before .first-word .ensures) ∙ c .before .before .before .before .before .before .before .w .given .1 in
-      omega (arith, word-pos L W e, length-from 1 L, c .before .before .before .before .before .before .before .before .before .before .loop .inv .0)
+      let at-w = c .before .before .before .before .before .before .before .w in
+      let at-first-word = c .before .before .before .before .before .before .before .before .before .first-word in
+      let at-loop = c .before .before .before .before .before .before .before .before .before .before .loop in
+      let L = at-loop .ns .now in
+      let W = at-w .given .0 .0 in
+      let e = sym (at-first-word .ensures) ∙ at-w .given .1 in
+      omega (arith, word-pos L W e, length-from 1 L, at-loop .inv .0)
 
   check-loop-again-2 : check-lts.Need-loop-again-2 (check-claims t) (check-at t) check.Post check-Inv-loop check-μ-loop
   check-loop-again-2 c =
-      let L = c .before .before .before .before .before .before .before .before .before .before .loop .ns .now in
-      let W = c .before .before .before .before .before .before .before .w .given .0 .0 in
-      let e = sym (c .before .before .before .before .before .before .before .before .before .first-word .ensures) ∙ c .before .before .before .before .before .before .before .w .given .1 in
-      let kind = kind-jump W (c .before .before .if3 .taken) in
-      let sound = c .before .before .before .before .before .before .before .before .before .before .loop .inv .1 in
-      let inv = c .before .before .before .before .before .before .before .before .before .before .loop .inv .2 in
-      let M = c .before .before .before .before .before .before .before .before .before .before .loop .m .now in
-      (omega (arith, word-pos L W e, length-from 1 L, c .before .before .before .before .before .before .before .before .before .before .loop .inv .0), turns.tail-sound L W e kind sound, inv ∙ turns.turn-jump L W e long (reverse M) _ _ (back-part _ M (c .before .if4 .left)) kind (omega (arith, c .before .if4 .left, length-reverse M)))
+      let at-if4 = c .before .if4 in
+      let at-if3 = c .before .before .if3 in
+      let at-w = c .before .before .before .before .before .before .before .w in
+      let at-first-word = c .before .before .before .before .before .before .before .before .before .first-word in
+      let at-loop = c .before .before .before .before .before .before .before .before .before .before .loop in
+      let L = at-loop .ns .now in
+      let W = at-w .given .0 .0 in
+      let e = sym (at-first-word .ensures) ∙ at-w .given .1 in
+      let kind = kind-jump W (at-if3 .taken) in
+      let sound = at-loop .inv .1 in
+      let inv = at-loop .inv .2 in
+      let M = at-loop .m .now in
+      (omega (arith, word-pos L W e, length-from 1 L, at-loop .inv .0), turns.tail-sound L W e kind sound, inv ∙ turns.turn-jump L W e long (reverse M) _ _ (back-part _ M (at-if4 .left)) kind (omega (arith, at-if4 .left, length-reverse M)))
 
   check-sub-choices : check-lts.Need-sub-choices (check-claims t) (check-at t) check.Post check-Inv-loop check-μ-loop
   check-sub-choices c = search needs
@@ -497,19 +608,29 @@ module _ (t : ℕ) where
 
   check-choices-requires : check-lts.Need-choices-requires (check-claims t) (check-at t) check.Post check-Inv-loop check-μ-loop
   check-choices-requires c κs =
-      let L = c .before .before .before .before .before .before .before .before .before .before .loop .ns .now in
-      let W = c .before .before .before .before .before .before .before .w .given .0 .0 in
-      let e = sym (c .before .before .before .before .before .before .before .before .before .first-word .ensures) ∙ c .before .before .before .before .before .before .before .w .given .1 in
-      let sound = c .before .before .before .before .before .before .before .before .before .before .loop .inv .1 in
-      (omega (arith, word-pos L W e, length-from 1 L, c .before .before .before .before .before .before .before .before .before .before .loop .inv .0, length-from 0 (from 1 L), c .before .before .before .before .before .before .before .before .before .before .before .before .before .pre .0), (subst Sound (sym (word-whole L W e)) sound, turns.choice-kind L W e sound (sym (c .before .before .before .if1 .left) ∙ c .before .before .before .before .tests-byte .ensures) (c .before .before .if3 .left)))
+      let at-if3 = c .before .before .if3 in
+      let at-if1 = c .before .before .before .if1 in
+      let at-tests-byte = c .before .before .before .before .tests-byte in
+      let at-w = c .before .before .before .before .before .before .before .w in
+      let at-first-word = c .before .before .before .before .before .before .before .before .before .first-word in
+      let at-loop = c .before .before .before .before .before .before .before .before .before .before .loop in
+      let at-start = c .before .before .before .before .before .before .before .before .before .before .before .before .before in
+      let L = at-loop .ns .now in
+      let W = at-w .given .0 .0 in
+      let e = sym (at-first-word .ensures) ∙ at-w .given .1 in
+      let sound = at-loop .inv .1 in
+      (omega (arith, word-pos L W e, length-from 1 L, at-loop .inv .0, length-from 0 (from 1 L), at-start .pre .0), (subst Sound (sym (word-whole L W e)) sound, turns.choice-kind L W e sound (sym (at-if1 .left) ∙ at-tests-byte .ensures) (at-if3 .left)))
 
   check-returns-5 : check-lts.Need-returns-5 (check-claims t) (check-at t) check.Post check-Inv-loop check-μ-loop
   check-returns-5 c =
-      let L = c .before .before .before .before .before .before .before .before .before .before .before .loop .ns .now in
-      let W = c .before .before .before .before .before .before .before .before .w .given .0 .0 in
-      let e = sym (c .before .before .before .before .before .before .before .before .before .before .first-word .ensures) ∙ c .before .before .before .before .before .before .before .before .w .given .1 in
-      let M = c .before .before .before .before .before .before .before .before .before .before .before .loop .m .now in
-      let inv = c .before .before .before .before .before .before .before .before .before .before .before .loop .inv .2 in
+      let at-w = c .before .before .before .before .before .before .before .before .w in
+      let at-first-word = c .before .before .before .before .before .before .before .before .before .before .first-word in
+      let at-loop = c .before .before .before .before .before .before .before .before .before .before .before .loop in
+      let L = at-loop .ns .now in
+      let W = at-w .given .0 .0 in
+      let e = sym (at-first-word .ensures) ∙ at-w .given .1 in
+      let M = at-loop .m .now in
+      let inv = at-loop .inv .2 in
       c .choices .ensures ∙ ap₂ (λ (x y : List ℕ). answer (backward (prog x) y)) (word-whole L W e) (whole M) ∙ ap answer (sym inv)
 
   choices-cast-from : choices-lts.Need-cast-from (choices-claims t) (choices-at t) choices.Post
@@ -538,17 +659,21 @@ module _ (t : ℕ) where
 
   choices-jumps-requires : choices-lts.Need-jumps-requires (choices-claims t) (choices-at t) choices.Post
   choices-jumps-requires c κs =
-      let R = c .before .before .before .before .before .args .rest .now in
-      let W = c .before .before .before .before .before .args .w in
-      let sound = c .before .before .before .before .before .pre .1 .0 in
-      (omega (arith, length-from 0 R, c .before .before .before .before .before .pre .0), choice.range-after W R (c .before .before .if1 .taken) sound)
+      let at-if1 = c .before .before .if1 in
+      let at-start = c .before .before .before .before .before in
+      let R = at-start .args .rest .now in
+      let W = at-start .args .w in
+      let sound = at-start .pre .1 .0 in
+      (omega (arith, length-from 0 R, at-start .pre .0), choice.range-after W R (at-if1 .taken) sound)
 
   choices-returns : choices-lts.Need-returns (choices-claims t) (choices-at t) choices.Post
   choices-returns c =
-      let W = c .before .before .before .before .before .before .args .w in
-      let R = c .before .before .before .before .before .before .args .rest .now in
-      let M = c .before .before .before .before .before .before .args .mem .now in
-      c .jumps .ensures ∙ ap answer (choice.range-alone W R (c .before .before .before .if1 .taken) long (reverse M) _ (ap reverse (whole M)))
+      let at-if1 = c .before .before .before .if1 in
+      let at-start = c .before .before .before .before .before .before in
+      let W = at-start .args .w in
+      let R = at-start .args .rest .now in
+      let M = at-start .args .mem .now in
+      c .jumps .ensures ∙ ap answer (choice.range-alone W R (at-if1 .taken) long (reverse M) _ (ap reverse (whole M)))
 
   choices-cast-count : choices-lts.Need-cast-count (choices-claims t) (choices-at t) choices.Post
   choices-cast-count c = search needs
@@ -558,19 +683,21 @@ module _ (t : ℕ) where
 
   choices-sub-after : choices-lts.Need-sub-after (choices-claims t) (choices-at t) choices.Post
   choices-sub-after c =
-      let W = c .before .before .before .args .w in
-      let R = c .before .before .before .args .rest .now in
-      let k = choice.is-alt W (c .before .before .before .pre .1 .1) (c .if1 .left) in
-      let sound = c .before .before .before .pre .1 .0 in
+      let at-start = c .before .before .before in
+      let W = at-start .args .w in
+      let R = at-start .args .rest .now in
+      let k = choice.is-alt W (at-start .pre .1 .1) (c .if1 .left) in
+      let sound = at-start .pre .1 .0 in
       let opened = choice.opened W R k sound in
       opened .fits
 
   choices-part-after-start : choices-lts.Need-part-after-start (choices-claims t) (choices-at t) choices.Post
   choices-part-after-start c =
-      let W = c .before .before .before .args .w in
-      let R = c .before .before .before .args .rest .now in
-      let k = choice.is-alt W (c .before .before .before .pre .1 .1) (c .if1 .left) in
-      let sound = c .before .before .before .pre .1 .0 in
+      let at-start = c .before .before .before in
+      let W = at-start .args .w in
+      let R = at-start .args .rest .now in
+      let k = choice.is-alt W (at-start .pre .1 .1) (c .if1 .left) in
+      let sound = at-start .pre .1 .0 in
       let opened = choice.opened W R k sound in
       opened .fits
 
@@ -591,29 +718,37 @@ module _ (t : ℕ) where
 
   choices-slice-aggregate-branches : choices-lts.Need-slice-aggregate-branches (choices-claims t) (choices-at t) choices.Post
   choices-slice-aggregate-branches c =
-      let W = c .before .before .before .before .before .before .before .before .before .before .args .w in
-      let R = c .before .before .before .before .before .before .before .before .before .before .args .rest .now in
-      let k = choice.is-alt W (c .before .before .before .before .before .before .before .before .before .before .pre .1 .1) (c .before .before .before .before .before .before .before .if1 .left) in
-      let sound = c .before .before .before .before .before .before .before .before .before .before .pre .1 .0 in
+      let at-if1 = c .before .before .before .before .before .before .before .if1 in
+      let at-start = c .before .before .before .before .before .before .before .before .before .before in
+      let W = at-start .args .w in
+      let R = at-start .args .rest .now in
+      let k = choice.is-alt W (at-start .pre .1 .1) (at-if1 .left) in
+      let sound = at-start .pre .1 .0 in
       let opened = choice.opened W R k sound in
       sym (length-take-le _ _ (opened .fits))
 
   choices-sub-branches : choices-lts.Need-sub-branches (choices-claims t) (choices-at t) choices.Post
   choices-sub-branches c =
-      let W = c .before .before .before .before .before .before .before .before .before .before .args .w in
-      let R = c .before .before .before .before .before .before .before .before .before .before .args .rest .now in
+      let at-x = c .before .before .before .x in
+      let at-first-word = c .before .before .before .before .before .first-word in
+      let at-start = c .before .before .before .before .before .before .before .before .before .before in
+      let W = at-start .args .w in
+      let R = at-start .args .rest .now in
       let A = from (W / 256 % 65536) R in
-      let X = c .before .before .before .x .given .0 .0 in
-      let e = sym (c .before .before .before .before .before .first-word .ensures) ∙ c .before .before .before .x .given .1 in
+      let X = at-x .given .0 .0 in
+      let e = sym (at-first-word .ensures) ∙ at-x .given .1 in
       word-pos A X e
 
   choices-part-branches-start : choices-lts.Need-part-branches-start (choices-claims t) (choices-at t) choices.Post
   choices-part-branches-start c =
-      let W = c .before .before .before .before .before .before .before .before .before .before .args .w in
-      let R = c .before .before .before .before .before .before .before .before .before .before .args .rest .now in
+      let at-x = c .before .before .before .x in
+      let at-first-word = c .before .before .before .before .before .first-word in
+      let at-start = c .before .before .before .before .before .before .before .before .before .before in
+      let W = at-start .args .w in
+      let R = at-start .args .rest .now in
       let A = from (W / 256 % 65536) R in
-      let X = c .before .before .before .x .given .0 .0 in
-      let e = sym (c .before .before .before .before .before .first-word .ensures) ∙ c .before .before .before .x .given .1 in
+      let X = at-x .given .0 .0 in
+      let e = sym (at-first-word .ensures) ∙ at-x .given .1 in
       word-pos A X e
 
   choices-part-branches-end : choices-lts.Need-part-branches-end (choices-claims t) (choices-at t) choices.Post
@@ -630,36 +765,48 @@ module _ (t : ℕ) where
 
   choices-branches-requires : choices-lts.Need-branches-requires (choices-claims t) (choices-at t) choices.Post
   choices-branches-requires c κs =
-      let W = c .before .before .before .before .before .before .before .before .before .before .before .before .args .w in
-      let R = c .before .before .before .before .before .before .before .before .before .before .before .before .args .rest .now in
+      let at-if2 = c .before .before .before .if2 in
+      let at-x = c .before .before .before .before .before .x in
+      let at-first-word = c .before .before .before .before .before .before .before .first-word in
+      let at-if1 = c .before .before .before .before .before .before .before .before .before .if1 in
+      let at-start = c .before .before .before .before .before .before .before .before .before .before .before .before in
+      let W = at-start .args .w in
+      let R = at-start .args .rest .now in
       let A = from (W / 256 % 65536) R in
       let K = W / 256 % 65536 in
-      let k = choice.is-alt W (c .before .before .before .before .before .before .before .before .before .before .before .before .pre .1 .1) (c .before .before .before .before .before .before .before .before .before .if1 .left) in
-      let sound = c .before .before .before .before .before .before .before .before .before .before .before .before .pre .1 .0 in
+      let k = choice.is-alt W (at-start .pre .1 .1) (at-if1 .left) in
+      let sound = at-start .pre .1 .0 in
       let opened = choice.opened W R k sound in
-      let X = c .before .before .before .before .before .x .given .0 .0 in
-      let e = sym (c .before .before .before .before .before .before .before .first-word .ensures) ∙ c .before .before .before .before .before .x .given .1 in
-      (omega (arith, length-from 1 A, length-from K R, c .before .before .before .before .before .before .before .before .before .before .before .before .pre .0), (opened .inside, choice.range-sound W R k X e (c .before .before .before .if2 .taken) sound))
+      let X = at-x .given .0 .0 in
+      let e = sym (at-first-word .ensures) ∙ at-x .given .1 in
+      (omega (arith, length-from 1 A, length-from K R, at-start .pre .0), (opened .inside, choice.range-sound W R k X e (at-if2 .taken) sound))
 
   choices-returns-2 : choices-lts.Need-returns-2 (choices-claims t) (choices-at t) choices.Post
   choices-returns-2 c =
-      let W = c .before .before .before .before .before .before .before .before .before .before .before .before .before .args .w in
-      let R = c .before .before .before .before .before .before .before .before .before .before .before .before .before .args .rest .now in
-      let k = choice.is-alt W (c .before .before .before .before .before .before .before .before .before .before .before .before .before .pre .1 .1) (c .before .before .before .before .before .before .before .before .before .before .if1 .left) in
-      let X = c .before .before .before .before .before .before .x .given .0 .0 in
-      let e = sym (c .before .before .before .before .before .before .before .before .first-word .ensures) ∙ c .before .before .before .before .before .before .x .given .1 in
-      let M = c .before .before .before .before .before .before .before .before .before .before .before .before .before .args .mem .now in
-      c .branches .ensures ∙ ap answer (choice.alt-range W R k X e (c .before .before .before .before .if2 .taken) long (reverse M) _ (ap reverse (whole M)))
+      let at-if2 = c .before .before .before .before .if2 in
+      let at-x = c .before .before .before .before .before .before .x in
+      let at-first-word = c .before .before .before .before .before .before .before .before .first-word in
+      let at-if1 = c .before .before .before .before .before .before .before .before .before .before .if1 in
+      let at-start = c .before .before .before .before .before .before .before .before .before .before .before .before .before in
+      let W = at-start .args .w in
+      let R = at-start .args .rest .now in
+      let k = choice.is-alt W (at-start .pre .1 .1) (at-if1 .left) in
+      let X = at-x .given .0 .0 in
+      let e = sym (at-first-word .ensures) ∙ at-x .given .1 in
+      let M = at-start .args .mem .now in
+      c .branches .ensures ∙ ap answer (choice.alt-range W R k X e (at-if2 .taken) long (reverse M) _ (ap reverse (whole M)))
 
   choices-enum-told : choices-lts.Need-enum-told (choices-claims t) (choices-at t) choices.Post
   choices-enum-told c = search needs
 
   choices-slice-aggregate-branches-2 : choices-lts.Need-slice-aggregate-branches-2 (choices-claims t) (choices-at t) choices.Post
   choices-slice-aggregate-branches-2 c =
-      let W = c .before .before .before .before .before .before .before .args .w in
-      let R = c .before .before .before .before .before .before .before .args .rest .now in
-      let k = choice.is-alt W (c .before .before .before .before .before .before .before .pre .1 .1) (c .before .before .before .before .if1 .left) in
-      let sound = c .before .before .before .before .before .before .before .pre .1 .0 in
+      let at-if1 = c .before .before .before .before .if1 in
+      let at-start = c .before .before .before .before .before .before .before in
+      let W = at-start .args .w in
+      let R = at-start .args .rest .now in
+      let k = choice.is-alt W (at-start .pre .1 .1) (at-if1 .left) in
+      let sound = at-start .pre .1 .0 in
       let opened = choice.opened W R k sound in
       sym (length-take-le _ _ (opened .fits))
 
@@ -683,21 +830,25 @@ module _ (t : ℕ) where
 
   choices-branches-requires-2 : choices-lts.Need-branches-requires-2 (choices-claims t) (choices-at t) choices.Post
   choices-branches-requires-2 c κs =
-      let W = c .before .before .before .before .before .before .before .before .before .args .w in
-      let R = c .before .before .before .before .before .before .before .before .before .args .rest .now in
+      let at-if1 = c .before .before .before .before .before .before .if1 in
+      let at-start = c .before .before .before .before .before .before .before .before .before in
+      let W = at-start .args .w in
+      let R = at-start .args .rest .now in
       let A = from (W / 256 % 65536) R in
       let K = W / 256 % 65536 in
-      let k = choice.is-alt W (c .before .before .before .before .before .before .before .before .before .pre .1 .1) (c .before .before .before .before .before .before .if1 .left) in
-      let sound = c .before .before .before .before .before .before .before .before .before .pre .1 .0 in
+      let k = choice.is-alt W (at-start .pre .1 .1) (at-if1 .left) in
+      let sound = at-start .pre .1 .0 in
       let opened = choice.opened W R k sound in
-      (omega (arith, length-from 0 A, length-from K R, c .before .before .before .before .before .before .before .before .before .pre .0), (opened .inside, choice.alone-sound W R k sound))
+      (omega (arith, length-from 0 A, length-from K R, at-start .pre .0), (opened .inside, choice.alone-sound W R k sound))
 
   choices-returns-3 : choices-lts.Need-returns-3 (choices-claims t) (choices-at t) choices.Post
   choices-returns-3 c =
-      let W = c .before .before .before .before .before .before .before .before .before .before .args .w in
-      let R = c .before .before .before .before .before .before .before .before .before .before .args .rest .now in
-      let k = choice.is-alt W (c .before .before .before .before .before .before .before .before .before .before .pre .1 .1) (c .before .before .before .before .before .before .before .if1 .left) in
-      let M = c .before .before .before .before .before .before .before .before .before .before .args .mem .now in
+      let at-if1 = c .before .before .before .before .before .before .before .if1 in
+      let at-start = c .before .before .before .before .before .before .before .before .before .before in
+      let W = at-start .args .w in
+      let R = at-start .args .rest .now in
+      let k = choice.is-alt W (at-start .pre .1 .1) (at-if1 .left) in
+      let M = at-start .args .mem .now in
       c .branches2 .ensures ∙ ap answer (choice.alt-alone W R k long (reverse M) _ (ap reverse (whole M)))
 
   jumps-add-n : jumps-lts.Need-add-n (jumps-claims t) (jumps-at t) jumps.Post jumps-Inv-loop jumps-μ-loop
@@ -705,10 +856,11 @@ module _ (t : ℕ) where
 
   jumps-loop-holds : jumps-lts.Need-loop-holds (jumps-claims t) (jumps-at t) jumps.Post jumps-Inv-loop jumps-μ-loop
   jumps-loop-holds c =
-      let p = prog (c .before .before .args .rest .now) in
-      let M = c .before .before .args .mem .now in
-      let F = c .before .before .args .from in
-      let T = c .before .before .args .to in
+      let at-start = c .before .before in
+      let p = prog (at-start .args .rest .now) in
+      let M = at-start .args .mem .now in
+      let F = at-start .args .from in
+      let T = at-start .args .to in
       (omega arith, range-below p (reverse M) F T)
 
   jumps-sub-n : jumps-lts.Need-sub-n (jumps-claims t) (jumps-at t) jumps.Post jumps-Inv-loop jumps-μ-loop
@@ -719,7 +871,8 @@ module _ (t : ℕ) where
 
   jumps-slice-aggregate-check : jumps-lts.Need-slice-aggregate-check (jumps-claims t) (jumps-at t) jumps.Post jumps-Inv-loop jumps-μ-loop
   jumps-slice-aggregate-check c =
-      let M = c .before .before .before .before .before .before .args .mem .now in
+      let at-start = c .before .before .before .before .before .before in
+      let M = at-start .args .mem .now in
       sym (length-take-le _ M (omega arith))
 
   jumps-check-requires : jumps-lts.Need-check-requires (jumps-claims t) (jumps-at t) jumps.Post jumps-Inv-loop jumps-μ-loop
@@ -736,42 +889,58 @@ module _ (t : ℕ) where
 
   jumps-loop-again : jumps-lts.Need-loop-again (jumps-claims t) (jumps-at t) jumps.Post jumps-Inv-loop jumps-μ-loop
   jumps-loop-again c =
-      let inv = c .before .before .before .before .before .before .loop .inv .1 in
-      let p = prog (c .before .before .before .before .before .before .before .before .before .args .rest .now) in
-      let M = c .before .before .before .before .before .before .before .before .before .args .mem .now in
-      let F = c .before .before .before .before .before .before .before .before .before .args .from in
-      let n = c .before .before .before .before .before .before .loop .n in
-      (omega (arith, c .before .before .before .before .before .before .loop .inv .0), inv ∙ ranges.below-next p (reverse M) F n (c .before .before .before .before .before .if1 .left) _ (back-part _ M (c .before .before .before .before .if2 .taken)) (omega (arith, c .before .before .before .before .if2 .taken, length-reverse M)) (sym (c .enum-told .given .1) ∙ c .before .before .check .ensures))
+      let at-check = c .before .before .check in
+      let at-if2 = c .before .before .before .before .if2 in
+      let at-if1 = c .before .before .before .before .before .if1 in
+      let at-loop = c .before .before .before .before .before .before .loop in
+      let at-start = c .before .before .before .before .before .before .before .before .before in
+      let inv = at-loop .inv .1 in
+      let p = prog (at-start .args .rest .now) in
+      let M = at-start .args .mem .now in
+      let F = at-start .args .from in
+      let n = at-loop .n in
+      (omega (arith, at-loop .inv .0), inv ∙ ranges.below-next p (reverse M) F n (at-if1 .left) _ (back-part _ M (at-if2 .taken)) (omega (arith, at-if2 .taken, length-reverse M)) (sym (c .enum-told .given .1) ∙ at-check .ensures))
 
   jumps-loop-less-2 : jumps-lts.Need-loop-less-2 (jumps-claims t) (jumps-at t) jumps.Post jumps-Inv-loop jumps-μ-loop
   jumps-loop-less-2 c = search needs
 
   jumps-loop-again-2 : jumps-lts.Need-loop-again-2 (jumps-claims t) (jumps-at t) jumps.Post jumps-Inv-loop jumps-μ-loop
   jumps-loop-again-2 c =
-      let inv = c .before .before .loop .inv .1 in
-      let p = prog (c .before .before .before .before .before .args .rest .now) in
-      let M = c .before .before .before .before .before .args .mem .now in
-      let F = c .before .before .before .before .before .args .from in
-      let n = c .before .before .loop .n in
-      (omega (arith, c .before .before .loop .inv .0), inv ∙ ranges.below-skip p (reverse M) F n (c .before .if1 .left) (omega (arith, c .if2 .left, length-reverse M)))
+      let at-if1 = c .before .if1 in
+      let at-loop = c .before .before .loop in
+      let at-start = c .before .before .before .before .before in
+      let inv = at-loop .inv .1 in
+      let p = prog (at-start .args .rest .now) in
+      let M = at-start .args .mem .now in
+      let F = at-start .args .from in
+      let n = at-loop .n in
+      (omega (arith, at-loop .inv .0), inv ∙ ranges.below-skip p (reverse M) F n (at-if1 .left) (omega (arith, c .if2 .left, length-reverse M)))
 
   jumps-returns : jumps-lts.Need-returns (jumps-claims t) (jumps-at t) jumps.Post jumps-Inv-loop jumps-μ-loop
   jumps-returns c =
-      let inv = c .before .loop .inv .1 in
-      let p = prog (c .before .before .before .before .args .rest .now) in
-      let M = c .before .before .before .before .args .mem .now in
-      let F = c .before .before .before .before .args .from in
-      let n = c .before .loop .n in
+      let at-loop = c .before .loop in
+      let at-start = c .before .before .before .before in
+      let inv = at-loop .inv .1 in
+      let p = prog (at-start .args .rest .now) in
+      let M = at-start .args .mem .now in
+      let F = at-start .args .from in
+      let n = at-loop .n in
       ap answer (sym (inv ∙ below-none p (reverse M) F n (c .if1 .taken)))
 
   jumps-returns-2 : jumps-lts.Need-returns-2 (jumps-claims t) (jumps-at t) jumps.Post jumps-Inv-loop jumps-μ-loop
   jumps-returns-2 c =
-      let p = prog (c .before .before .before .before .before .before .before .before .before .before .args .rest .now) in
-      let M = c .before .before .before .before .before .before .before .before .before .before .args .mem .now in
-      let F = c .before .before .before .before .before .before .before .before .before .before .args .from in
-      let n = c .before .before .before .before .before .before .before .loop .n in
-      let inv = c .before .before .before .before .before .before .before .loop .inv .1 in
-      ranges.below-take p (reverse M) F n (c .before .before .before .before .before .before .if1 .left) _ (back-part _ M (c .before .before .before .before .before .if2 .taken)) (omega (arith, c .before .before .before .before .before .if2 .taken, length-reverse M)) _ (sym (c .before .got .given .1) ∙ c .before .before .before .check .ensures) ∙ ap answer (sym inv)
+      let at-got = c .before .got in
+      let at-check = c .before .before .before .check in
+      let at-if2 = c .before .before .before .before .before .if2 in
+      let at-if1 = c .before .before .before .before .before .before .if1 in
+      let at-loop = c .before .before .before .before .before .before .before .loop in
+      let at-start = c .before .before .before .before .before .before .before .before .before .before in
+      let p = prog (at-start .args .rest .now) in
+      let M = at-start .args .mem .now in
+      let F = at-start .args .from in
+      let n = at-loop .n in
+      let inv = at-loop .inv .1 in
+      ranges.below-take p (reverse M) F n (at-if1 .left) _ (back-part _ M (at-if2 .taken)) (omega (arith, at-if2 .taken, length-reverse M)) _ (sym (at-got .given .1) ∙ at-check .ensures) ∙ ap answer (sym inv)
 
 pub +branches+check+choices+jumps-spec : {M : Type 1} → statement M
 +branches+check+choices+jumps-spec =

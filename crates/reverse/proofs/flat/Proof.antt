@@ -39,23 +39,31 @@ enum-told c = search needs
 
 returns : tie.Need-returns Inv-loop μ-loop
 returns c =
-    let M = c .before .before .before .loop .m .now in
-    let inv = c .before .before .before .loop .inv .1 in
-    let L = c .before .before .before .loop .ns .now in
-    ap Left (sym (length-reverse M)) ∙ ap answer (sym (inv ∙ turns.end-left long L (reverse M) (sym (c .before .before .first-word .ensures) ∙ c .enum-told .given .1)))
+    let at-first-word = c .before .before .first-word in
+    let at-loop = c .before .before .before .loop in
+    let M = at-loop .m .now in
+    let inv = at-loop .inv .1 in
+    let L = at-loop .ns .now in
+    ap Left (sym (length-reverse M)) ∙ ap answer (sym (inv ∙ turns.end-left long L (reverse M) (sym (at-first-word .ensures) ∙ c .enum-told .given .1)))
 
 sub-ns : tie.Need-sub-ns Inv-loop μ-loop
 sub-ns c =
-    let L = c .before .before .before .before .loop .ns .now in
-    let W = c .before .w .given .0 .0 in
-    let e = sym (c .before .before .before .first-word .ensures) ∙ c .before .w .given .1 in
+    let at-w = c .before .w in
+    let at-first-word = c .before .before .before .first-word in
+    let at-loop = c .before .before .before .before .loop in
+    let L = at-loop .ns .now in
+    let W = at-w .given .0 .0 in
+    let e = sym (at-first-word .ensures) ∙ at-w .given .1 in
     word-pos L W e
 
 part-ns-start : tie.Need-part-ns-start Inv-loop μ-loop
 part-ns-start c =
-    let L = c .before .before .before .before .loop .ns .now in
-    let W = c .before .w .given .0 .0 in
-    let e = sym (c .before .before .before .first-word .ensures) ∙ c .before .w .given .1 in
+    let at-w = c .before .w in
+    let at-first-word = c .before .before .before .first-word in
+    let at-loop = c .before .before .before .before .loop in
+    let L = at-loop .ns .now in
+    let W = at-w .given .0 .0 in
+    let e = sym (at-first-word .ensures) ∙ at-w .given .1 in
     word-pos L W e
 
 part-ns-end : tie.Need-part-ns-end Inv-loop μ-loop
@@ -66,12 +74,16 @@ cast-n c = search needs
 
 returns-2 : tie.Need-returns-2 Inv-loop μ-loop
 returns-2 c =
-    let inv = c .before .before .before .before .before .before .before .loop .inv .1 in
-    let L = c .before .before .before .before .before .before .before .loop .ns .now in
-    let W = c .before .before .before .before .w .given .0 .0 in
-    let e = sym (c .before .before .before .before .before .before .first-word .ensures) ∙ c .before .before .before .before .w .given .1 in
-    let M = c .before .before .before .before .before .before .before .loop .m .now in
-    let kind = kind-jump W (c .before .if1 .taken) in
+    let at-if1 = c .before .if1 in
+    let at-w = c .before .before .before .before .w in
+    let at-first-word = c .before .before .before .before .before .before .first-word in
+    let at-loop = c .before .before .before .before .before .before .before .loop in
+    let inv = at-loop .inv .1 in
+    let L = at-loop .ns .now in
+    let W = at-w .given .0 .0 in
+    let e = sym (at-first-word .ensures) ∙ at-w .given .1 in
+    let M = at-loop .m .now in
+    let kind = kind-jump W (at-if1 .taken) in
     ap answer (sym (inv ∙ turns.stop-jump L W e long (reverse M) _ kind (omega (arith, c .if2 .taken, length-reverse M))))
 
 sub-keep : tie.Need-sub-keep Inv-loop μ-loop
@@ -79,26 +91,35 @@ sub-keep c = search needs
 
 slice-aggregate-m : tie.Need-slice-aggregate-m Inv-loop μ-loop
 slice-aggregate-m c =
-    let M = c .before .before .before .before .before .before .before .before .loop .m .now in
+    let at-loop = c .before .before .before .before .before .before .before .before .loop in
+    let M = at-loop .m .now in
     sym (length-take-le _ M (omega arith))
 
 loop-less : tie.Need-loop-less Inv-loop μ-loop
 loop-less c =
-    let L = c .before .before .before .before .before .before .before .before .loop .ns .now in
-    let W = c .before .before .before .before .before .w .given .0 .0 in
-    let e = sym (c .before .before .before .before .before .before .before .first-word .ensures) ∙ c .before .before .before .before .before .w .given .1 in
+    let at-w = c .before .before .before .before .before .w in
+    let at-first-word = c .before .before .before .before .before .before .before .first-word in
+    let at-loop = c .before .before .before .before .before .before .before .before .loop in
+    let L = at-loop .ns .now in
+    let W = at-w .given .0 .0 in
+    let e = sym (at-first-word .ensures) ∙ at-w .given .1 in
     omega (arith, word-pos L W e, length-from 1 L)
 
 loop-again : tie.Need-loop-again Inv-loop μ-loop
 loop-again c =
-    let L = c .before .before .before .before .before .before .before .before .loop .ns .now in
-    let W = c .before .before .before .before .before .w .given .0 .0 in
-    let e = sym (c .before .before .before .before .before .before .before .first-word .ensures) ∙ c .before .before .before .before .before .w .given .1 in
-    let plain = c .before .before .before .before .before .before .before .before .loop .inv .0 in
-    let inv = c .before .before .before .before .before .before .before .before .loop .inv .1 in
-    let M = c .before .before .before .before .before .before .before .before .loop .m .now in
-    let kind = kind-jump W (c .before .before .if1 .taken) in
-    (turns.plain-tail L W e plain, inv ∙ turns.turn-jump L W e long (reverse M) _ _ (back-part _ M (c .before .if2 .left)) kind (omega (arith, c .before .if2 .left, length-reverse M)))
+    let at-if2 = c .before .if2 in
+    let at-if1 = c .before .before .if1 in
+    let at-w = c .before .before .before .before .before .w in
+    let at-first-word = c .before .before .before .before .before .before .before .first-word in
+    let at-loop = c .before .before .before .before .before .before .before .before .loop in
+    let L = at-loop .ns .now in
+    let W = at-w .given .0 .0 in
+    let e = sym (at-first-word .ensures) ∙ at-w .given .1 in
+    let plain = at-loop .inv .0 in
+    let inv = at-loop .inv .1 in
+    let M = at-loop .m .now in
+    let kind = kind-jump W (at-if1 .taken) in
+    (turns.plain-tail L W e plain, inv ∙ turns.turn-jump L W e long (reverse M) _ _ (back-part _ M (at-if2 .left)) kind (omega (arith, at-if2 .left, length-reverse M)))
 
 last-byte-requires : tie.Need-last-byte-requires Inv-loop μ-loop
 last-byte-requires c κs = search needs
@@ -111,28 +132,39 @@ enum-told-2 c = search needs
 
 returns-3 : tie.Need-returns-3 Inv-loop μ-loop
 returns-3 c =
-    let inv = c .before .before .before .before .before .before .before .before .before .loop .inv .1 in
-    let L = c .before .before .before .before .before .before .before .before .before .loop .ns .now in
-    let W = c .before .before .before .before .before .before .w .given .0 .0 in
-    let e = sym (c .before .before .before .before .before .before .before .before .first-word .ensures) ∙ c .before .before .before .before .before .before .w .given .1 in
-    let M = c .before .before .before .before .before .before .before .before .before .loop .m .now in
-    let plain = c .before .before .before .before .before .before .before .before .before .loop .inv .0 in
-    let test = turns.plain-test L W e plain (c .before .before .before .if1 .left) in
-    ap answer (sym (inv ∙ turns.stop-short L W e long (reverse M) (test .0) (test .1) (sym (c .before .before .last-byte .ensures) ∙ c .enum-told2 .given .1)))
+    let at-last-byte = c .before .before .last-byte in
+    let at-if1 = c .before .before .before .if1 in
+    let at-w = c .before .before .before .before .before .before .w in
+    let at-first-word = c .before .before .before .before .before .before .before .before .first-word in
+    let at-loop = c .before .before .before .before .before .before .before .before .before .loop in
+    let inv = at-loop .inv .1 in
+    let L = at-loop .ns .now in
+    let W = at-w .given .0 .0 in
+    let e = sym (at-first-word .ensures) ∙ at-w .given .1 in
+    let M = at-loop .m .now in
+    let plain = at-loop .inv .0 in
+    let test = turns.plain-test L W e plain (at-if1 .left) in
+    ap answer (sym (inv ∙ turns.stop-short L W e long (reverse M) (test .0) (test .1) (sym (at-last-byte .ensures) ∙ c .enum-told2 .given .1)))
 
 sub-keep-2 : tie.Need-sub-keep-2 Inv-loop μ-loop
 sub-keep-2 c =
-    let M = c .before .before .before .before .before .before .before .before .before .before .loop .m .now in
-    let B = c .before .b .given .0 .0 in
-    let f = sym (c .before .before .before .last-byte .ensures) ∙ c .before .b .given .1 in
+    let at-b = c .before .b in
+    let at-last-byte = c .before .before .before .last-byte in
+    let at-loop = c .before .before .before .before .before .before .before .before .before .before .loop in
+    let M = at-loop .m .now in
+    let B = at-b .given .0 .0 in
+    let f = sym (at-last-byte .ensures) ∙ at-b .given .1 in
     let pos = last-pos M B f in
     pos
 
 slice-aggregate-m-2 : tie.Need-slice-aggregate-m-2 Inv-loop μ-loop
 slice-aggregate-m-2 c =
-    let M = c .before .before .before .before .before .before .before .before .before .before .before .loop .m .now in
-    let B = c .before .before .b .given .0 .0 in
-    let f = sym (c .before .before .before .before .last-byte .ensures) ∙ c .before .before .b .given .1 in
+    let at-b = c .before .before .b in
+    let at-last-byte = c .before .before .before .before .last-byte in
+    let at-loop = c .before .before .before .before .before .before .before .before .before .before .before .loop in
+    let M = at-loop .m .now in
+    let B = at-b .given .0 .0 in
+    let f = sym (at-last-byte .ensures) ∙ at-b .given .1 in
     let pos = last-pos M B f in
     sym (length-take-le _ M (omega (arith, pos)))
 
@@ -141,37 +173,54 @@ word-passes-requires c κs = search needs
 
 loop-less-2 : tie.Need-loop-less-2 Inv-loop μ-loop
 loop-less-2 c =
-    let L = c .before .before .before .before .before .before .before .before .before .before .before .before .before .loop .ns .now in
-    let W = c .before .before .before .before .before .before .before .before .before .before .w .given .0 .0 in
-    let e = sym (c .before .before .before .before .before .before .before .before .before .before .before .before .first-word .ensures) ∙ c .before .before .before .before .before .before .before .before .before .before .w .given .1 in
+    let at-w = c .before .before .before .before .before .before .before .before .before .before .w in
+    let at-first-word = c .before .before .before .before .before .before .before .before .before .before .before .before .first-word in
+    let at-loop = c .before .before .before .before .before .before .before .before .before .before .before .before .before .loop in
+    let L = at-loop .ns .now in
+    let W = at-w .given .0 .0 in
+    let e = sym (at-first-word .ensures) ∙ at-w .given .1 in
     omega (arith, word-pos L W e, length-from 1 L)
 
 loop-again-2 : tie.Need-loop-again-2 Inv-loop μ-loop
 loop-again-2 c =
-    let L = c .before .before .before .before .before .before .before .before .before .before .before .before .before .loop .ns .now in
-    let W = c .before .before .before .before .before .before .before .before .before .before .w .given .0 .0 in
-    let e = sym (c .before .before .before .before .before .before .before .before .before .before .before .before .first-word .ensures) ∙ c .before .before .before .before .before .before .before .before .before .before .w .given .1 in
-    let plain = c .before .before .before .before .before .before .before .before .before .before .before .before .before .loop .inv .0 in
-    let inv = c .before .before .before .before .before .before .before .before .before .before .before .before .before .loop .inv .1 in
-    let M = c .before .before .before .before .before .before .before .before .before .before .before .before .before .loop .m .now in
-    let B = c .before .before .before .before .b .given .0 .0 in
-    let f = sym (c .before .before .before .before .before .before .last-byte .ensures) ∙ c .before .before .before .before .b .given .1 in
+    let at-word-passes = c .before .word-passes in
+    let at-b = c .before .before .before .before .b in
+    let at-last-byte = c .before .before .before .before .before .before .last-byte in
+    let at-if1 = c .before .before .before .before .before .before .before .if1 in
+    let at-w = c .before .before .before .before .before .before .before .before .before .before .w in
+    let at-first-word = c .before .before .before .before .before .before .before .before .before .before .before .before .first-word in
+    let at-loop = c .before .before .before .before .before .before .before .before .before .before .before .before .before .loop in
+    let L = at-loop .ns .now in
+    let W = at-w .given .0 .0 in
+    let e = sym (at-first-word .ensures) ∙ at-w .given .1 in
+    let plain = at-loop .inv .0 in
+    let inv = at-loop .inv .1 in
+    let M = at-loop .m .now in
+    let B = at-b .given .0 .0 in
+    let f = sym (at-last-byte .ensures) ∙ at-b .given .1 in
     let pos = last-pos M B f in
-    let test = turns.plain-test L W e plain (c .before .before .before .before .before .before .before .if1 .left) in
-    (turns.plain-tail L W e plain, inv ∙ turns.turn-one L W e long (reverse M) _ (back-part 1 M pos) (test .0) B (test .1) f (passes-as W B (test .0) (test .1) (sym (c .if3 .taken) ∙ c .before .word-passes .ensures)))
+    let test = turns.plain-test L W e plain (at-if1 .left) in
+    (turns.plain-tail L W e plain, inv ∙ turns.turn-one L W e long (reverse M) _ (back-part 1 M pos) (test .0) B (test .1) f (passes-as W B (test .0) (test .1) (sym (c .if3 .taken) ∙ at-word-passes .ensures)))
 
 returns-4 : tie.Need-returns-4 Inv-loop μ-loop
 returns-4 c =
-    let inv = c .before .before .before .before .before .before .before .before .before .before .before .before .before .loop .inv .1 in
-    let L = c .before .before .before .before .before .before .before .before .before .before .before .before .before .loop .ns .now in
-    let W = c .before .before .before .before .before .before .before .before .before .before .w .given .0 .0 in
-    let e = sym (c .before .before .before .before .before .before .before .before .before .before .before .before .first-word .ensures) ∙ c .before .before .before .before .before .before .before .before .before .before .w .given .1 in
-    let M = c .before .before .before .before .before .before .before .before .before .before .before .before .before .loop .m .now in
-    let plain = c .before .before .before .before .before .before .before .before .before .before .before .before .before .loop .inv .0 in
-    let test = turns.plain-test L W e plain (c .before .before .before .before .before .before .before .if1 .left) in
-    let B = c .before .before .before .before .b .given .0 .0 in
-    let f = sym (c .before .before .before .before .before .before .last-byte .ensures) ∙ c .before .before .before .before .b .given .1 in
-    ap answer (sym (inv ∙ turns.stop-one L W e long (reverse M) (test .0) B (test .1) f (passes-as W B (test .0) (test .1) (sym (c .if3 .left) ∙ c .before .word-passes .ensures))))
+    let at-word-passes = c .before .word-passes in
+    let at-b = c .before .before .before .before .b in
+    let at-last-byte = c .before .before .before .before .before .before .last-byte in
+    let at-if1 = c .before .before .before .before .before .before .before .if1 in
+    let at-w = c .before .before .before .before .before .before .before .before .before .before .w in
+    let at-first-word = c .before .before .before .before .before .before .before .before .before .before .before .before .first-word in
+    let at-loop = c .before .before .before .before .before .before .before .before .before .before .before .before .before .loop in
+    let inv = at-loop .inv .1 in
+    let L = at-loop .ns .now in
+    let W = at-w .given .0 .0 in
+    let e = sym (at-first-word .ensures) ∙ at-w .given .1 in
+    let M = at-loop .m .now in
+    let plain = at-loop .inv .0 in
+    let test = turns.plain-test L W e plain (at-if1 .left) in
+    let B = at-b .given .0 .0 in
+    let f = sym (at-last-byte .ensures) ∙ at-b .given .1 in
+    ap answer (sym (inv ∙ turns.stop-one L W e long (reverse M) (test .0) B (test .1) f (passes-as W B (test .0) (test .1) (sym (c .if3 .left) ∙ at-word-passes .ensures))))
 
 pub flat-spec : {M : Type 1} → statement M
 flat-spec =

@@ -15,10 +15,16 @@ in-branch-requires : tie.Need-in-branch-requires
 in-branch-requires c κs = search needs
 
 returns : tie.Need-returns
-returns c = rw (sym (c .before .before .before .proper-word .ensures) ∙ c .before .before .if1 .taken) (c .in-branch .ensures ∙ ap inBranch (c .before .node-of .ensures))
+returns c =
+    let at-node-of = c .before .node-of in
+    let at-if1 = c .before .before .if1 in
+    let at-proper-word = c .before .before .before .proper-word in
+    rw (sym (at-proper-word .ensures) ∙ at-if1 .taken) (c .in-branch .ensures ∙ ap inBranch (at-node-of .ensures))
 
 returns-2 : tie.Need-returns-2
-returns-2 c = rw (sym (c .before .proper-word .ensures) ∙ c .if1 .left)
+returns-2 c =
+    let at-proper-word = c .before .proper-word in
+    rw (sym (at-proper-word .ensures) ∙ c .if1 .left)
 
 pub branch-inside-spec : {M : Type 1} → statement M
 branch-inside-spec =

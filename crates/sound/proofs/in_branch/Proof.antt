@@ -37,7 +37,9 @@ returns-4 : tie.Need-returns-4
 returns-4 c = search needs
 
 returns-5 : tie.Need-returns-5
-returns-5 c = rw (c .before .n .given .1)
+returns-5 c =
+    let at-n = c .before .n in
+    rw (at-n .given .1)
 
 returns-6 : tie.Need-returns-6
 returns-6 c = search needs

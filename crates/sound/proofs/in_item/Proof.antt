@@ -31,7 +31,9 @@ returns-3 : tie.Need-returns-3
 returns-3 c = search needs
 
 returns-4 : tie.Need-returns-4
-returns-4 c = rw (c .before .n .given .1)
+returns-4 c =
+    let at-n = c .before .n in
+    rw (at-n .given .1)
 
 returns-5 : tie.Need-returns-5
 returns-5 c = search needs

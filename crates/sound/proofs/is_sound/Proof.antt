@@ -11,7 +11,9 @@ sound-words-requires c κs = search needs
 
 returns : tie.Need-returns
 unfolding sound
-returns c = c .sound-words .ensures ∙ rw (le-leb _ 512 (c .before .if1 .taken))
+returns c =
+    let at-if1 = c .before .if1 in
+    c .sound-words .ensures ∙ rw (le-leb _ 512 (at-if1 .taken))
 
 returns-2 : tie.Need-returns-2
 unfolding sound

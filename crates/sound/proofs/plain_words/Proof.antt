@@ -30,31 +30,43 @@ enum-told c = search needs
 
 returns : tie.Need-returns Inv-loop μ-loop
 returns c =
-    let l = c .before .before .before .loop in
-    law.plain-done (l .ws .now) (sym (c .before .before .first-word .ensures) ∙ c .enum-told .given .1) ∙ l .inv
+    let at-first-word = c .before .before .first-word in
+    let at-loop = c .before .before .before .loop in
+    let l = at-loop in
+    law.plain-done (l .ws .now) (sym (at-first-word .ensures) ∙ c .enum-told .given .1) ∙ l .inv
 
 plain-word-requires : tie.Need-plain-word-requires Inv-loop μ-loop
 plain-word-requires c κs = search needs
 
 returns-2 : tie.Need-returns-2 Inv-loop μ-loop
 returns-2 c =
-    let l = c .before .before .before .before .before .before .loop in
-    let w = c .before .before .before .w .given in
-    let first = sym (c .before .before .before .before .before .first-word .ensures) ∙ w .1 in
-    law.plain-other (l .ws .now) (w .0 .0) first (sym (c .before .plain-word .ensures) ∙ not-true _ (c .if1 .taken)) ∙ l .inv
+    let at-plain-word = c .before .plain-word in
+    let at-w = c .before .before .before .w in
+    let at-first-word = c .before .before .before .before .before .first-word in
+    let at-loop = c .before .before .before .before .before .before .loop in
+    let l = at-loop in
+    let w = at-w .given in
+    let first = sym (at-first-word .ensures) ∙ w .1 in
+    law.plain-other (l .ws .now) (w .0 .0) first (sym (at-plain-word .ensures) ∙ not-true _ (c .if1 .taken)) ∙ l .inv
 
 sub-ws : tie.Need-sub-ws Inv-loop μ-loop
 sub-ws c =
-    let l = c .before .before .before .before .before .before .loop in
-    let w = c .before .before .before .w .given in
-    let first = sym (c .before .before .before .before .before .first-word .ensures) ∙ w .1 in
+    let at-w = c .before .before .before .w in
+    let at-first-word = c .before .before .before .before .before .first-word in
+    let at-loop = c .before .before .before .before .before .before .loop in
+    let l = at-loop in
+    let w = at-w .given in
+    let first = sym (at-first-word .ensures) ∙ w .1 in
     heads.word-pos (l .ws .now) (w .0 .0) first
 
 part-ws-start : tie.Need-part-ws-start Inv-loop μ-loop
 part-ws-start c =
-    let l = c .before .before .before .before .before .before .loop in
-    let w = c .before .before .before .w .given in
-    let first = sym (c .before .before .before .before .before .first-word .ensures) ∙ w .1 in
+    let at-w = c .before .before .before .w in
+    let at-first-word = c .before .before .before .before .before .first-word in
+    let at-loop = c .before .before .before .before .before .before .loop in
+    let l = at-loop in
+    let w = at-w .given in
+    let first = sym (at-first-word .ensures) ∙ w .1 in
     heads.word-pos (l .ws .now) (w .0 .0) first
 
 part-ws-end : tie.Need-part-ws-end Inv-loop μ-loop
@@ -62,17 +74,25 @@ part-ws-end c = search needs
 
 loop-less : tie.Need-loop-less Inv-loop μ-loop
 loop-less c =
-    let l = c .before .before .before .before .before .before .before .loop in
-    let w = c .before .before .before .before .w .given in
-    let first = sym (c .before .before .before .before .before .before .first-word .ensures) ∙ w .1 in
+    let at-w = c .before .before .before .before .w in
+    let at-first-word = c .before .before .before .before .before .before .first-word in
+    let at-loop = c .before .before .before .before .before .before .before .loop in
+    let l = at-loop in
+    let w = at-w .given in
+    let first = sym (at-first-word .ensures) ∙ w .1 in
     omega (arith, heads.word-pos (l .ws .now) (w .0 .0) first, heads.length-from 1 (l .ws .now))
 
 loop-again : tie.Need-loop-again Inv-loop μ-loop
 loop-again c =
-    let l = c .before .before .before .before .before .before .before .loop in
-    let w = c .before .before .before .before .w .given in
-    let first = sym (c .before .before .before .before .before .before .first-word .ensures) ∙ w .1 in
-    law.plain-next (l .ws .now) (w .0 .0) first (sym (c .before .before .plain-word .ensures) ∙ not-false _ (c .before .if1 .left)) ∙ l .inv
+    let at-if1 = c .before .if1 in
+    let at-plain-word = c .before .before .plain-word in
+    let at-w = c .before .before .before .before .w in
+    let at-first-word = c .before .before .before .before .before .before .first-word in
+    let at-loop = c .before .before .before .before .before .before .before .loop in
+    let l = at-loop in
+    let w = at-w .given in
+    let first = sym (at-first-word .ensures) ∙ w .1 in
+    law.plain-next (l .ws .now) (w .0 .0) first (sym (at-plain-word .ensures) ∙ not-false _ (at-if1 .left)) ∙ l .inv
 
 pub plain-words-spec : {M : Type 1} → statement M
 plain-words-spec =

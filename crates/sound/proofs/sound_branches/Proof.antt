@@ -29,8 +29,10 @@ enum-told c = search needs
 
 returns : tie.Need-returns Inv-loop μ-loop
 returns c =
-    let l = c .before .before .before .loop in
-    law.turn-done law.branch-steps (l .ws .now) (sym (c .before .before .first-word .ensures) ∙ c .enum-told .given .1) ∙ l .inv
+    let at-first-word = c .before .before .first-word in
+    let at-loop = c .before .before .before .loop in
+    let l = at-loop in
+    law.turn-done law.branch-steps (l .ws .now) (sym (at-first-word .ensures) ∙ c .enum-told .given .1) ∙ l .inv
 
 branch-inside-requires : tie.Need-branch-inside-requires Inv-loop μ-loop
 branch-inside-requires c κs = search needs
@@ -43,26 +45,36 @@ enum-told-2 c = search needs
 
 returns-2 : tie.Need-returns-2 Inv-loop μ-loop
 returns-2 c =
-    let l = c .before .before .before .before .before .before .before .loop in
-    let w = c .before .before .before .before .w .given in
-    let first = sym (c .before .before .before .before .before .before .first-word .ensures) ∙ w .1 in
-    law.turn-unfit law.branch-steps (l .ws .now) (w .0 .0) first (sym (c .before .before .branch-inside .ensures) ∙ c .enum-told2 .given .1) ∙ l .inv
+    let at-branch-inside = c .before .before .branch-inside in
+    let at-w = c .before .before .before .before .w in
+    let at-first-word = c .before .before .before .before .before .before .first-word in
+    let at-loop = c .before .before .before .before .before .before .before .loop in
+    let l = at-loop in
+    let w = at-w .given in
+    let first = sym (at-first-word .ensures) ∙ w .1 in
+    law.turn-unfit law.branch-steps (l .ws .now) (w .0 .0) first (sym (at-branch-inside .ensures) ∙ c .enum-told2 .given .1) ∙ l .inv
 
 cast-size : tie.Need-cast-size Inv-loop μ-loop
 cast-size c = search needs
 
 sub-rest : tie.Need-sub-rest Inv-loop μ-loop
 sub-rest c =
-    let l = c .before .before .before .before .before .before .before .before .loop in
-    let w = c .before .before .before .before .before .w .given in
-    let first = sym (c .before .before .before .before .before .before .before .first-word .ensures) ∙ w .1 in
+    let at-w = c .before .before .before .before .before .w in
+    let at-first-word = c .before .before .before .before .before .before .before .first-word in
+    let at-loop = c .before .before .before .before .before .before .before .before .loop in
+    let l = at-loop in
+    let w = at-w .given in
+    let first = sym (at-first-word .ensures) ∙ w .1 in
     heads.word-pos (l .ws .now) (w .0 .0) first
 
 part-rest-start : tie.Need-part-rest-start Inv-loop μ-loop
 part-rest-start c =
-    let l = c .before .before .before .before .before .before .before .before .loop in
-    let w = c .before .before .before .before .before .w .given in
-    let first = sym (c .before .before .before .before .before .before .before .first-word .ensures) ∙ w .1 in
+    let at-w = c .before .before .before .before .before .w in
+    let at-first-word = c .before .before .before .before .before .before .before .first-word in
+    let at-loop = c .before .before .before .before .before .before .before .before .loop in
+    let l = at-loop in
+    let w = at-w .given in
+    let first = sym (at-first-word .ensures) ∙ w .1 in
     heads.word-pos (l .ws .now) (w .0 .0) first
 
 part-rest-end : tie.Need-part-rest-end Inv-loop μ-loop
@@ -70,27 +82,41 @@ part-rest-end c = search needs
 
 returns-3 : tie.Need-returns-3 Inv-loop μ-loop
 returns-3 c =
-    let l = c .before .before .before .before .before .before .before .before .before .before .loop in
-    let w = c .before .before .before .before .before .before .before .w .given in
-    let first = sym (c .before .before .before .before .before .before .before .before .before .first-word .ensures) ∙ w .1 in
-    let n = c .before .before .before .n .given in
-    let inside = sym (c .before .before .before .before .before .branch-inside .ensures) ∙ n .1 in
+    let at-n = c .before .before .before .n in
+    let at-branch-inside = c .before .before .before .before .before .branch-inside in
+    let at-w = c .before .before .before .before .before .before .before .w in
+    let at-first-word = c .before .before .before .before .before .before .before .before .before .first-word in
+    let at-loop = c .before .before .before .before .before .before .before .before .before .before .loop in
+    let l = at-loop in
+    let w = at-w .given in
+    let first = sym (at-first-word .ensures) ∙ w .1 in
+    let n = at-n .given in
+    let inside = sym (at-branch-inside .ensures) ∙ n .1 in
     law.turn-long law.branch-steps (l .ws .now) (w .0 .0) first (n .0 .0) inside (c .if1 .taken) ∙ l .inv
 
 slice-aggregate-plain-words : tie.Need-slice-aggregate-plain-words Inv-loop μ-loop
-slice-aggregate-plain-words c = sym (length-take-le _ _ (c .before .if1 .left))
+slice-aggregate-plain-words c =
+    let at-if1 = c .before .if1 in
+    sym (length-take-le _ _ (at-if1 .left))
 
 plain-words-requires : tie.Need-plain-words-requires Inv-loop μ-loop
 plain-words-requires c κs = search needs
 
 returns-4 : tie.Need-returns-4 Inv-loop μ-loop
 returns-4 c =
-    let l = c .before .before .before .before .before .before .before .before .before .before .before .before .before .loop in
-    let w = c .before .before .before .before .before .before .before .before .before .before .w .given in
-    let first = sym (c .before .before .before .before .before .before .before .before .before .before .before .before .first-word .ensures) ∙ w .1 in
-    let n = c .before .before .before .before .before .before .n .given in
-    let inside = sym (c .before .before .before .before .before .before .before .before .branch-inside .ensures) ∙ n .1 in
-    law.turn-part law.branch-steps (l .ws .now) (w .0 .0) first (n .0 .0) inside (c .before .before .before .if1 .left) (sym (c .before .plain-words .ensures) ∙ not-true _ (c .if2 .taken)) ∙ l .inv
+    let at-plain-words = c .before .plain-words in
+    let at-if1 = c .before .before .before .if1 in
+    let at-n = c .before .before .before .before .before .before .n in
+    let at-branch-inside = c .before .before .before .before .before .before .before .before .branch-inside in
+    let at-w = c .before .before .before .before .before .before .before .before .before .before .w in
+    let at-first-word = c .before .before .before .before .before .before .before .before .before .before .before .before .first-word in
+    let at-loop = c .before .before .before .before .before .before .before .before .before .before .before .before .before .loop in
+    let l = at-loop in
+    let w = at-w .given in
+    let first = sym (at-first-word .ensures) ∙ w .1 in
+    let n = at-n .given in
+    let inside = sym (at-branch-inside .ensures) ∙ n .1 in
+    law.turn-part law.branch-steps (l .ws .now) (w .0 .0) first (n .0 .0) inside (at-if1 .left) (sym (at-plain-words .ensures) ∙ not-true _ (c .if2 .taken)) ∙ l .inv
 
 mul-ws : tie.Need-mul-ws Inv-loop μ-loop
 mul-ws c = search needs
@@ -106,20 +132,32 @@ part-ws-end c = search needs
 
 loop-less : tie.Need-loop-less Inv-loop μ-loop
 loop-less c =
-    let l = c .before .before .before .before .before .before .before .before .before .before .before .before .before .before .loop in
-    let w = c .before .before .before .before .before .before .before .before .before .before .before .w .given in
-    let first = sym (c .before .before .before .before .before .before .before .before .before .before .before .before .before .first-word .ensures) ∙ w .1 in
-    let n = c .before .before .before .before .before .before .before .n .given in
+    let at-n = c .before .before .before .before .before .before .before .n in
+    let at-w = c .before .before .before .before .before .before .before .before .before .before .before .w in
+    let at-first-word = c .before .before .before .before .before .before .before .before .before .before .before .before .before .first-word in
+    let at-loop = c .before .before .before .before .before .before .before .before .before .before .before .before .before .before .loop in
+    let l = at-loop in
+    let w = at-w .given in
+    let first = sym (at-first-word .ensures) ∙ w .1 in
+    let n = at-n .given in
     heads.from-less (l .ws .now) (w .0 .0) first (n .0 .0)
 
 loop-again : tie.Need-loop-again Inv-loop μ-loop
 loop-again c =
-    let l = c .before .before .before .before .before .before .before .before .before .before .before .before .before .before .loop in
-    let w = c .before .before .before .before .before .before .before .before .before .before .before .w .given in
-    let first = sym (c .before .before .before .before .before .before .before .before .before .before .before .before .before .first-word .ensures) ∙ w .1 in
-    let n = c .before .before .before .before .before .before .before .n .given in
-    let inside = sym (c .before .before .before .before .before .before .before .before .before .branch-inside .ensures) ∙ n .1 in
-    law.turn-next law.branch-steps (l .ws .now) (w .0 .0) first (n .0 .0) inside (c .before .before .before .before .if1 .left) (sym (c .before .before .plain-words .ensures) ∙ not-false _ (c .before .if2 .left)) ∙ l .inv
+    let at-if2 = c .before .if2 in
+    let at-plain-words = c .before .before .plain-words in
+    let at-if1 = c .before .before .before .before .if1 in
+    let at-n = c .before .before .before .before .before .before .before .n in
+    let at-branch-inside = c .before .before .before .before .before .before .before .before .before .branch-inside in
+    let at-w = c .before .before .before .before .before .before .before .before .before .before .before .w in
+    let at-first-word = c .before .before .before .before .before .before .before .before .before .before .before .before .before .first-word in
+    let at-loop = c .before .before .before .before .before .before .before .before .before .before .before .before .before .before .loop in
+    let l = at-loop in
+    let w = at-w .given in
+    let first = sym (at-first-word .ensures) ∙ w .1 in
+    let n = at-n .given in
+    let inside = sym (at-branch-inside .ensures) ∙ n .1 in
+    law.turn-next law.branch-steps (l .ws .now) (w .0 .0) first (n .0 .0) inside (at-if1 .left) (sym (at-plain-words .ensures) ∙ not-false _ (at-if2 .left)) ∙ l .inv
 
 pub sound-branches-spec : {M : Type 1} → statement M
 sound-branches-spec =

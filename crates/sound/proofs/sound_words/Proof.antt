@@ -29,8 +29,10 @@ enum-told c = search needs
 
 returns : tie.Need-returns Inv-loop μ-loop
 returns c =
-    let l = c .before .before .before .loop in
-    law.turn-done law.item-steps (l .ws .now) (sym (c .before .before .first-word .ensures) ∙ c .enum-told .given .1) ∙ l .inv
+    let at-first-word = c .before .before .first-word in
+    let at-loop = c .before .before .before .loop in
+    let l = at-loop in
+    law.turn-done law.item-steps (l .ws .now) (sym (at-first-word .ensures) ∙ c .enum-told .given .1) ∙ l .inv
 
 item-inside-requires : tie.Need-item-inside-requires Inv-loop μ-loop
 item-inside-requires c κs = search needs
@@ -43,26 +45,36 @@ enum-told-2 c = search needs
 
 returns-2 : tie.Need-returns-2 Inv-loop μ-loop
 returns-2 c =
-    let l = c .before .before .before .before .before .before .before .loop in
-    let w = c .before .before .before .before .w .given in
-    let first = sym (c .before .before .before .before .before .before .first-word .ensures) ∙ w .1 in
-    law.turn-unfit law.item-steps (l .ws .now) (w .0 .0) first (sym (c .before .before .item-inside .ensures) ∙ c .enum-told2 .given .1) ∙ l .inv
+    let at-item-inside = c .before .before .item-inside in
+    let at-w = c .before .before .before .before .w in
+    let at-first-word = c .before .before .before .before .before .before .first-word in
+    let at-loop = c .before .before .before .before .before .before .before .loop in
+    let l = at-loop in
+    let w = at-w .given in
+    let first = sym (at-first-word .ensures) ∙ w .1 in
+    law.turn-unfit law.item-steps (l .ws .now) (w .0 .0) first (sym (at-item-inside .ensures) ∙ c .enum-told2 .given .1) ∙ l .inv
 
 cast-count : tie.Need-cast-count Inv-loop μ-loop
 cast-count c = search needs
 
 sub-rest : tie.Need-sub-rest Inv-loop μ-loop
 sub-rest c =
-    let l = c .before .before .before .before .before .before .before .before .loop in
-    let w = c .before .before .before .before .before .w .given in
-    let first = sym (c .before .before .before .before .before .before .before .first-word .ensures) ∙ w .1 in
+    let at-w = c .before .before .before .before .before .w in
+    let at-first-word = c .before .before .before .before .before .before .before .first-word in
+    let at-loop = c .before .before .before .before .before .before .before .before .loop in
+    let l = at-loop in
+    let w = at-w .given in
+    let first = sym (at-first-word .ensures) ∙ w .1 in
     heads.word-pos (l .ws .now) (w .0 .0) first
 
 part-rest-start : tie.Need-part-rest-start Inv-loop μ-loop
 part-rest-start c =
-    let l = c .before .before .before .before .before .before .before .before .loop in
-    let w = c .before .before .before .before .before .w .given in
-    let first = sym (c .before .before .before .before .before .before .before .first-word .ensures) ∙ w .1 in
+    let at-w = c .before .before .before .before .before .w in
+    let at-first-word = c .before .before .before .before .before .before .before .first-word in
+    let at-loop = c .before .before .before .before .before .before .before .before .loop in
+    let l = at-loop in
+    let w = at-w .given in
+    let first = sym (at-first-word .ensures) ∙ w .1 in
     heads.word-pos (l .ws .now) (w .0 .0) first
 
 part-rest-end : tie.Need-part-rest-end Inv-loop μ-loop
@@ -70,27 +82,41 @@ part-rest-end c = search needs
 
 returns-3 : tie.Need-returns-3 Inv-loop μ-loop
 returns-3 c =
-    let l = c .before .before .before .before .before .before .before .before .before .before .loop in
-    let w = c .before .before .before .before .before .before .before .w .given in
-    let first = sym (c .before .before .before .before .before .before .before .before .before .first-word .ensures) ∙ w .1 in
-    let n = c .before .before .before .n .given in
-    let inside = sym (c .before .before .before .before .before .item-inside .ensures) ∙ n .1 in
+    let at-n = c .before .before .before .n in
+    let at-item-inside = c .before .before .before .before .before .item-inside in
+    let at-w = c .before .before .before .before .before .before .before .w in
+    let at-first-word = c .before .before .before .before .before .before .before .before .before .first-word in
+    let at-loop = c .before .before .before .before .before .before .before .before .before .before .loop in
+    let l = at-loop in
+    let w = at-w .given in
+    let first = sym (at-first-word .ensures) ∙ w .1 in
+    let n = at-n .given in
+    let inside = sym (at-item-inside .ensures) ∙ n .1 in
     law.turn-long law.item-steps (l .ws .now) (w .0 .0) first (n .0 .0) inside (c .if1 .taken) ∙ l .inv
 
 slice-aggregate-sound-branches : tie.Need-slice-aggregate-sound-branches Inv-loop μ-loop
-slice-aggregate-sound-branches c = sym (length-take-le _ _ (c .before .if1 .left))
+slice-aggregate-sound-branches c =
+    let at-if1 = c .before .if1 in
+    sym (length-take-le _ _ (at-if1 .left))
 
 sound-branches-requires : tie.Need-sound-branches-requires Inv-loop μ-loop
 sound-branches-requires c κs = search needs
 
 returns-4 : tie.Need-returns-4 Inv-loop μ-loop
 returns-4 c =
-    let l = c .before .before .before .before .before .before .before .before .before .before .before .before .before .loop in
-    let w = c .before .before .before .before .before .before .before .before .before .before .w .given in
-    let first = sym (c .before .before .before .before .before .before .before .before .before .before .before .before .first-word .ensures) ∙ w .1 in
-    let n = c .before .before .before .before .before .before .n .given in
-    let inside = sym (c .before .before .before .before .before .before .before .before .item-inside .ensures) ∙ n .1 in
-    law.turn-part law.item-steps (l .ws .now) (w .0 .0) first (n .0 .0) inside (c .before .before .before .if1 .left) (sym (c .before .sound-branches .ensures) ∙ not-true _ (c .if2 .taken)) ∙ l .inv
+    let at-sound-branches = c .before .sound-branches in
+    let at-if1 = c .before .before .before .if1 in
+    let at-n = c .before .before .before .before .before .before .n in
+    let at-item-inside = c .before .before .before .before .before .before .before .before .item-inside in
+    let at-w = c .before .before .before .before .before .before .before .before .before .before .w in
+    let at-first-word = c .before .before .before .before .before .before .before .before .before .before .before .before .first-word in
+    let at-loop = c .before .before .before .before .before .before .before .before .before .before .before .before .before .loop in
+    let l = at-loop in
+    let w = at-w .given in
+    let first = sym (at-first-word .ensures) ∙ w .1 in
+    let n = at-n .given in
+    let inside = sym (at-item-inside .ensures) ∙ n .1 in
+    law.turn-part law.item-steps (l .ws .now) (w .0 .0) first (n .0 .0) inside (at-if1 .left) (sym (at-sound-branches .ensures) ∙ not-true _ (c .if2 .taken)) ∙ l .inv
 
 mul-ws : tie.Need-mul-ws Inv-loop μ-loop
 mul-ws c = search needs
@@ -106,20 +132,32 @@ part-ws-end c = search needs
 
 loop-less : tie.Need-loop-less Inv-loop μ-loop
 loop-less c =
-    let l = c .before .before .before .before .before .before .before .before .before .before .before .before .before .before .loop in
-    let w = c .before .before .before .before .before .before .before .before .before .before .before .w .given in
-    let first = sym (c .before .before .before .before .before .before .before .before .before .before .before .before .before .first-word .ensures) ∙ w .1 in
-    let n = c .before .before .before .before .before .before .before .n .given in
+    let at-n = c .before .before .before .before .before .before .before .n in
+    let at-w = c .before .before .before .before .before .before .before .before .before .before .before .w in
+    let at-first-word = c .before .before .before .before .before .before .before .before .before .before .before .before .before .first-word in
+    let at-loop = c .before .before .before .before .before .before .before .before .before .before .before .before .before .before .loop in
+    let l = at-loop in
+    let w = at-w .given in
+    let first = sym (at-first-word .ensures) ∙ w .1 in
+    let n = at-n .given in
     heads.from-less (l .ws .now) (w .0 .0) first (n .0 .0)
 
 loop-again : tie.Need-loop-again Inv-loop μ-loop
 loop-again c =
-    let l = c .before .before .before .before .before .before .before .before .before .before .before .before .before .before .loop in
-    let w = c .before .before .before .before .before .before .before .before .before .before .before .w .given in
-    let first = sym (c .before .before .before .before .before .before .before .before .before .before .before .before .before .first-word .ensures) ∙ w .1 in
-    let n = c .before .before .before .before .before .before .before .n .given in
-    let inside = sym (c .before .before .before .before .before .before .before .before .before .item-inside .ensures) ∙ n .1 in
-    law.turn-next law.item-steps (l .ws .now) (w .0 .0) first (n .0 .0) inside (c .before .before .before .before .if1 .left) (sym (c .before .before .sound-branches .ensures) ∙ not-false _ (c .before .if2 .left)) ∙ l .inv
+    let at-if2 = c .before .if2 in
+    let at-sound-branches = c .before .before .sound-branches in
+    let at-if1 = c .before .before .before .before .if1 in
+    let at-n = c .before .before .before .before .before .before .before .n in
+    let at-item-inside = c .before .before .before .before .before .before .before .before .before .item-inside in
+    let at-w = c .before .before .before .before .before .before .before .before .before .before .before .w in
+    let at-first-word = c .before .before .before .before .before .before .before .before .before .before .before .before .before .first-word in
+    let at-loop = c .before .before .before .before .before .before .before .before .before .before .before .before .before .before .loop in
+    let l = at-loop in
+    let w = at-w .given in
+    let first = sym (at-first-word .ensures) ∙ w .1 in
+    let n = at-n .given in
+    let inside = sym (at-item-inside .ensures) ∙ n .1 in
+    law.turn-next law.item-steps (l .ws .now) (w .0 .0) first (n .0 .0) inside (at-if1 .left) (sym (at-sound-branches .ensures) ∙ not-false _ (at-if2 .left)) ∙ l .inv
 
 pub sound-words-spec : {M : Type 1} → statement M
 sound-words-spec =

@@ -49,7 +49,10 @@ prefixed-by-past-bytes-requires : (t : ℕ) → prefixed-by-lts.Need-past-bytes-
 prefixed-by-past-bytes-requires t c κs = search needs
 
 prefixed-by-returns : (t : ℕ) → prefixed-by-lts.Need-returns (prefixed-by-cl t) (prefixed-by-at t) prefixed-by.Post
-prefixed-by-returns t c = sym (c .before .past-bytes .ensures .numbered (c .before .before .before .args .p) (c .before .before .before .args .k) ∙ spell.prefixed-end (c .before .past-bytes .result .now) (c .if1 .taken) (c .before .before .before .args .p) (c .before .before .before .args .k))
+prefixed-by-returns t c =
+    let at-past-bytes = c .before .past-bytes in
+    let at-start = c .before .before .before in
+    sym (at-past-bytes .ensures .numbered (at-start .args .p) (at-start .args .k) ∙ spell.prefixed-end (at-past-bytes .result .now) (c .if1 .taken) (at-start .args .p) (at-start .args .k))
 
 prefixed-by-tally-token-requires : (t : ℕ) → prefixed-by-lts.Need-tally-token-requires (prefixed-by-cl t) (prefixed-by-at t) prefixed-by.Post
 prefixed-by-tally-token-requires t c κs = search needs
@@ -58,28 +61,63 @@ prefixed-by-width-of-requires : (t : ℕ) → prefixed-by-lts.Need-width-of-requ
 prefixed-by-width-of-requires t c κs = search needs
 
 prefixed-by-mul-after : (t : ℕ) → prefixed-by-lts.Need-mul-after (prefixed-by-cl t) (prefixed-by-at t) prefixed-by.Post
-prefixed-by-mul-after t c = omega (arith, mul-le-mul (spell.prefixes-few (c .before .before .before .before .past-bytes .result .now) (c .before .before .before .if1 .left) (c .before .before .before .before .before .before .args .p) (numerable t (c .before .before .before .before)) (c .before .before .tally-token .result .literals) (c .before .before .tally-token .ensures .literals-are)) (spell.c-le (c .before .before .before .before .past-bytes .result .now) (c .before .before .before .if1 .left) (c .before .before .before .before .before .before .args .p) (numerable t (c .before .before .before .before)) (c .before .before .tally-token .result .literals) (c .before .before .tally-token .ensures .literals-are)))
+prefixed-by-mul-after t c =
+    let at-tally-token = c .before .before .tally-token in
+    let at-if1 = c .before .before .before .if1 in
+    let at-past-bytes = c .before .before .before .before .past-bytes in
+    let at-start = c .before .before .before .before .before .before in
+    omega (arith, mul-le-mul (spell.prefixes-few (at-past-bytes .result .now) (at-if1 .left) (at-start .args .p) (numerable t (c .before .before .before .before)) (at-tally-token .result .literals) (at-tally-token .ensures .literals-are)) (spell.c-le (at-past-bytes .result .now) (at-if1 .left) (at-start .args .p) (numerable t (c .before .before .before .before)) (at-tally-token .result .literals) (at-tally-token .ensures .literals-are)))
 
 prefixed-by-mul-prefixed-by : (t : ℕ) → prefixed-by-lts.Need-mul-prefixed-by (prefixed-by-cl t) (prefixed-by-at t) prefixed-by.Post
-prefixed-by-mul-prefixed-by t c = omega (arith, (c .before .width-of .ensures), (step.width-le (c .before .before .before .before .past-bytes .result .now) (c .before .before .before .if1 .left)))
+prefixed-by-mul-prefixed-by t c =
+    let at-width-of = c .before .width-of in
+    let at-if1 = c .before .before .before .if1 in
+    let at-past-bytes = c .before .before .before .before .past-bytes in
+    omega (arith, (at-width-of .ensures), (step.width-le (at-past-bytes .result .now) (at-if1 .left)))
 
 prefixed-by-sub-prefixed-by : (t : ℕ) → prefixed-by-lts.Need-sub-prefixed-by (prefixed-by-cl t) (prefixed-by-at t) prefixed-by.Post
-prefixed-by-sub-prefixed-by t c = omega (arith, (c .before .width-of .ensures), (step.width-le (c .before .before .before .before .past-bytes .result .now) (c .before .before .before .if1 .left)))
+prefixed-by-sub-prefixed-by t c =
+    let at-width-of = c .before .width-of in
+    let at-if1 = c .before .before .before .if1 in
+    let at-past-bytes = c .before .before .before .before .past-bytes in
+    omega (arith, (at-width-of .ensures), (step.width-le (at-past-bytes .result .now) (at-if1 .left)))
 
 prefixed-by-part-prefixed-by-start : (t : ℕ) → prefixed-by-lts.Need-part-prefixed-by-start (prefixed-by-cl t) (prefixed-by-at t) prefixed-by.Post
-prefixed-by-part-prefixed-by-start t c = omega (arith, (c .before .width-of .ensures), (step.width-le (c .before .before .before .before .past-bytes .result .now) (c .before .before .before .if1 .left)))
+prefixed-by-part-prefixed-by-start t c =
+    let at-width-of = c .before .width-of in
+    let at-if1 = c .before .before .before .if1 in
+    let at-past-bytes = c .before .before .before .before .past-bytes in
+    omega (arith, (at-width-of .ensures), (step.width-le (at-past-bytes .result .now) (at-if1 .left)))
 
 prefixed-by-part-prefixed-by-end : (t : ℕ) → prefixed-by-lts.Need-part-prefixed-by-end (prefixed-by-cl t) (prefixed-by-at t) prefixed-by.Post
 prefixed-by-part-prefixed-by-end t c = search needs
 
 prefixed-by-prefixed-by-requires : (t : ℕ) → prefixed-by-lts.Need-prefixed-by-requires (prefixed-by-cl t) (prefixed-by-at t) prefixed-by.Post
-prefixed-by-prefixed-by-requires t c κs = (omega (arith, (c .before .before .before .before .before .before .before .pre .0), (c .before .before .before .before .before .past-bytes .ensures .short), part.part-less (c .before .before .width-of .result) (c .before .before .before .before .before .past-bytes .result .now) (omega (arith, (c .before .before .width-of .ensures), (step.width-long (c .before .before .before .before .before .past-bytes .result .now) (c .before .before .before .before .if1 .left)))) (c .before .before .before .before .if1 .left)), subst (λ (l : List ℕ). Numerable (c .before .before .before .before .before .before .before .args .p * c .before .before .before .tally-token .result .literals) (count (tokensIn l))) (ap (λ (x : ℕ). drop x (c .before .before .before .before .before .past-bytes .result .now)) (sym (c .before .before .width-of .ensures)) ∙ sym (part.part-all (c .before .before .width-of .result) (c .before .before .before .before .before .past-bytes .result .now))) (spell.after-numerable (c .before .before .before .before .before .past-bytes .result .now) (c .before .before .before .before .if1 .left) (c .before .before .before .before .before .before .before .args .p) (numerable t (c .before .before .before .before .before)) (c .before .before .before .tally-token .result .literals) (c .before .before .before .tally-token .ensures .literals-are)))
+prefixed-by-prefixed-by-requires t c κs =
+    let at-width-of = c .before .before .width-of in
+    let at-tally-token = c .before .before .before .tally-token in
+    let at-if1 = c .before .before .before .before .if1 in
+    let at-past-bytes = c .before .before .before .before .before .past-bytes in
+    let at-start = c .before .before .before .before .before .before .before in
+    (omega (arith, (at-start .pre .0), (at-past-bytes .ensures .short), part.part-less (at-width-of .result) (at-past-bytes .result .now) (omega (arith, (at-width-of .ensures), (step.width-long (at-past-bytes .result .now) (at-if1 .left)))) (at-if1 .left)), subst (λ (l : List ℕ). Numerable (at-start .args .p * at-tally-token .result .literals) (count (tokensIn l))) (ap (λ (x : ℕ). drop x (at-past-bytes .result .now)) (sym (at-width-of .ensures)) ∙ sym (part.part-all (at-width-of .result) (at-past-bytes .result .now))) (spell.after-numerable (at-past-bytes .result .now) (at-if1 .left) (at-start .args .p) (numerable t (c .before .before .before .before .before)) (at-tally-token .result .literals) (at-tally-token .ensures .literals-are)))
 
 prefixed-by-prefix-of-requires : (t : ℕ) → prefixed-by-lts.Need-prefix-of-requires (prefixed-by-cl t) (prefixed-by-at t) prefixed-by.Post
-prefixed-by-prefix-of-requires t c κs = ((c .before .before .before .before .before .if1 .left), spell.prefixes-few (c .before .before .before .before .before .before .past-bytes .result .now) (c .before .before .before .before .before .if1 .left) (c .before .before .before .before .before .before .before .before .args .p) (numerable t (c .before .before .before .before .before .before)) (c .before .before .before .before .tally-token .result .literals) (c .before .before .before .before .tally-token .ensures .literals-are), spell.token-few (c .before .before .before .before .before .before .past-bytes .result .now) (c .before .before .before .before .before .if1 .left) (c .before .before .before .before .before .before .before .before .args .p) (numerable t (c .before .before .before .before .before .before)) (c .before .before .before .before .tally-token .result .literals) (c .before .before .before .before .tally-token .ensures .literals-are))
+prefixed-by-prefix-of-requires t c κs =
+    let at-tally-token = c .before .before .before .before .tally-token in
+    let at-if1 = c .before .before .before .before .before .if1 in
+    let at-past-bytes = c .before .before .before .before .before .before .past-bytes in
+    let at-start = c .before .before .before .before .before .before .before .before in
+    ((at-if1 .left), spell.prefixes-few (at-past-bytes .result .now) (at-if1 .left) (at-start .args .p) (numerable t (c .before .before .before .before .before .before)) (at-tally-token .result .literals) (at-tally-token .ensures .literals-are), spell.token-few (at-past-bytes .result .now) (at-if1 .left) (at-start .args .p) (numerable t (c .before .before .before .before .before .before)) (at-tally-token .result .literals) (at-tally-token .ensures .literals-are))
 
 prefixed-by-returns-2 : (t : ℕ) → prefixed-by-lts.Need-returns-2 (prefixed-by-cl t) (prefixed-by-at t) prefixed-by.Post
-prefixed-by-returns-2 t c = c .prefix-of .ensures ∙ ap (prefixOf (tokenIn (c .before .before .before .before .before .before .before .past-bytes .result .now)) (c .before .before .before .before .before .before .before .before .before .args .p)) (c .before .prefixed-by .ensures ∙ ap₂ (λ (x : ℕ) (l : List ℕ). prefixed (tokensIn l) (c .before .before .before .before .before .before .before .before .before .args .p * x) (c .before .before .before .before .before .before .before .before .before .args .k)) (spell.token-exact (c .before .before .before .before .before .before .before .past-bytes .result .now) (c .before .before .before .before .before .before .if1 .left) (c .before .before .before .before .before .before .before .before .before .args .p) (numerable t (c .before .before .before .before .before .before .before)) (c .before .before .before .before .before .tally-token .result .literals) (c .before .before .before .before .before .tally-token .ensures .literals-are)) (sym (ap (λ (x : ℕ). drop x (c .before .before .before .before .before .before .before .past-bytes .result .now)) (sym (c .before .before .before .before .width-of .ensures)) ∙ sym (part.part-all (c .before .before .before .before .width-of .result) (c .before .before .before .before .before .before .before .past-bytes .result .now))))) ∙ sym (spell.prefixed-step (c .before .before .before .before .before .before .before .past-bytes .result .now) (c .before .before .before .before .before .before .if1 .left) (c .before .before .before .before .before .before .before .before .before .args .p) (c .before .before .before .before .before .before .before .before .before .args .k)) ∙ sym (c .before .before .before .before .before .before .before .past-bytes .ensures .numbered (c .before .before .before .before .before .before .before .before .before .args .p) (c .before .before .before .before .before .before .before .before .before .args .k))
+prefixed-by-returns-2 t c =
+    let at-prefixed-by = c .before .prefixed-by in
+    let at-width-of = c .before .before .before .before .width-of in
+    let at-tally-token = c .before .before .before .before .before .tally-token in
+    let at-if1 = c .before .before .before .before .before .before .if1 in
+    let at-past-bytes = c .before .before .before .before .before .before .before .past-bytes in
+    let at-start = c .before .before .before .before .before .before .before .before .before in
+    c .prefix-of .ensures ∙ ap (prefixOf (tokenIn (at-past-bytes .result .now)) (at-start .args .p)) (at-prefixed-by .ensures ∙ ap₂ (λ (x : ℕ) (l : List ℕ). prefixed (tokensIn l) (at-start .args .p * x) (at-start .args .k)) (spell.token-exact (at-past-bytes .result .now) (at-if1 .left) (at-start .args .p) (numerable t (c .before .before .before .before .before .before .before)) (at-tally-token .result .literals) (at-tally-token .ensures .literals-are)) (sym (ap (λ (x : ℕ). drop x (at-past-bytes .result .now)) (sym (at-width-of .ensures)) ∙ sym (part.part-all (at-width-of .result) (at-past-bytes .result .now))))) ∙ sym (spell.prefixed-step (at-past-bytes .result .now) (at-if1 .left) (at-start .args .p) (at-start .args .k)) ∙ sym (at-past-bytes .ensures .numbered (at-start .args .p) (at-start .args .k))
 
 pub +prefixed-by-spec : {M : Type 1} → statement M
 +prefixed-by-spec = close μ-prefixed-by λ t. prefixed-by-lts.spec (prefixed-by-cl t) (prefixed-by-at t)

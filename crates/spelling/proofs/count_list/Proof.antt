@@ -18,53 +18,55 @@ Inv-loop ws rest₀ n₀ rest n = (n ≤ 257) × (min 257 (count (flatIn ws)) �
 abbrev μ-loop : tie.MeasureT-loop
 μ-loop ws rest₀ n₀ rest n = length rest
 
--- src/lib.rt:179:5
 loop-holds : tie.Need-loop-holds Inv-loop μ-loop
-loop-holds c = (omega arith, ap (min 257) (sym (one-mul (count (flatIn (c .before .args .ws .now))))))
+loop-holds c =
+    let at-start = c .before in
+    (omega arith, ap (min 257) (sym (one-mul (count (flatIn (at-start .args .ws .now))))))
 
--- src/lib.rt:180:29
 shared-slice-read-taken-count : tie.Need-shared-slice-read-taken-count Inv-loop μ-loop
 shared-slice-read-taken-count c = search needs
 
--- src/lib.rt:180:38
 shared-slice-read-taken-count-2 : tie.Need-shared-slice-read-taken-count-2 Inv-loop μ-loop
 shared-slice-read-taken-count-2 c = search needs
 
--- src/lib.rt:180:47
 shared-slice-read-taken-count-3 : tie.Need-shared-slice-read-taken-count-3 Inv-loop μ-loop
 shared-slice-read-taken-count-3 c = search needs
 
--- src/lib.rt:180:13
 taken-count-requires : tie.Need-taken-count-requires Inv-loop μ-loop
 taken-count-requires c κs = search needs
 
--- src/lib.rt:181:9
 times-requires : tie.Need-times-requires Inv-loop μ-loop
-times-requires c κs = (c .before .before .before .before .before .loop .inv .0, omega (arith, c .taken-count .ensures .1))
+times-requires c κs =
+    let at-loop = c .before .before .before .before .before .loop in
+    (at-loop .inv .0, omega (arith, c .taken-count .ensures .1))
 
--- src/lib.rt:182:16
 sub-rest : tie.Need-sub-rest Inv-loop μ-loop
 sub-rest c = search needs
 
--- src/lib.rt:182:16
 part-rest-start : tie.Need-part-rest-start Inv-loop μ-loop
 part-rest-start c = search needs
 
--- src/lib.rt:182:16
 part-rest-end : tie.Need-part-rest-end Inv-loop μ-loop
 part-rest-end c = search needs
 
--- src/lib.rt:179:5
 loop-less : tie.Need-loop-less Inv-loop μ-loop
-loop-less c = part.part-less 4 (c .before .before .before .before .before .before .before .loop .rest .now) (omega arith) (c .before .before .before .before .before .before .loop-test .taken)
+loop-less c =
+    let at-loop-test = c .before .before .before .before .before .before .loop-test in
+    let at-loop = c .before .before .before .before .before .before .before .loop in
+    part.part-less 4 (at-loop .rest .now) (omega arith) (at-loop-test .taken)
 
--- src/lib.rt:179:5
 loop-again : tie.Need-loop-again Inv-loop μ-loop
-loop-again c = (omega (arith, c .before .times .ensures), c .before .before .before .before .before .before .before .loop .inv .1 ∙ law.flat-count-more (c .before .before .before .before .before .before .before .loop .n) (c .before .before .before .before .before .before .before .loop .rest .now) (c .before .before .before .before .before .before .loop-test .taken) ∙ ap₂ (λ (x : ℕ) (l : List ℕ). min 257 (x * count (flatIn l))) (sym (c .before .times .ensures ∙ ap (λ (y : ℕ). min 257 (c .before .before .before .before .before .before .before .loop .n * y)) (law.taken-capped (c .before .before .before .before .before .before .before .loop .rest .now) _ (c .before .before .taken-count .ensures .0) (c .before .before .taken-count .ensures .1)))) (sym (part.part-all 4 (c .before .before .before .before .before .before .before .loop .rest .now))))
+loop-again c =
+    let at-times = c .before .times in
+    let at-taken-count = c .before .before .taken-count in
+    let at-loop-test = c .before .before .before .before .before .before .loop-test in
+    let at-loop = c .before .before .before .before .before .before .before .loop in
+    (omega (arith, at-times .ensures), at-loop .inv .1 ∙ law.flat-count-more (at-loop .n) (at-loop .rest .now) (at-loop-test .taken) ∙ ap₂ (λ (x : ℕ) (l : List ℕ). min 257 (x * count (flatIn l))) (sym (at-times .ensures ∙ ap (λ (y : ℕ). min 257 (at-loop .n * y)) (law.taken-capped (at-loop .rest .now) _ (at-taken-count .ensures .0) (at-taken-count .ensures .1)))) (sym (part.part-all 4 (at-loop .rest .now))))
 
--- src/lib.rt:174:1
 returns : tie.Need-returns Inv-loop μ-loop
-returns c = sym (c .before .loop .inv .1 ∙ law.flat-count-end (c .before .loop .n) (c .before .loop .rest .now) (c .before .loop .inv .0) (omega (arith, c .loop-test .left)))
+returns c =
+    let at-loop = c .before .loop in
+    sym (at-loop .inv .1 ∙ law.flat-count-end (at-loop .n) (at-loop .rest .now) (at-loop .inv .0) (omega (arith, c .loop-test .left)))
 
 pub count-list-spec : {M : Type 1} → statement M
 count-list-spec =

@@ -21,65 +21,91 @@ Inv-loop ws rest₀ rest = (length rest ≤ length ws) × (plain (tokensIn ws) �
 abbrev μ-loop : tie.MeasureT-loop
 μ-loop ws rest₀ rest = length rest
 
--- src/lib.rt:150:5
 loop-holds : tie.Need-loop-holds Inv-loop μ-loop
 loop-holds c = (omega arith, refl)
 
--- src/lib.rt:151:13
 width-of-requires : tie.Need-width-of-requires Inv-loop μ-loop
 width-of-requires c κs = search needs
 
--- src/lib.rt:152:12
 shared-slice-read-if1 : tie.Need-shared-slice-read-if1 Inv-loop μ-loop
 shared-slice-read-if1 c = search needs
 
--- src/lib.rt:153:29
 sub-plain-lists : tie.Need-sub-plain-lists Inv-loop μ-loop
-sub-plain-lists c = omega (arith, (c .before .before .width-of .ensures), (step.width-long (c .before .before .before .before .loop .rest .now) (c .before .before .before .loop-test .taken)))
+sub-plain-lists c =
+    let at-width-of = c .before .before .width-of in
+    let at-loop-test = c .before .before .before .loop-test in
+    let at-loop = c .before .before .before .before .loop in
+    omega (arith, (at-width-of .ensures), (step.width-long (at-loop .rest .now) (at-loop-test .taken)))
 
--- src/lib.rt:153:29
 part-plain-lists-start : tie.Need-part-plain-lists-start Inv-loop μ-loop
-part-plain-lists-start c = omega (arith, (c .before .before .width-of .ensures), (step.width-long (c .before .before .before .before .loop .rest .now) (c .before .before .before .loop-test .taken)))
+part-plain-lists-start c =
+    let at-width-of = c .before .before .width-of in
+    let at-loop-test = c .before .before .before .loop-test in
+    let at-loop = c .before .before .before .before .loop in
+    omega (arith, (at-width-of .ensures), (step.width-long (at-loop .rest .now) (at-loop-test .taken)))
 
--- src/lib.rt:153:29
 part-plain-lists-end : tie.Need-part-plain-lists-end Inv-loop μ-loop
-part-plain-lists-end c = omega (arith, (c .before .before .width-of .ensures), (step.width-le (c .before .before .before .before .loop .rest .now) (c .before .before .before .loop-test .taken)))
+part-plain-lists-end c =
+    let at-width-of = c .before .before .width-of in
+    let at-loop-test = c .before .before .before .loop-test in
+    let at-loop = c .before .before .before .before .loop in
+    omega (arith, (at-width-of .ensures), (step.width-le (at-loop .rest .now) (at-loop-test .taken)))
 
--- src/lib.rt:153:17
 plain-lists-requires : tie.Need-plain-lists-requires Inv-loop μ-loop
 plain-lists-requires c κs = search needs
 
--- src/lib.rt:154:17
 returns : tie.Need-returns Inv-loop μ-loop
-returns c = sym (c .before .before .before .before .before .before .before .loop .inv .1 ∙ law.tokens-stop (c .before .before .before .before .before .before .before .loop .rest .now) (c .before .before .before .before .before .before .loop-test .taken) (c .before .before .before .if1 .taken) ((ap (λ (x : ℕ). plainLists (listsIn (take (x - 4) (drop 4 (c .before .before .before .before .before .before .before .loop .rest .now))))) (sym (step.width-inside (c .before .before .before .before .before .before .before .loop .rest .now) (c .before .before .before .if1 .taken)) ∙ sym (c .before .before .before .before .before .width-of .ensures)) ∙ sym (c .before .plain-lists .ensures) ∙ not-true _ (c .if2 .taken))))
+returns c =
+    let at-plain-lists = c .before .plain-lists in
+    let at-if1 = c .before .before .before .if1 in
+    let at-width-of = c .before .before .before .before .before .width-of in
+    let at-loop-test = c .before .before .before .before .before .before .loop-test in
+    let at-loop = c .before .before .before .before .before .before .before .loop in
+    sym (at-loop .inv .1 ∙ law.tokens-stop (at-loop .rest .now) (at-loop-test .taken) (at-if1 .taken) ((ap (λ (x : ℕ). plainLists (listsIn (take (x - 4) (drop 4 (at-loop .rest .now))))) (sym (step.width-inside (at-loop .rest .now) (at-if1 .taken)) ∙ sym (at-width-of .ensures)) ∙ sym (at-plain-lists .ensures) ∙ not-true _ (c .if2 .taken))))
 
--- src/lib.rt:157:16
 mul-rest : tie.Need-mul-rest Inv-loop μ-loop
-mul-rest c = omega (arith, (c .before .before .width-of .ensures), (step.width-le (c .before .before .before .before .loop .rest .now) (c .before .before .before .loop-test .taken)))
+mul-rest c =
+    let at-width-of = c .before .before .width-of in
+    let at-loop-test = c .before .before .before .loop-test in
+    let at-loop = c .before .before .before .before .loop in
+    omega (arith, (at-width-of .ensures), (step.width-le (at-loop .rest .now) (at-loop-test .taken)))
 
--- src/lib.rt:157:16
 sub-rest : tie.Need-sub-rest Inv-loop μ-loop
-sub-rest c = omega (arith, (c .before .before .width-of .ensures), (step.width-le (c .before .before .before .before .loop .rest .now) (c .before .before .before .loop-test .taken)))
+sub-rest c =
+    let at-width-of = c .before .before .width-of in
+    let at-loop-test = c .before .before .before .loop-test in
+    let at-loop = c .before .before .before .before .loop in
+    omega (arith, (at-width-of .ensures), (step.width-le (at-loop .rest .now) (at-loop-test .taken)))
 
--- src/lib.rt:157:16
 part-rest-start : tie.Need-part-rest-start Inv-loop μ-loop
-part-rest-start c = omega (arith, (c .before .before .width-of .ensures), (step.width-le (c .before .before .before .before .loop .rest .now) (c .before .before .before .loop-test .taken)))
+part-rest-start c =
+    let at-width-of = c .before .before .width-of in
+    let at-loop-test = c .before .before .before .loop-test in
+    let at-loop = c .before .before .before .before .loop in
+    omega (arith, (at-width-of .ensures), (step.width-le (at-loop .rest .now) (at-loop-test .taken)))
 
--- src/lib.rt:157:16
 part-rest-end : tie.Need-part-rest-end Inv-loop μ-loop
 part-rest-end c = search needs
 
--- src/lib.rt:150:5
 loop-less : tie.Need-loop-less Inv-loop μ-loop
-loop-less c = part.part-less _ (c .before .before .before .before .before .loop .rest .now) (omega (arith, (c .before .before .before .width-of .ensures), (step.width-long (c .before .before .before .before .before .loop .rest .now) (c .before .before .before .before .loop-test .taken)))) (c .before .before .before .before .loop-test .taken)
+loop-less c =
+    let at-width-of = c .before .before .before .width-of in
+    let at-loop-test = c .before .before .before .before .loop-test in
+    let at-loop = c .before .before .before .before .before .loop in
+    part.part-less _ (at-loop .rest .now) (omega (arith, (at-width-of .ensures), (step.width-long (at-loop .rest .now) (at-loop-test .taken)))) (at-loop-test .taken)
 
--- src/lib.rt:150:5
 loop-again : tie.Need-loop-again Inv-loop μ-loop
-loop-again c = (omega (arith, part.part-le (c .before .before .before .width-of .result) (c .before .before .before .before .before .loop .rest .now)), c .before .before .before .before .before .loop .inv .1 ∙ ⊎-elim (λ w. law.tokens-inside (c .before .before .before .before .before .loop .rest .now) (c .before .before .before .before .loop-test .taken) (w .0 .taken) (ap (λ (x : ℕ). plainLists (listsIn (take (x - 4) (drop 4 (c .before .before .before .before .before .loop .rest .now))))) (sym (step.width-inside (c .before .before .before .before .before .loop .rest .now) (w .0 .taken)) ∙ sym (c .before .before .before .width-of .ensures)) ∙ sym (w .2 .ensures) ∙ not-false _ (w .3 .left))) (λ w. law.tokens-other (c .before .before .before .before .before .loop .rest .now) (c .before .before .before .before .loop-test .taken) (w .left)) (c .before .if1 .came) ∙ ap (λ (l : List ℕ). plain (tokensIn l)) (ap (λ (x : ℕ). drop x (c .before .before .before .before .before .loop .rest .now)) (sym (c .before .before .before .width-of .ensures)) ∙ sym (part.part-all (c .before .before .before .width-of .result) (c .before .before .before .before .before .loop .rest .now))))
+loop-again c =
+    let at-if1 = c .before .if1 in
+    let at-width-of = c .before .before .before .width-of in
+    let at-loop-test = c .before .before .before .before .loop-test in
+    let at-loop = c .before .before .before .before .before .loop in
+    (omega (arith, part.part-le (at-width-of .result) (at-loop .rest .now)), at-loop .inv .1 ∙ ⊎-elim (λ w. law.tokens-inside (at-loop .rest .now) (at-loop-test .taken) (w .0 .taken) (ap (λ (x : ℕ). plainLists (listsIn (take (x - 4) (drop 4 (at-loop .rest .now))))) (sym (step.width-inside (at-loop .rest .now) (w .0 .taken)) ∙ sym (at-width-of .ensures)) ∙ sym (w .2 .ensures) ∙ not-false _ (w .3 .left))) (λ w. law.tokens-other (at-loop .rest .now) (at-loop-test .taken) (w .left)) (at-if1 .came) ∙ ap (λ (l : List ℕ). plain (tokensIn l)) (ap (λ (x : ℕ). drop x (at-loop .rest .now)) (sym (at-width-of .ensures)) ∙ sym (part.part-all (at-width-of .result) (at-loop .rest .now))))
 
--- src/lib.rt:146:1
 returns-2 : tie.Need-returns-2 Inv-loop μ-loop
-returns-2 c = sym (c .before .loop .inv .1 ∙ law.tokens-done (c .before .loop .rest .now) (omega (arith, c .loop-test .left)))
+returns-2 c =
+    let at-loop = c .before .loop in
+    sym (at-loop .inv .1 ∙ law.tokens-done (at-loop .rest .now) (omega (arith, c .loop-test .left)))
 
 pub is-plain-spec : {M : Type 1} → statement M
 is-plain-spec =

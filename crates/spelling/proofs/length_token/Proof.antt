@@ -10,37 +10,41 @@ use borrow.Author.Needs.{needs}
 use Rattle.spelling.proofs.length_token.Statement.{statement}
 use Rattle.spelling.proofs.length_token.Tie as tie
 
--- src/lib.rt:273:8
 shared-slice-read-if1 : tie.Need-shared-slice-read-if1
 shared-slice-read-if1 c = search needs
 
--- src/lib.rt:274:13
 end-of-requires : tie.Need-end-of-requires
 end-of-requires c κs = search needs
 
--- src/lib.rt:275:28
 sub-shortest-of : tie.Need-sub-shortest-of
-sub-shortest-of c = omega (arith, c .end-of .ensures, step.ends-long (c .before .before .before .before .args .ws .now) (c .before .before .before .before .pre))
+sub-shortest-of c =
+    let at-start = c .before .before .before .before in
+    omega (arith, c .end-of .ensures, step.ends-long (at-start .args .ws .now) (at-start .pre))
 
--- src/lib.rt:275:28
 part-shortest-of-start : tie.Need-part-shortest-of-start
-part-shortest-of-start c = omega (arith, c .end-of .ensures, step.ends-long (c .before .before .before .before .args .ws .now) (c .before .before .before .before .pre))
+part-shortest-of-start c =
+    let at-start = c .before .before .before .before in
+    omega (arith, c .end-of .ensures, step.ends-long (at-start .args .ws .now) (at-start .pre))
 
--- src/lib.rt:275:28
 part-shortest-of-end : tie.Need-part-shortest-of-end
-part-shortest-of-end c = omega (arith, c .end-of .ensures, step.ends-le (c .before .before .before .before .args .ws .now))
+part-shortest-of-end c =
+    let at-start = c .before .before .before .before in
+    omega (arith, c .end-of .ensures, step.ends-le (at-start .args .ws .now))
 
--- src/lib.rt:275:9
 shortest-of-requires : tie.Need-shortest-of-requires
 shortest-of-requires c κs = search needs
 
--- src/lib.rt:275:9
 returns : tie.Need-returns
-returns c = (c .shortest-of .ensures .0 ∙ ap (λ (x : ℕ). shortest (listsIn (take (x - 4) (drop 4 (c .before .before .before .before .before .before .args .ws .now))))) (c .before .before .end-of .ensures) ∙ sym (law.token-length-inside (c .before .before .before .before .before .before .args .ws .now) (c .before .before .before .if1 .taken)), law.token-length-fits (c .before .before .before .before .before .before .args .ws .now) (c .before .before .before .before .before .before .pre) (c .before .before .before .if1 .taken) _ (c .before .before .end-of .result) (c .before .before .end-of .ensures) (c .shortest-of .ensures .1))
+returns c =
+    let at-end-of = c .before .before .end-of in
+    let at-if1 = c .before .before .before .if1 in
+    let at-start = c .before .before .before .before .before .before in
+    (c .shortest-of .ensures .0 ∙ ap (λ (x : ℕ). shortest (listsIn (take (x - 4) (drop 4 (at-start .args .ws .now))))) (at-end-of .ensures) ∙ sym (law.token-length-inside (at-start .args .ws .now) (at-if1 .taken)), law.token-length-fits (at-start .args .ws .now) (at-start .pre) (at-if1 .taken) _ (at-end-of .result) (at-end-of .ensures) (c .shortest-of .ensures .1))
 
--- src/lib.rt:269:1
 returns-2 : tie.Need-returns-2
-returns-2 c = (sym (law.token-length-entry (c .before .before .before .args .ws .now) (c .if1 .left)), law.entry-fits (c .before .before .before .args .ws .now) (c .before .before .before .pre))
+returns-2 c =
+    let at-start = c .before .before .before in
+    (sym (law.token-length-entry (at-start .args .ws .now) (c .if1 .left)), law.entry-fits (at-start .args .ws .now) (at-start .pre))
 
 pub length-token-spec : {M : Type 1} → statement M
 length-token-spec =

@@ -14,41 +14,48 @@ use borrow.Author.Needs.{needs}
 use Rattle.spelling.proofs.number_of.Statement.{statement}
 use Rattle.spelling.proofs.number_of.Tie as tie
 
--- src/lib.rt:450:9
 returns : tie.Need-returns
-returns c = spell.single-any (c .before .before .args .ws .now) (c .before .before .pre .0) (c .before .before .args .p) (c .before .before .args .n) (c .before .before .args .k) (c .before .before .pre .1) (c .before .before .pre .2) (c .before .before .pre .3) (c .if1 .taken)
+returns c =
+    let at-start = c .before .before in
+    spell.single-any (at-start .args .ws .now) (at-start .pre .0) (at-start .args .p) (at-start .args .n) (at-start .args .k) (at-start .pre .1) (at-start .pre .2) (at-start .pre .3) (c .if1 .taken)
 
--- src/lib.rt:452:9
 width-of-requires : tie.Need-width-of-requires
 width-of-requires c κs = search needs
 
--- src/lib.rt:453:17
 mul-prefixed-by : tie.Need-mul-prefixed-by
-mul-prefixed-by c = omega (arith, (c .width-of .ensures), step.width-le (c .before .before .before .args .ws .now) (c .before .before .before .pre .0))
+mul-prefixed-by c =
+    let at-start = c .before .before .before in
+    omega (arith, (c .width-of .ensures), step.width-le (at-start .args .ws .now) (at-start .pre .0))
 
--- src/lib.rt:453:17
 sub-prefixed-by : tie.Need-sub-prefixed-by
-sub-prefixed-by c = omega (arith, (c .width-of .ensures), step.width-le (c .before .before .before .args .ws .now) (c .before .before .before .pre .0))
+sub-prefixed-by c =
+    let at-start = c .before .before .before in
+    omega (arith, (c .width-of .ensures), step.width-le (at-start .args .ws .now) (at-start .pre .0))
 
--- src/lib.rt:453:17
 part-prefixed-by-start : tie.Need-part-prefixed-by-start
-part-prefixed-by-start c = omega (arith, (c .width-of .ensures), step.width-le (c .before .before .before .args .ws .now) (c .before .before .before .pre .0))
+part-prefixed-by-start c =
+    let at-start = c .before .before .before in
+    omega (arith, (c .width-of .ensures), step.width-le (at-start .args .ws .now) (at-start .pre .0))
 
--- src/lib.rt:453:17
 part-prefixed-by-end : tie.Need-part-prefixed-by-end
 part-prefixed-by-end c = search needs
 
--- src/lib.rt:453:27
 mul-prefixed-by-2 : tie.Need-mul-prefixed-by-2
-mul-prefixed-by-2 c = omega (arith, mul-le-mul (spell.prefixes-few (c .before .before .before .before .args .ws .now) (c .before .before .before .before .pre .0) (c .before .before .before .before .args .p) (c .before .before .before .before .pre .1) (c .before .before .before .before .args .n) (c .before .before .before .before .pre .2)) (spell.c-le (c .before .before .before .before .args .ws .now) (c .before .before .before .before .pre .0) (c .before .before .before .before .args .p) (c .before .before .before .before .pre .1) (c .before .before .before .before .args .n) (c .before .before .before .before .pre .2)))
+mul-prefixed-by-2 c =
+    let at-start = c .before .before .before .before in
+    omega (arith, mul-le-mul (spell.prefixes-few (at-start .args .ws .now) (at-start .pre .0) (at-start .args .p) (at-start .pre .1) (at-start .args .n) (at-start .pre .2)) (spell.c-le (at-start .args .ws .now) (at-start .pre .0) (at-start .args .p) (at-start .pre .1) (at-start .args .n) (at-start .pre .2)))
 
--- src/lib.rt:453:5
 prefixed-by-requires : tie.Need-prefixed-by-requires
-prefixed-by-requires c κs = subst (λ (l : List ℕ). Numerable (c .before .before .before .before .args .p * c .before .before .before .before .args .n) (count (tokensIn l))) (ap (λ (x : ℕ). drop x (c .before .before .before .before .args .ws .now)) (sym (c .before .width-of .ensures)) ∙ sym (part.part-all (c .before .width-of .result) (c .before .before .before .before .args .ws .now))) (spell.after-numerable (c .before .before .before .before .args .ws .now) (c .before .before .before .before .pre .0) (c .before .before .before .before .args .p) (c .before .before .before .before .pre .1) (c .before .before .before .before .args .n) (c .before .before .before .before .pre .2))
+prefixed-by-requires c κs =
+    let at-width-of = c .before .width-of in
+    let at-start = c .before .before .before .before in
+    subst (λ (l : List ℕ). Numerable (at-start .args .p * at-start .args .n) (count (tokensIn l))) (ap (λ (x : ℕ). drop x (at-start .args .ws .now)) (sym (at-width-of .ensures)) ∙ sym (part.part-all (at-width-of .result) (at-start .args .ws .now))) (spell.after-numerable (at-start .args .ws .now) (at-start .pre .0) (at-start .args .p) (at-start .pre .1) (at-start .args .n) (at-start .pre .2))
 
--- src/lib.rt:445:1
 returns-2 : tie.Need-returns-2
-returns-2 c = ap (pieceOf (tokenIn (c .before .before .before .before .before .args .ws .now)) (c .before .before .before .before .before .args .p)) (c .prefixed-by .ensures ∙ ap₂ (λ (x : ℕ) (l : List ℕ). prefixed (tokensIn l) (c .before .before .before .before .before .args .p * x) (c .before .before .before .before .before .args .k)) (spell.token-exact (c .before .before .before .before .before .args .ws .now) (c .before .before .before .before .before .pre .0) (c .before .before .before .before .before .args .p) (c .before .before .before .before .before .pre .1) (c .before .before .before .before .before .args .n) (c .before .before .before .before .before .pre .2)) (sym (ap (λ (x : ℕ). drop x (c .before .before .before .before .before .args .ws .now)) (sym (c .before .before .width-of .ensures)) ∙ sym (part.part-all (c .before .before .width-of .result) (c .before .before .before .before .before .args .ws .now)))))
+returns-2 c =
+    let at-width-of = c .before .before .width-of in
+    let at-start = c .before .before .before .before .before in
+    ap (pieceOf (tokenIn (at-start .args .ws .now)) (at-start .args .p)) (c .prefixed-by .ensures ∙ ap₂ (λ (x : ℕ) (l : List ℕ). prefixed (tokensIn l) (at-start .args .p * x) (at-start .args .k)) (spell.token-exact (at-start .args .ws .now) (at-start .pre .0) (at-start .args .p) (at-start .pre .1) (at-start .args .n) (at-start .pre .2)) (sym (ap (λ (x : ℕ). drop x (at-start .args .ws .now)) (sym (at-width-of .ensures)) ∙ sym (part.part-all (at-width-of .result) (at-start .args .ws .now)))))
 
 pub number-of-spec : {M : Type 1} → statement M
 number-of-spec =

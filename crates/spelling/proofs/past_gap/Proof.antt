@@ -5,15 +5,14 @@ use borrow.Author.Needs.{needs}
 use Rattle.spelling.proofs.past_gap.Statement.{statement}
 use Rattle.spelling.proofs.past_gap.Tie as tie
 
--- src/lib.rt:85:30
 add-result : tie.Need-add-result
 add-result c = search needs
 
--- src/lib.rt:81:1
 returns : tie.Need-returns
-returns c = sym (law.gapped-below _ _ (c .before .args .gap) (c .if1 .taken))
+returns c =
+    let at-start = c .before in
+    sym (law.gapped-below _ _ (at-start .args .gap) (c .if1 .taken))
 
--- src/lib.rt:81:1
 returns-2 : tie.Need-returns-2
 returns-2 c = sym (law.gapped-above _ _ _ (omega (arith, c .if1 .left)))
 

@@ -2,17 +2,21 @@ use Rattle.spelling.proofs.PlainLaws as law
 use Rattle.spelling.proofs.plain_entry.Statement.{statement}
 use Rattle.spelling.proofs.plain_entry.Tie as tie
 
--- src/lib.rt:108:1
 returns : tie.Need-returns
-returns c = law.plain-01 _ (c .before .args .mask) (c .if1 .taken)
+returns c =
+    let at-start = c .before in
+    law.plain-01 _ (at-start .args .mask) (c .if1 .taken)
 
--- src/lib.rt:108:1
 returns-2 : tie.Need-returns-2
-returns-2 c = law.plain-23 _ (c .before .before .args .mask) (c .before .if1 .left) (c .if2 .taken)
+returns-2 c =
+    let at-if1 = c .before .if1 in
+    let at-start = c .before .before in
+    law.plain-23 _ (at-start .args .mask) (at-if1 .left) (c .if2 .taken)
 
--- src/lib.rt:108:1
 returns-3 : tie.Need-returns-3
-returns-3 c = law.plain-no _ (c .before .before .args .mask) (c .if2 .left)
+returns-3 c =
+    let at-start = c .before .before in
+    law.plain-no _ (at-start .args .mask) (c .if2 .left)
 
 pub plain-entry-spec : {M : Type 1} → statement M
 plain-entry-spec = tie.close (tie.spec returns returns-2 returns-3)

@@ -18,49 +18,52 @@ Inv-loop ws rest₀ rest = plainList (flatIn ws) ≡ plainList (flatIn rest)
 abbrev μ-loop : tie.MeasureT-loop
 μ-loop ws rest₀ rest = length rest
 
--- src/lib.rt:122:5
 loop-holds : tie.Need-loop-holds Inv-loop μ-loop
 loop-holds c = search needs
 
--- src/lib.rt:123:25
 shared-slice-read-plain-entry : tie.Need-shared-slice-read-plain-entry Inv-loop μ-loop
 shared-slice-read-plain-entry c = search needs
 
--- src/lib.rt:123:34
 shared-slice-read-plain-entry-2 : tie.Need-shared-slice-read-plain-entry-2 Inv-loop μ-loop
 shared-slice-read-plain-entry-2 c = search needs
 
--- src/lib.rt:123:13
 plain-entry-requires : tie.Need-plain-entry-requires Inv-loop μ-loop
 plain-entry-requires c κs = search needs
 
--- src/lib.rt:124:13
 returns : tie.Need-returns Inv-loop μ-loop
-returns c = sym (c .before .before .before .before .before .loop .inv ∙ law.list-stop (c .before .before .before .before .before .loop .rest .now) (c .before .before .before .before .loop-test .taken) (sym (c .before .plain-entry .ensures) ∙ not-true _ (c .if1 .taken)))
+returns c =
+    let at-plain-entry = c .before .plain-entry in
+    let at-loop-test = c .before .before .before .before .loop-test in
+    let at-loop = c .before .before .before .before .before .loop in
+    sym (at-loop .inv ∙ law.list-stop (at-loop .rest .now) (at-loop-test .taken) (sym (at-plain-entry .ensures) ∙ not-true _ (c .if1 .taken)))
 
--- src/lib.rt:126:16
 sub-rest : tie.Need-sub-rest Inv-loop μ-loop
 sub-rest c = search needs
 
--- src/lib.rt:126:16
 part-rest-start : tie.Need-part-rest-start Inv-loop μ-loop
 part-rest-start c = search needs
 
--- src/lib.rt:126:16
 part-rest-end : tie.Need-part-rest-end Inv-loop μ-loop
 part-rest-end c = search needs
 
--- src/lib.rt:122:5
 loop-less : tie.Need-loop-less Inv-loop μ-loop
-loop-less c = part.part-less 4 (c .before .before .before .before .before .before .loop .rest .now) (omega arith) (c .before .before .before .before .before .loop-test .taken)
+loop-less c =
+    let at-loop-test = c .before .before .before .before .before .loop-test in
+    let at-loop = c .before .before .before .before .before .before .loop in
+    part.part-less 4 (at-loop .rest .now) (omega arith) (at-loop-test .taken)
 
--- src/lib.rt:122:5
 loop-again : tie.Need-loop-again Inv-loop μ-loop
-loop-again c = c .before .before .before .before .before .before .loop .inv ∙ law.list-more (c .before .before .before .before .before .before .loop .rest .now) (c .before .before .before .before .before .loop-test .taken) (sym (c .before .before .plain-entry .ensures) ∙ not-false _ (c .before .if1 .left)) ∙ ap (λ (l : List ℕ). plainList (flatIn l)) (sym (part.part-all 4 (c .before .before .before .before .before .before .loop .rest .now)))
+loop-again c =
+    let at-if1 = c .before .if1 in
+    let at-plain-entry = c .before .before .plain-entry in
+    let at-loop-test = c .before .before .before .before .before .loop-test in
+    let at-loop = c .before .before .before .before .before .before .loop in
+    at-loop .inv ∙ law.list-more (at-loop .rest .now) (at-loop-test .taken) (sym (at-plain-entry .ensures) ∙ not-false _ (at-if1 .left)) ∙ ap (λ (l : List ℕ). plainList (flatIn l)) (sym (part.part-all 4 (at-loop .rest .now)))
 
--- src/lib.rt:118:1
 returns-2 : tie.Need-returns-2 Inv-loop μ-loop
-returns-2 c = sym (c .before .loop .inv ∙ law.list-end (c .before .loop .rest .now) (omega (arith, c .loop-test .left)))
+returns-2 c =
+    let at-loop = c .before .loop in
+    sym (at-loop .inv ∙ law.list-end (at-loop .rest .now) (omega (arith, c .loop-test .left)))
 
 pub plain-list-spec : {M : Type 1} → statement M
 plain-list-spec =

@@ -20,69 +20,97 @@ Inv-loop ls p q rest₀ left₀ rest left = (length rest ≤ length ls) × (coun
 abbrev μ-loop : tie.MeasureT-loop
 μ-loop ls p q rest₀ left₀ rest left = length rest
 
--- src/lib.rt:301:5
 loop-holds : tie.Need-loop-holds Inv-loop μ-loop
-loop-holds c = (omega arith, (c .before .pre) .1, refl)
+loop-holds c =
+    let at-start = c .before in
+    (omega arith, (at-start .pre) .1, refl)
 
--- src/lib.rt:302:13
 end-of-requires : tie.Need-end-of-requires Inv-loop μ-loop
 end-of-requires c κs = search needs
 
--- src/lib.rt:303:28
 sub-count-list : tie.Need-sub-count-list Inv-loop μ-loop
-sub-count-list c = omega (arith, (c .end-of .ensures), (step.ends-long (c .before .before .loop .rest .now) (c .before .loop-test .taken)))
+sub-count-list c =
+    let at-loop-test = c .before .loop-test in
+    let at-loop = c .before .before .loop in
+    omega (arith, (c .end-of .ensures), (step.ends-long (at-loop .rest .now) (at-loop-test .taken)))
 
--- src/lib.rt:303:28
 part-count-list-start : tie.Need-part-count-list-start Inv-loop μ-loop
-part-count-list-start c = omega (arith, (c .end-of .ensures), (step.ends-long (c .before .before .loop .rest .now) (c .before .loop-test .taken)))
+part-count-list-start c =
+    let at-loop-test = c .before .loop-test in
+    let at-loop = c .before .before .loop in
+    omega (arith, (c .end-of .ensures), (step.ends-long (at-loop .rest .now) (at-loop-test .taken)))
 
--- src/lib.rt:303:28
 part-count-list-end : tie.Need-part-count-list-end Inv-loop μ-loop
-part-count-list-end c = omega (arith, (c .end-of .ensures), (step.ends-le (c .before .before .loop .rest .now)))
+part-count-list-end c =
+    let at-loop = c .before .before .loop in
+    omega (arith, (c .end-of .ensures), (step.ends-le (at-loop .rest .now)))
 
--- src/lib.rt:303:13
 count-list-requires : tie.Need-count-list-requires Inv-loop μ-loop
 count-list-requires c κs = search needs
 
--- src/lib.rt:304:21
 mul-block : tie.Need-mul-block Inv-loop μ-loop
-mul-block c = omega (arith, mul-le-mul ((c .before .before .before .before .before .before .pre) .0) (part.capped _ _ (c .count-list .ensures)))
+mul-block c =
+    let at-start = c .before .before .before .before .before .before in
+    omega (arith, mul-le-mul ((at-start .pre) .0) (part.capped _ _ (c .count-list .ensures)))
 
--- src/lib.rt:306:20
 div-result : tie.Need-div-result Inv-loop μ-loop
-div-result c = pos-right (c .before .before .before .before .before .loop .left) (c .before .before .before .before .before .before .before .args .p) _ (c .if1 .taken)
+div-result c =
+    let at-loop = c .before .before .before .before .before .loop in
+    let at-start = c .before .before .before .before .before .before .before in
+    pos-right (at-loop .left) (at-start .args .p) _ (c .if1 .taken)
 
--- src/lib.rt:306:13
 returns : tie.Need-returns Inv-loop μ-loop
-returns c = sym (c .before .before .before .before .before .loop .inv .2 ∙ spell.prefix-found (c .before .before .before .before .before .loop .rest .now) (c .before .before .before .before .loop-test .taken) _ _ (c .before .before .before .end-of .ensures) (c .before .count-list .ensures) (c .before .before .before .before .before .loop .inv .1) (c .before .before .before .before .before .before .before .args .p) (c .before .before .before .before .before .loop .left) (c .if1 .taken))
+returns c =
+    let at-count-list = c .before .count-list in
+    let at-end-of = c .before .before .before .end-of in
+    let at-loop-test = c .before .before .before .before .loop-test in
+    let at-loop = c .before .before .before .before .before .loop in
+    let at-start = c .before .before .before .before .before .before .before in
+    sym (at-loop .inv .2 ∙ spell.prefix-found (at-loop .rest .now) (at-loop-test .taken) _ _ (at-end-of .ensures) (at-count-list .ensures) (at-loop .inv .1) (at-start .args .p) (at-loop .left) (c .if1 .taken))
 
--- src/lib.rt:309:16
 mul-rest : tie.Need-mul-rest Inv-loop μ-loop
-mul-rest c = omega (arith, (c .before .before .before .end-of .ensures), (step.ends-le (c .before .before .before .before .before .loop .rest .now)))
+mul-rest c =
+    let at-end-of = c .before .before .before .end-of in
+    let at-loop = c .before .before .before .before .before .loop in
+    omega (arith, (at-end-of .ensures), (step.ends-le (at-loop .rest .now)))
 
--- src/lib.rt:309:16
 sub-rest : tie.Need-sub-rest Inv-loop μ-loop
-sub-rest c = omega (arith, (c .before .before .before .end-of .ensures), (step.ends-le (c .before .before .before .before .before .loop .rest .now)))
+sub-rest c =
+    let at-end-of = c .before .before .before .end-of in
+    let at-loop = c .before .before .before .before .before .loop in
+    omega (arith, (at-end-of .ensures), (step.ends-le (at-loop .rest .now)))
 
--- src/lib.rt:309:16
 part-rest-start : tie.Need-part-rest-start Inv-loop μ-loop
-part-rest-start c = omega (arith, (c .before .before .before .end-of .ensures), (step.ends-le (c .before .before .before .before .before .loop .rest .now)))
+part-rest-start c =
+    let at-end-of = c .before .before .before .end-of in
+    let at-loop = c .before .before .before .before .before .loop in
+    omega (arith, (at-end-of .ensures), (step.ends-le (at-loop .rest .now)))
 
--- src/lib.rt:309:16
 part-rest-end : tie.Need-part-rest-end Inv-loop μ-loop
 part-rest-end c = search needs
 
--- src/lib.rt:301:5
 loop-less : tie.Need-loop-less Inv-loop μ-loop
-loop-less c = part.part-less _ (c .before .before .before .before .before .before .loop .rest .now) (omega (arith, (c .before .before .before .before .end-of .ensures), (step.ends-long (c .before .before .before .before .before .before .loop .rest .now) (c .before .before .before .before .before .loop-test .taken)))) (c .before .before .before .before .before .loop-test .taken)
+loop-less c =
+    let at-end-of = c .before .before .before .before .end-of in
+    let at-loop-test = c .before .before .before .before .before .loop-test in
+    let at-loop = c .before .before .before .before .before .before .loop in
+    part.part-less _ (at-loop .rest .now) (omega (arith, (at-end-of .ensures), (step.ends-long (at-loop .rest .now) (at-loop-test .taken)))) (at-loop-test .taken)
 
--- src/lib.rt:301:5
 loop-again : tie.Need-loop-again Inv-loop μ-loop
-loop-again c = (omega (arith, part.part-le (c .before .before .before .before .end-of .result) (c .before .before .before .before .before .before .loop .rest .now)), subst (λ (l : List ℕ). countIn (listsIn l) ≤ 256) (ap (λ (x : ℕ). drop x (c .before .before .before .before .before .before .loop .rest .now)) (sym (c .before .before .before .before .end-of .ensures)) ∙ sym (part.part-all (c .before .before .before .before .end-of .result) (c .before .before .before .before .before .before .loop .rest .now))) (spell.lists-few (c .before .before .before .before .before .before .loop .rest .now) (c .before .before .before .before .before .loop-test .taken) _ _ (c .before .before .before .before .end-of .ensures) (c .before .before .count-list .ensures) (c .before .before .before .before .before .before .loop .inv .1)), c .before .before .before .before .before .before .loop .inv .2 ∙ spell.prefix-passed (c .before .before .before .before .before .before .loop .rest .now) (c .before .before .before .before .before .loop-test .taken) _ _ (c .before .before .before .before .end-of .ensures) (c .before .before .count-list .ensures) (c .before .before .before .before .before .before .loop .inv .1) (c .before .before .before .before .before .before .before .before .args .p) (c .before .before .before .before .before .before .loop .left) (c .before .if1 .left) ∙ ap (λ (l : List ℕ). prefixIn (listsIn l) (c .before .before .before .before .before .before .before .before .args .p) (c .before .before .before .before .before .before .loop .left - c .before .before .before .before .before .before .before .before .args .p * c .before .before .count-list .result)) (ap (λ (x : ℕ). drop x (c .before .before .before .before .before .before .loop .rest .now)) (sym (c .before .before .before .before .end-of .ensures)) ∙ sym (part.part-all (c .before .before .before .before .end-of .result) (c .before .before .before .before .before .before .loop .rest .now))))
+loop-again c =
+    let at-if1 = c .before .if1 in
+    let at-count-list = c .before .before .count-list in
+    let at-end-of = c .before .before .before .before .end-of in
+    let at-loop-test = c .before .before .before .before .before .loop-test in
+    let at-loop = c .before .before .before .before .before .before .loop in
+    let at-start = c .before .before .before .before .before .before .before .before in
+    (omega (arith, part.part-le (at-end-of .result) (at-loop .rest .now)), subst (λ (l : List ℕ). countIn (listsIn l) ≤ 256) (ap (λ (x : ℕ). drop x (at-loop .rest .now)) (sym (at-end-of .ensures)) ∙ sym (part.part-all (at-end-of .result) (at-loop .rest .now))) (spell.lists-few (at-loop .rest .now) (at-loop-test .taken) _ _ (at-end-of .ensures) (at-count-list .ensures) (at-loop .inv .1)), at-loop .inv .2 ∙ spell.prefix-passed (at-loop .rest .now) (at-loop-test .taken) _ _ (at-end-of .ensures) (at-count-list .ensures) (at-loop .inv .1) (at-start .args .p) (at-loop .left) (at-if1 .left) ∙ ap (λ (l : List ℕ). prefixIn (listsIn l) (at-start .args .p) (at-loop .left - at-start .args .p * at-count-list .result)) (ap (λ (x : ℕ). drop x (at-loop .rest .now)) (sym (at-end-of .ensures)) ∙ sym (part.part-all (at-end-of .result) (at-loop .rest .now))))
 
--- src/lib.rt:295:1
 returns-2 : tie.Need-returns-2 Inv-loop μ-loop
-returns-2 c = sym (c .before .loop .inv .2 ∙ spell.prefix-end (c .before .loop .rest .now) (omega (arith, c .loop-test .left)) (c .before .before .before .args .p) (c .before .loop .left))
+returns-2 c =
+    let at-loop = c .before .loop in
+    let at-start = c .before .before .before in
+    sym (at-loop .inv .2 ∙ spell.prefix-end (at-loop .rest .now) (omega (arith, c .loop-test .left)) (at-start .args .p) (at-loop .left))
 
 pub prefix-in-spec : {M : Type 1} → statement M
 prefix-in-spec =

@@ -20,69 +20,88 @@ Inv-loop ws rest₀ literals₀ combinations₀ rest literals combinations = (le
 abbrev μ-loop : tie.MeasureT-loop
 μ-loop ws rest₀ literals₀ combinations₀ rest literals combinations = length rest
 
--- src/lib.rt:204:5
 loop-holds : tie.Need-loop-holds Inv-loop μ-loop
-loop-holds c = (omega arith, omega arith, omega arith, ap (min 257) (sym (zero-add (countIn (listsIn (c .before .args .ws .now))))), ap (min 257) (sym (one-mul (combinationsIn (listsIn (c .before .args .ws .now))))))
+loop-holds c =
+    let at-start = c .before in
+    (omega arith, omega arith, omega arith, ap (min 257) (sym (zero-add (countIn (listsIn (at-start .args .ws .now))))), ap (min 257) (sym (one-mul (combinationsIn (listsIn (at-start .args .ws .now))))))
 
--- src/lib.rt:205:13
 end-of-requires : tie.Need-end-of-requires Inv-loop μ-loop
 end-of-requires c κs = search needs
 
--- src/lib.rt:206:28
 sub-count-list : tie.Need-sub-count-list Inv-loop μ-loop
-sub-count-list c = omega (arith, (c .end-of .ensures), (step.ends-long (c .before .before .loop .rest .now) (c .before .loop-test .taken)))
+sub-count-list c =
+    let at-loop-test = c .before .loop-test in
+    let at-loop = c .before .before .loop in
+    omega (arith, (c .end-of .ensures), (step.ends-long (at-loop .rest .now) (at-loop-test .taken)))
 
--- src/lib.rt:206:28
 part-count-list-start : tie.Need-part-count-list-start Inv-loop μ-loop
-part-count-list-start c = omega (arith, (c .end-of .ensures), (step.ends-long (c .before .before .loop .rest .now) (c .before .loop-test .taken)))
+part-count-list-start c =
+    let at-loop-test = c .before .loop-test in
+    let at-loop = c .before .before .loop in
+    omega (arith, (c .end-of .ensures), (step.ends-long (at-loop .rest .now) (at-loop-test .taken)))
 
--- src/lib.rt:206:28
 part-count-list-end : tie.Need-part-count-list-end Inv-loop μ-loop
-part-count-list-end c = omega (arith, (c .end-of .ensures), (step.ends-le (c .before .before .loop .rest .now)))
+part-count-list-end c =
+    let at-loop = c .before .before .loop in
+    omega (arith, (c .end-of .ensures), (step.ends-le (at-loop .rest .now)))
 
--- src/lib.rt:206:13
 count-list-requires : tie.Need-count-list-requires Inv-loop μ-loop
 count-list-requires c κs = search needs
 
--- src/lib.rt:207:33
 add-smaller : tie.Need-add-smaller Inv-loop μ-loop
 add-smaller c = omega (arith, c .count-list .ensures)
 
--- src/lib.rt:207:9
 smaller-requires : tie.Need-smaller-requires Inv-loop μ-loop
 smaller-requires c κs = search needs
 
--- src/lib.rt:208:9
 times-requires : tie.Need-times-requires Inv-loop μ-loop
-times-requires c κs = (c .before .before .before .before .before .loop .inv .2, omega (arith, c .before .count-list .ensures))
+times-requires c κs =
+    let at-count-list = c .before .count-list in
+    let at-loop = c .before .before .before .before .before .loop in
+    (at-loop .inv .2, omega (arith, at-count-list .ensures))
 
--- src/lib.rt:209:16
 mul-rest : tie.Need-mul-rest Inv-loop μ-loop
-mul-rest c = omega (arith, (c .before .before .before .before .end-of .ensures), (step.ends-le (c .before .before .before .before .before .before .loop .rest .now)))
+mul-rest c =
+    let at-end-of = c .before .before .before .before .end-of in
+    let at-loop = c .before .before .before .before .before .before .loop in
+    omega (arith, (at-end-of .ensures), (step.ends-le (at-loop .rest .now)))
 
--- src/lib.rt:209:16
 sub-rest : tie.Need-sub-rest Inv-loop μ-loop
-sub-rest c = omega (arith, (c .before .before .before .before .end-of .ensures), (step.ends-le (c .before .before .before .before .before .before .loop .rest .now)))
+sub-rest c =
+    let at-end-of = c .before .before .before .before .end-of in
+    let at-loop = c .before .before .before .before .before .before .loop in
+    omega (arith, (at-end-of .ensures), (step.ends-le (at-loop .rest .now)))
 
--- src/lib.rt:209:16
 part-rest-start : tie.Need-part-rest-start Inv-loop μ-loop
-part-rest-start c = omega (arith, (c .before .before .before .before .end-of .ensures), (step.ends-le (c .before .before .before .before .before .before .loop .rest .now)))
+part-rest-start c =
+    let at-end-of = c .before .before .before .before .end-of in
+    let at-loop = c .before .before .before .before .before .before .loop in
+    omega (arith, (at-end-of .ensures), (step.ends-le (at-loop .rest .now)))
 
--- src/lib.rt:209:16
 part-rest-end : tie.Need-part-rest-end Inv-loop μ-loop
 part-rest-end c = search needs
 
--- src/lib.rt:204:5
 loop-less : tie.Need-loop-less Inv-loop μ-loop
-loop-less c = part.part-less _ (c .before .before .before .before .before .before .before .loop .rest .now) (omega (arith, (c .before .before .before .before .before .end-of .ensures), (step.ends-long (c .before .before .before .before .before .before .before .loop .rest .now) (c .before .before .before .before .before .before .loop-test .taken)))) (c .before .before .before .before .before .before .loop-test .taken)
+loop-less c =
+    let at-end-of = c .before .before .before .before .before .end-of in
+    let at-loop-test = c .before .before .before .before .before .before .loop-test in
+    let at-loop = c .before .before .before .before .before .before .before .loop in
+    part.part-less _ (at-loop .rest .now) (omega (arith, (at-end-of .ensures), (step.ends-long (at-loop .rest .now) (at-loop-test .taken)))) (at-loop-test .taken)
 
--- src/lib.rt:204:5
 loop-again : tie.Need-loop-again Inv-loop μ-loop
-loop-again c = (omega (arith, part.part-le (c .before .before .before .before .before .end-of .result) (c .before .before .before .before .before .before .before .loop .rest .now)), omega (arith, c .before .before .smaller .ensures), omega (arith, c .before .times .ensures), c .before .before .before .before .before .before .before .loop .inv .3 ∙ law.lists-count-more (c .before .before .before .before .before .before .before .loop .rest .now) (c .before .before .before .before .before .before .loop-test .taken) (c .before .before .before .before .before .before .before .loop .literals) ∙ ap₂ (λ (x : ℕ) (l : List ℕ). min 257 (x + countIn (listsIn l))) (sym (c .before .before .smaller .ensures ∙ ap (λ (y : ℕ). min 257 (c .before .before .before .before .before .before .before .loop .literals + y)) (c .before .before .before .count-list .ensures ∙ ap (λ (l : List ℕ). min 257 (count (flatIn l))) (ap (λ (x : ℕ). take (x - 4) (drop 4 (c .before .before .before .before .before .before .before .loop .rest .now))) (c .before .before .before .before .before .end-of .ensures))))) (ap (λ (x : ℕ). drop x (c .before .before .before .before .before .before .before .loop .rest .now)) (sym (c .before .before .before .before .before .end-of .ensures)) ∙ sym (part.part-all (c .before .before .before .before .before .end-of .result) (c .before .before .before .before .before .before .before .loop .rest .now))), c .before .before .before .before .before .before .before .loop .inv .4 ∙ law.lists-combinations-more (c .before .before .before .before .before .before .before .loop .rest .now) (c .before .before .before .before .before .before .loop-test .taken) (c .before .before .before .before .before .before .before .loop .combinations) ∙ ap₂ (λ (x : ℕ) (l : List ℕ). min 257 (x * combinationsIn (listsIn l))) (sym (c .before .times .ensures ∙ ap (λ (y : ℕ). min 257 (c .before .before .before .before .before .before .before .loop .combinations * y)) (c .before .before .before .count-list .ensures ∙ ap (λ (l : List ℕ). min 257 (count (flatIn l))) (ap (λ (x : ℕ). take (x - 4) (drop 4 (c .before .before .before .before .before .before .before .loop .rest .now))) (c .before .before .before .before .before .end-of .ensures))))) (ap (λ (x : ℕ). drop x (c .before .before .before .before .before .before .before .loop .rest .now)) (sym (c .before .before .before .before .before .end-of .ensures)) ∙ sym (part.part-all (c .before .before .before .before .before .end-of .result) (c .before .before .before .before .before .before .before .loop .rest .now))))
+loop-again c =
+    let at-times = c .before .times in
+    let at-smaller = c .before .before .smaller in
+    let at-count-list = c .before .before .before .count-list in
+    let at-end-of = c .before .before .before .before .before .end-of in
+    let at-loop-test = c .before .before .before .before .before .before .loop-test in
+    let at-loop = c .before .before .before .before .before .before .before .loop in
+    (omega (arith, part.part-le (at-end-of .result) (at-loop .rest .now)), omega (arith, at-smaller .ensures), omega (arith, at-times .ensures), at-loop .inv .3 ∙ law.lists-count-more (at-loop .rest .now) (at-loop-test .taken) (at-loop .literals) ∙ ap₂ (λ (x : ℕ) (l : List ℕ). min 257 (x + countIn (listsIn l))) (sym (at-smaller .ensures ∙ ap (λ (y : ℕ). min 257 (at-loop .literals + y)) (at-count-list .ensures ∙ ap (λ (l : List ℕ). min 257 (count (flatIn l))) (ap (λ (x : ℕ). take (x - 4) (drop 4 (at-loop .rest .now))) (at-end-of .ensures))))) (ap (λ (x : ℕ). drop x (at-loop .rest .now)) (sym (at-end-of .ensures)) ∙ sym (part.part-all (at-end-of .result) (at-loop .rest .now))), at-loop .inv .4 ∙ law.lists-combinations-more (at-loop .rest .now) (at-loop-test .taken) (at-loop .combinations) ∙ ap₂ (λ (x : ℕ) (l : List ℕ). min 257 (x * combinationsIn (listsIn l))) (sym (at-times .ensures ∙ ap (λ (y : ℕ). min 257 (at-loop .combinations * y)) (at-count-list .ensures ∙ ap (λ (l : List ℕ). min 257 (count (flatIn l))) (ap (λ (x : ℕ). take (x - 4) (drop 4 (at-loop .rest .now))) (at-end-of .ensures))))) (ap (λ (x : ℕ). drop x (at-loop .rest .now)) (sym (at-end-of .ensures)) ∙ sym (part.part-all (at-end-of .result) (at-loop .rest .now))))
 
--- src/lib.rt:198:1
 returns : tie.Need-returns Inv-loop μ-loop
-returns c = record { literals-are = sym (c .before .loop .inv .3 ∙ law.lists-count-end (c .before .loop .rest .now) (omega (arith, c .loop-test .left)) _ (c .before .loop .inv .1)); combinations-are = sym (c .before .loop .inv .4 ∙ law.lists-combinations-end (c .before .loop .rest .now) (omega (arith, c .loop-test .left)) _ (c .before .loop .inv .2)) }
+returns c =
+    let at-loop = c .before .loop in
+    record { literals-are = sym (at-loop .inv .3 ∙ law.lists-count-end (at-loop .rest .now) (omega (arith, c .loop-test .left)) _ (at-loop .inv .1)); combinations-are = sym (at-loop .inv .4 ∙ law.lists-combinations-end (at-loop .rest .now) (omega (arith, c .loop-test .left)) _ (at-loop .inv .2)) }
 
 pub tally-lists-spec : {M : Type 1} → statement M
 tally-lists-spec =

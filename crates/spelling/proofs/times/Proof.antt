@@ -4,15 +4,12 @@ use borrow.Author.Needs.{needs}
 use Rattle.spelling.proofs.times.Statement.{statement}
 use Rattle.spelling.proofs.times.Tie as tie
 
--- src/lib.rt:176:18
 mul-smaller : tie.Need-mul-smaller
 mul-smaller c = omega (arith, mul-le-mul (c .pre .0) (c .pre .1))
 
--- src/lib.rt:176:5
 smaller-requires : tie.Need-smaller-requires
 smaller-requires c κs = search needs
 
--- src/lib.rt:172:1
 returns : tie.Need-returns
 returns c = search needs
 

@@ -11,10 +11,15 @@ shared-slice-read-t7 : tie.Need-shared-slice-read-t7
 shared-slice-read-t7 c = search needs
 
 returns : tie.Need-returns
-returns c = last-some (c .before .before .args .s .now) (c .before .if1 .taken)
+returns c =
+    let at-if1 = c .before .if1 in
+    let at-start = c .before .before in
+    last-some (at-start .args .s .now) (at-if1 .taken)
 
 returns-2 : tie.Need-returns-2
-returns-2 c = last-none (c .before .args .s .now) (c .if1 .left)
+returns-2 c =
+    let at-start = c .before in
+    last-none (at-start .args .s .now) (c .if1 .left)
 
 pub last-byte-spec : {M : Type 1} → statement M
 last-byte-spec = tie.close (tie.spec sub-at shared-slice-read-t7 returns returns-2)

@@ -22,7 +22,9 @@ returns-4 c = rw (c .match .keys3)
 
 returns-5 : tie.Need-returns-5
 unfolding shape
-returns-5 c = let r = c .match .rest in no-test _ _ _ (c .before .if1 .left) (r .0 .0 .1) (r .0 .1) (r .1)
+returns-5 c =
+    let at-if1 = c .before .if1 in
+    let r = c .match .rest in no-test _ _ _ (at-if1 .left) (r .0 .0 .1) (r .0 .1) (r .1)
 
 pub tests-byte-spec : {M : Type 1} → statement M
 tests-byte-spec = tie.close (tie.spec returns returns-2 returns-3 returns-4 returns-5)

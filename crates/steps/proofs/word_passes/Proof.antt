@@ -30,7 +30,9 @@ returns-4 c = rw (c .match .keys3)
 
 returns-5 : tie.Need-returns-5
 unfolding shape
-returns-5 c = let r = c .match .rest in no-pass _ _ _ _ (c .before .if1 .left) (r .0 .0 .1) (r .0 .1) (r .1)
+returns-5 c =
+    let at-if1 = c .before .if1 in
+    let r = c .match .rest in no-pass _ _ _ _ (at-if1 .left) (r .0 .0 .1) (r .0 .1) (r .1)
 
 pub word-passes-spec : {M : Type 1} → statement M
 word-passes-spec =

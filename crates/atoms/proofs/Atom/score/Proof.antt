@@ -26,8 +26,10 @@ byte-score-requires c κs = search needs
 
 add-sum : tie.Need-add-sum Inv-loop μ-loop
 add-sum c =
-    let i = c .before .before .before .before .loop .i in
-    let l = c .before .before .before .before .before .before .args .bytes .now in
+    let at-loop = c .before .before .before .before .loop in
+    let at-start = c .before .before .before .before .before .before in
+    let i = at-loop .i in
+    let l = at-start .args .bytes .now in
     record { fits = omega (arith, byte-le (getD l i 0), window-le i l) }
 
 add-i : tie.Need-add-i Inv-loop μ-loop
@@ -37,19 +39,26 @@ loop-less : tie.Need-loop-less Inv-loop μ-loop
 loop-less c = search needs
 
 loop-again : tie.Need-loop-again Inv-loop μ-loop
-loop-again c = (
-  omega arith,
-  omega arith,
-  ap (λ (x : ℕ). c .before .before .before .before .loop .sum + x) (c .byte-score .ensures)
-      ∙ window-more (c .before .before .before .before .before .before .args .bytes .now) (c .before .before .before .before .loop .i) _ (omega arith)
-      (c .before .before .before .before .loop .inv .2),
-)
+loop-again c =
+    let at-loop = c .before .before .before .before .loop in
+    let at-start = c .before .before .before .before .before .before in (
+      omega arith,
+      omega arith,
+      ap (λ (x : ℕ). at-loop .sum + x) (c .byte-score .ensures)
+          ∙ window-more (at-start .args .bytes .now) (at-loop .i) _ (omega arith)
+          (at-loop .inv .2),
+    )
 
 returns : tie.Need-returns Inv-loop μ-loop
-returns c = let e : c .before .loop .i ≡ 4 = omega arith in rw e at (c .before .loop .inv .2)
+returns c =
+    let at-loop = c .before .loop in
+    let e : at-loop .i ≡ 4 = omega arith in rw e at (at-loop .inv .2)
 
 returns-2 : tie.Need-returns-2 Inv-loop μ-loop
-returns-2 c = window-whole (c .before .before .before .before .args .bytes .now) (c .before .before .loop .i) 4 _ (c .if1 .taken) (omega arith) (c .before .before .loop .inv .2)
+returns-2 c =
+    let at-loop = c .before .before .loop in
+    let at-start = c .before .before .before .before in
+    window-whole (at-start .args .bytes .now) (at-loop .i) 4 _ (c .if1 .taken) (omega arith) (at-loop .inv .2)
 
 pub score-spec : {M : Type 1} → statement M
 score-spec =

@@ -15,8 +15,12 @@ invert-requires : tie.Need-invert-requires
 invert-requires c κs = search needs
 
 returns : tie.Need-returns
-returns c = λ v h. c .invert .ensures v h
-    ∙ ap not (c .before .with .ensures v h ∙ ap (λ (t : Bool). eqb v (c .before .before .before .args .b) || t) (c .before .before .new .ensures v h) ∙ or-false (eqb v (c .before .before .before .args .b)))
+returns c =
+    let at-with = c .before .with in
+    let at-new = c .before .before .new in
+    let at-start = c .before .before .before in
+    λ v h. c .invert .ensures v h
+    ∙ ap not (at-with .ensures v h ∙ ap (λ (t : Bool). eqb v (at-start .args .b) || t) (at-new .ensures v h) ∙ or-false (eqb v (at-start .args .b)))
 
 pub all-but-spec : {M : Type 1} → statement M
 all-but-spec = tie.close (tie.spec new-requires with-requires invert-requires returns)

@@ -25,8 +25,10 @@ element-copy-out-t17 c = search needs
 
 returns : tie.Need-returns
 unfolding has
-returns c = λ v h.
-    let ws = c .before .before .before .before .args .t1 .words in
+returns c =
+    let at-start = c .before .before .before .before in
+    λ v h.
+    let ws = at-start .args .t1 .words in
     let word : Fits w64 (getD ws (v / 64) 0) = search needs in
     four (λ i. 18446744073709551615 - getD ws i 0) v h ∙ bit-not 64 (getD ws (v / 64) 0) (v % 64) (word .fits) (omega arith)
 

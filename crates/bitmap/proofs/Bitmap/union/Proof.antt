@@ -35,9 +35,11 @@ element-copy-out-t31 c = search needs
 
 returns : tie.Need-returns
 unfolding has
-returns c = λ v h.
-    let ws = c .before .before .before .before .before .before .before .before .args .t1 .words in
-    let us = c .before .before .before .before .before .before .before .before .args .t2 .words in
+returns c =
+    let at-start = c .before .before .before .before .before .before .before .before in
+    λ v h.
+    let ws = at-start .args .t1 .words in
+    let us = at-start .args .t2 .words in
     four (λ i. bitOr (getD ws i 0) (getD us i 0)) v h ∙ bit-or (getD ws (v / 64) 0) (getD us (v / 64) 0) (v % 64)
 
 pub union-spec : {M : Type 1} → statement M

@@ -31,8 +31,9 @@ element-write-self c = search needs
 returns : tie.Need-returns
 unfolding has
 returns c =
-    let four : length (c .before .args .t1 .words) ≡ 4 = search needs in
-    λ v h. set-one (c .before .args .t1 .words) (c .before .args .b) v (omega arith)
+    let at-start = c .before in
+    let four : length (at-start .args .t1 .words) ≡ 4 = search needs in
+    λ v h. set-one (at-start .args .t1 .words) (at-start .args .b) v (omega arith)
 
 pub with-spec : {M : Type 1} → statement M
 with-spec =
