@@ -93,7 +93,10 @@ loop-less c =
     let at-loop-test = c .before .before .before .before .before .loop-test in
     let at-loop = c .before .before .before .before .before .before .loop in
     let at-start = c .before .before .before .before .before .before .before .before in
-    let f = run.from-fits (at-start .args .ws .now) (at-start .args .first) (at-loop .at) _ (at-loop .top) (at-loop .inv) (at-start .pre .0) (at-loop-test .taken) (ap (λ (x : ℕ). at-loop .at + x) (at-width-of .ensures)) in let s = run.run-stretch (at-start .args .ws .now) (at-start .args .first) (at-loop .at) _ (at-loop .top) (at-loop .inv) (at-start .pre .0) (at-loop-test .taken) (ap (λ (x : ℕ). at-loop .at + x) (at-width-of .ensures)) _ _ refl (at-run-words .ensures .0) in omega (arith, f .1, s .ordered, s .inside)
+    let f = run.from-fits (at-start .args .ws .now) (at-start .args .first) (at-loop .at) _ (at-loop .top) (at-loop .inv) (at-start .pre .0) (at-loop-test .taken)
+    (ap (λ (x : ℕ). at-loop .at + x) (at-width-of .ensures)) in
+    let s = run.run-stretch (at-start .args .ws .now) (at-start .args .first) (at-loop .at) _ (at-loop .top) (at-loop .inv) (at-start .pre .0) (at-loop-test .taken)
+    (ap (λ (x : ℕ). at-loop .at + x) (at-width-of .ensures)) _ _ refl (at-run-words .ensures .0) in omega (arith, f .1, s .ordered, s .inside)
 
 loop-again : tie.Need-loop-again Inv-loop μ-loop
 loop-again c =

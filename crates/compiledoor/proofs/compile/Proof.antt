@@ -26,7 +26,14 @@ same-length-2 c = search needs
 
 -- src/lib.rt:51:1
 returns-3 : tie.Need-returns-3
-returns-3 c = law.door-text (c .before .before .before .before .before .before .before .before .before .before .before .before .args .text .now) (said (c .before .before .before .before .compile-text .result)) (c .before .before .before .before .before .before .before .before .before .before .before .before .args .forward .now) (c .before .before .before .before .compile-text .last .1 .0) (c .before .before .before .before .before .before .before .before .before .before .before .before .args .reverse .now) (c .before .before .before .before .compile-text .last .1 .1 .0) (law.both-fit (c .before .before .before .before .before .before .before .before .before .before .before .before .args .forward .now) (c .before .before .before .before .before .before .before .before .before .before .before .before .args .reverse .now) (c .before .before .before .before .before .before .before .before .if1 .left) (c .before .before .before .before .before .before .before .if2 .left)) (c .before .before .before .before .compile-text .ensures)
+returns-3 c =
+    law.door-text (c .before .before .before .before .before .before .before .before .before .before .before .before .args .text .now) (said (c .before .before .before .before .compile-text .result))
+    (c .before .before .before .before .before .before .before .before .before .before .before .before .args .forward .now) (c .before .before .before .before .compile-text .last .1 .0)
+    (c .before .before .before .before .before .before .before .before .before .before .before .before .args .reverse .now) (c .before .before .before .before .compile-text .last .1 .1 .0)
+    (law.both-fit (c .before .before .before .before .before .before .before .before .before .before .before .before .args .forward .now)
+    (c .before .before .before .before .before .before .before .before .before .before .before .before .args .reverse .now)
+    (c .before .before .before .before .before .before .before .before .if1 .left) (c .before .before .before .before .before .before .before .if2 .left))
+    (c .before .before .before .before .compile-text .ensures)
 
 pub compile-spec : {M : Type 1} → statement M
 compile-spec =

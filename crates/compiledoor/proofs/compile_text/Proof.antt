@@ -30,11 +30,23 @@ part-compile-tokens-start c = search needs
 
 -- src/lib.rt:40:39
 part-compile-tokens-end : tie.Need-part-compile-tokens-end
-part-compile-tokens-end c = let g = (law.got (c .before .before .before .before .before .before .before .before .before .before .args .text .now) _ (c .before .before .before .before .before .read .last .1 .0) (c .before .before .before .before .before .read .result) (c .before .before .before .before .before .read .ensures .0) (c .before .before .before .before .before .read .ensures .1) (le-refl 4096) (c .before .before .r .given .0 .0) (c .before .before .r .given .0 .1 .0) (c .before .before .r .given .1)) .fits in let k : length (c .before .before .before .before .before .read .last .1 .0) ≡ 4096 = c .before .before .before .before .before .read .kept .1 .0 in omega arith
+part-compile-tokens-end c =
+    let g = (law.got (c .before .before .before .before .before .before .before .before .before .before .args .text .now) _ (c .before .before .before .before .before .read .last .1 .0)
+    (c .before .before .before .before .before .read .result) (c .before .before .before .before .before .read .ensures .0) (c .before .before .before .before .before .read .ensures .1)
+    (le-refl 4096) (c .before .before .r .given .0 .0) (c .before .before .r .given .0 .1 .0) (c .before .before .r .given .1)) .fits in
+    let k : length (c .before .before .before .before .before .read .last .1 .0) ≡ 4096 = c .before .before .before .before .before .read .kept .1 .0 in omega arith
 
 -- src/lib.rt:40:17
 compile-tokens-requires : tie.Need-compile-tokens-requires
-compile-tokens-requires c κs = ((law.got (c .before .before .before .before .before .before .before .before .before .before .before .before .before .args .text .now) _ (c .before .before .before .before .before .before .before .before .read .last .1 .0) (c .before .before .before .before .before .before .before .before .read .result) (c .before .before .before .before .before .before .before .before .read .ensures .0) (c .before .before .before .before .before .before .before .before .read .ensures .1) (le-refl 4096) (c .before .before .before .before .before .r .given .0 .0) (c .before .before .before .before .before .r .given .0 .1 .0) (c .before .before .before .before .before .r .given .1)) .whole, c .before .before .before .before .before .before .before .before .before .before .before .before .before .pre .0, c .before .before .before .before .before .before .before .before .before .before .before .before .before .pre .1)
+compile-tokens-requires c κs = (
+  (law.got (c .before .before .before .before .before .before .before .before .before .before .before .before .before .args .text .now) _
+      (c .before .before .before .before .before .before .before .before .read .last .1 .0) (c .before .before .before .before .before .before .before .before .read .result)
+      (c .before .before .before .before .before .before .before .before .read .ensures .0) (c .before .before .before .before .before .before .before .before .read .ensures .1) (le-refl 4096)
+      (c .before .before .before .before .before .r .given .0 .0) (c .before .before .before .before .before .r .given .0 .1 .0)
+      (c .before .before .before .before .before .r .given .1)) .whole,
+  c .before .before .before .before .before .before .before .before .before .before .before .before .before .pre .0,
+  c .before .before .before .before .before .before .before .before .before .before .before .before .before .pre .1,
+)
 
 -- src/lib.rt:41:13
 answer-of-requires : tie.Need-answer-of-requires
@@ -58,7 +70,22 @@ same-length-2 c = search needs
 
 -- src/lib.rt:31:1
 returns : tie.Need-returns
-returns c = let g = law.got (c .before .before .before .before .before .before .before .before .before .before .before .before .before .before .before .before .before .before .before .args .text .now) _ (c .before .before .before .before .before .before .before .before .before .before .before .before .before .before .read .last .1 .0) (c .before .before .before .before .before .before .before .before .before .before .before .before .before .before .read .result) (c .before .before .before .before .before .before .before .before .before .before .before .before .before .before .read .ensures .0) (c .before .before .before .before .before .before .before .before .before .before .before .before .before .before .read .ensures .1) (le-refl 4096) (c .before .before .before .before .before .before .before .before .before .before .before .r .given .0 .0) (c .before .before .before .before .before .before .before .before .before .before .before .r .given .0 .1 .0) (c .before .before .before .before .before .before .before .before .before .before .before .r .given .1) in law.text-compiled (c .before .before .before .before .before .before .before .before .before .before .before .before .before .before .before .before .before .before .before .args .text .now) _ (g .tokens) (c .before .before .before .before .before .compile-tokens .result) (said (c .answer-of .result)) (c .before .before .before .before .before .before .before .before .before .before .before .before .before .before .before .before .before .before .before .args .forward .now) (c .before .before .before .before .before .compile-tokens .last .1 .0) (c .before .before .before .before .before .before .before .before .before .before .before .before .before .before .before .before .before .before .before .args .reverse .now) (c .before .before .before .before .before .compile-tokens .last .1 .1 .0) (g .outcome) (c .answer-of .ensures) (c .before .before .before .before .before .compile-tokens .ensures (g .tokens) (g .words) (g .spelled))
+returns c =
+    let g = law.got (c .before .before .before .before .before .before .before .before .before .before .before .before .before .before .before .before .before .before .before .args .text .now) _
+    (c .before .before .before .before .before .before .before .before .before .before .before .before .before .before .read .last .1 .0)
+    (c .before .before .before .before .before .before .before .before .before .before .before .before .before .before .read .result)
+    (c .before .before .before .before .before .before .before .before .before .before .before .before .before .before .read .ensures .0)
+    (c .before .before .before .before .before .before .before .before .before .before .before .before .before .before .read .ensures .1) (le-refl 4096)
+    (c .before .before .before .before .before .before .before .before .before .before .before .r .given .0 .0)
+    (c .before .before .before .before .before .before .before .before .before .before .before .r .given .0 .1 .0)
+    (c .before .before .before .before .before .before .before .before .before .before .before .r .given .1) in law.text-compiled
+    (c .before .before .before .before .before .before .before .before .before .before .before .before .before .before .before .before .before .before .before .args .text .now) _ (g .tokens)
+    (c .before .before .before .before .before .compile-tokens .result) (said (c .answer-of .result))
+    (c .before .before .before .before .before .before .before .before .before .before .before .before .before .before .before .before .before .before .before .args .forward .now)
+    (c .before .before .before .before .before .compile-tokens .last .1 .0)
+    (c .before .before .before .before .before .before .before .before .before .before .before .before .before .before .before .before .before .before .before .args .reverse .now)
+    (c .before .before .before .before .before .compile-tokens .last .1 .1 .0) (g .outcome) (c .answer-of .ensures)
+    (c .before .before .before .before .before .compile-tokens .ensures (g .tokens) (g .words) (g .spelled))
 
 -- src/lib.rt:31:1
 same-length-3 : tie.Need-same-length-3
@@ -70,7 +97,20 @@ same-length-4 c = search needs
 
 -- src/lib.rt:31:1
 returns-2 : tie.Need-returns-2
-returns-2 c = law.text-refused (c .before .before .before .before .before .before .before .before .before .before .before .before .before .before .before .before .args .text .now) (c .before .before .before .before .before .before .before .before .r2 .given .0 .0) (c .before .before .before .before .before .before .before .before .r2 .given .0 .1 .0) (c .before .before .before .before .before .before .before .before .before .before .before .before .before .before .before .before .args .forward .now) (c .before .before .before .before .clear .last .0) (c .before .before .before .before .before .before .before .before .before .before .before .before .before .before .before .before .args .reverse .now) (c .before .before .before .before .clear .last .1 .0) (law.got-refused (c .before .before .before .before .before .before .before .before .before .before .before .before .before .before .before .before .args .text .now) _ (c .before .before .before .before .before .before .before .before .before .before .before .read .last .1 .0) (c .before .before .before .before .before .before .before .before .before .before .before .read .result) (c .before .before .before .before .before .before .before .before .before .before .before .read .ensures .0) (c .before .before .before .before .before .before .before .before .before .before .before .read .ensures .1) (le-refl 4096) (c .before .before .before .before .before .before .before .before .r2 .given .0 .0) (c .before .before .before .before .before .before .before .before .r2 .given .0 .1 .0) (c .before .before .before .before .before .before .before .before .r2 .given .1)) (c .before .before .before .before .clear .ensures .0) (c .before .before .before .before .clear .ensures .1)
+returns-2 c =
+    law.text-refused (c .before .before .before .before .before .before .before .before .before .before .before .before .before .before .before .before .args .text .now)
+    (c .before .before .before .before .before .before .before .before .r2 .given .0 .0) (c .before .before .before .before .before .before .before .before .r2 .given .0 .1 .0)
+    (c .before .before .before .before .before .before .before .before .before .before .before .before .before .before .before .before .args .forward .now)
+    (c .before .before .before .before .clear .last .0)
+    (c .before .before .before .before .before .before .before .before .before .before .before .before .before .before .before .before .args .reverse .now)
+    (c .before .before .before .before .clear .last .1 .0)
+    (law.got-refused (c .before .before .before .before .before .before .before .before .before .before .before .before .before .before .before .before .args .text .now) _
+    (c .before .before .before .before .before .before .before .before .before .before .before .read .last .1 .0)
+    (c .before .before .before .before .before .before .before .before .before .before .before .read .result)
+    (c .before .before .before .before .before .before .before .before .before .before .before .read .ensures .0)
+    (c .before .before .before .before .before .before .before .before .before .before .before .read .ensures .1) (le-refl 4096)
+    (c .before .before .before .before .before .before .before .before .r2 .given .0 .0) (c .before .before .before .before .before .before .before .before .r2 .given .0 .1 .0)
+    (c .before .before .before .before .before .before .before .before .r2 .given .1)) (c .before .before .before .before .clear .ensures .0) (c .before .before .before .before .clear .ensures .1)
 
 pub compile-text-spec : {M : Type 1} → statement M
 compile-text-spec =

@@ -33,8 +33,13 @@ slice-aggregate-add-tokens c = search needs
 add-tokens-requires : tie.Need-add-tokens-requires
 add-tokens-requires c κs =
     let at-find-starts = c .before .before .before .before .find-starts in
-    let at-start = c .before .before .before .before .before .before .before .before .before in
-    (law.outlined (at-start .args .tokens .now) ((at-start .pre .0) .tokens) ((at-start .pre .0) .entered) ((at-start .pre .0) .spelled) (at-start .pre .1 ((at-start .pre .0) .tokens) ((at-start .pre .0) .entered)) (at-find-starts .result) _ _ ((at-find-starts .ensures ((at-start .pre .0) .tokens) ((at-start .pre .0) .entered)) .0) ((at-find-starts .ensures ((at-start .pre .0) .tokens) ((at-start .pre .0) .entered)) .1), (at-start .pre .0) .short, omega (arith, (at-start .pre .0) .short))
+    let at-start = c .before .before .before .before .before .before .before .before .before in (
+      law.outlined (at-start .args .tokens .now) ((at-start .pre .0) .tokens) ((at-start .pre .0) .entered) ((at-start .pre .0) .spelled)
+          (at-start .pre .1 ((at-start .pre .0) .tokens) ((at-start .pre .0) .entered)) (at-find-starts .result) _ _
+          ((at-find-starts .ensures ((at-start .pre .0) .tokens) ((at-start .pre .0) .entered)) .0) ((at-find-starts .ensures ((at-start .pre .0) .tokens) ((at-start .pre .0) .entered)) .1),
+      (at-start .pre .0) .short,
+      omega (arith, (at-start .pre .0) .short),
+    )
 
 sub-add-tokens-2 : tie.Need-sub-add-tokens-2
 sub-add-tokens-2 c = search needs
@@ -54,8 +59,13 @@ slice-aggregate-add-tokens-2 c = search needs
 add-tokens-requires-2 : tie.Need-add-tokens-requires-2
 add-tokens-requires-2 c κs =
     let at-find-starts = c .before .before .before .before .before .before .before .before .before .find-starts in
-    let at-start = c .before .before .before .before .before .before .before .before .before .before .before .before .before .before in
-    (law.outlined (at-start .args .tokens .now) ((at-start .pre .0) .tokens) ((at-start .pre .0) .entered) ((at-start .pre .0) .spelled) (at-start .pre .1 ((at-start .pre .0) .tokens) ((at-start .pre .0) .entered)) (at-find-starts .result) _ _ ((at-find-starts .ensures ((at-start .pre .0) .tokens) ((at-start .pre .0) .entered)) .0) ((at-find-starts .ensures ((at-start .pre .0) .tokens) ((at-start .pre .0) .entered)) .1), (at-start .pre .0) .short, omega (arith, (at-start .pre .0) .short))
+    let at-start = c .before .before .before .before .before .before .before .before .before .before .before .before .before .before in (
+      law.outlined (at-start .args .tokens .now) ((at-start .pre .0) .tokens) ((at-start .pre .0) .entered) ((at-start .pre .0) .spelled)
+          (at-start .pre .1 ((at-start .pre .0) .tokens) ((at-start .pre .0) .entered)) (at-find-starts .result) _ _
+          ((at-find-starts .ensures ((at-start .pre .0) .tokens) ((at-start .pre .0) .entered)) .0) ((at-find-starts .ensures ((at-start .pre .0) .tokens) ((at-start .pre .0) .entered)) .1),
+      (at-start .pre .0) .short,
+      omega (arith, (at-start .pre .0) .short),
+    )
 
 either-requires : tie.Need-either-requires
 either-requires c κs = search needs
@@ -72,7 +82,15 @@ finish-requires c κs =
     let at-add-tokens = c .before .before .before .before .before .before .before .before .before .before .before .add-tokens in
     let at-find-starts = c .before .before .before .before .before .before .before .before .before .before .before .before .before .before .before .before .find-starts in
     let at-start = c .before .before .before .before .before .before .before .before .before .before .before .before .before .before .before .before .before .before .before .before .before in
-    let l = (at-start .pre .0) .short in let a = law.program-few (at-start .args .tokens .now) ((at-start .pre .0) .tokens) ((at-start .pre .0) .entered) ((at-start .pre .0) .spelled) (at-start .pre .1 ((at-start .pre .0) .tokens) ((at-start .pre .0) .entered)) (at-find-starts .result) _ _ ((at-find-starts .ensures ((at-start .pre .0) .tokens) ((at-start .pre .0) .entered)) .0) ((at-find-starts .ensures ((at-start .pre .0) .tokens) ((at-start .pre .0) .entered)) .1) false in let b = law.program-few (at-start .args .tokens .now) ((at-start .pre .0) .tokens) ((at-start .pre .0) .entered) ((at-start .pre .0) .spelled) (at-start .pre .1 ((at-start .pre .0) .tokens) ((at-start .pre .0) .entered)) (at-find-starts .result) _ _ ((at-find-starts .ensures ((at-start .pre .0) .tokens) ((at-start .pre .0) .entered)) .0) ((at-find-starts .ensures ((at-start .pre .0) .tokens) ((at-start .pre .0) .entered)) .1) true in let m = at-add-tokens .ensures .0 in let k = at-add-tokens2 .ensures .0 in (omega arith, omega arith, at-start .pre .2, at-start .pre .3)
+    let l = (at-start .pre .0) .short in
+    let a = law.program-few (at-start .args .tokens .now) ((at-start .pre .0) .tokens) ((at-start .pre .0) .entered) ((at-start .pre .0) .spelled)
+    (at-start .pre .1 ((at-start .pre .0) .tokens) ((at-start .pre .0) .entered)) (at-find-starts .result) _ _
+    ((at-find-starts .ensures ((at-start .pre .0) .tokens) ((at-start .pre .0) .entered)) .0) ((at-find-starts .ensures ((at-start .pre .0) .tokens) ((at-start .pre .0) .entered)) .1) false in
+    let b = law.program-few (at-start .args .tokens .now) ((at-start .pre .0) .tokens) ((at-start .pre .0) .entered) ((at-start .pre .0) .spelled)
+    (at-start .pre .1 ((at-start .pre .0) .tokens) ((at-start .pre .0) .entered)) (at-find-starts .result) _ _
+    ((at-find-starts .ensures ((at-start .pre .0) .tokens) ((at-start .pre .0) .entered)) .0) ((at-find-starts .ensures ((at-start .pre .0) .tokens) ((at-start .pre .0) .entered)) .1) true in
+    let m = at-add-tokens .ensures .0 in
+    let k = at-add-tokens2 .ensures .0 in (omega arith, omega arith, at-start .pre .2, at-start .pre .3)
 
 same-length : tie.Need-same-length
 same-length c = search needs
@@ -88,7 +106,11 @@ returns c =
     let at-add-tokens = c .before .before .before .before .before .before .before .before .before .before .before .before .before .before .before .before .add-tokens in
     let at-find-starts = c .before .before .before .before .before .before .before .before .before .before .before .before .before .before .before .before .before .before .before .before .before .find-starts in
     let at-start = c .before .before .before .before .before .before .before .before .before .before .before .before .before .before .before .before .before .before .before .before .before .before .before .before .before .before in
-    λ ts e s. let q = at-find-starts .ensures ts e in subst (λ (x : Compiled). Makes x (at-finish .result) (at-start .args .forward .now) (at-finish .last .1 .1 .1 .1 .1 .0) (at-start .args .reverse .now) (at-finish .last .1 .1 .1 .1 .1 .1 .0)) (law.emitted (at-start .args .tokens .now) ts e s (at-start .pre .1 ts e) (at-find-starts .result) _ _ (q .0) (q .1) _ _ _ _ (at-add-tokens .result .count) (at-add-tokens2 .result .count) (at-add-tokens .result .long) (at-add-tokens2 .result .long) (at-either .result) (at-add-tokens .ensures .0) (at-add-tokens2 .ensures .0) (at-add-tokens .ensures .1) (at-add-tokens2 .ensures .1) (at-either .ensures) (at-add-tokens .ensures .2) (at-add-tokens2 .ensures .2)) (at-finish .ensures)
+    λ ts e s. let q = at-find-starts .ensures ts e in subst
+    (λ (x : Compiled). Makes x (at-finish .result) (at-start .args .forward .now) (at-finish .last .1 .1 .1 .1 .1 .0) (at-start .args .reverse .now) (at-finish .last .1 .1 .1 .1 .1 .1 .0))
+    (law.emitted (at-start .args .tokens .now) ts e s (at-start .pre .1 ts e) (at-find-starts .result) _ _ (q .0) (q .1) _ _ _ _ (at-add-tokens .result .count) (at-add-tokens2 .result .count)
+    (at-add-tokens .result .long) (at-add-tokens2 .result .long) (at-either .result) (at-add-tokens .ensures .0) (at-add-tokens2 .ensures .0) (at-add-tokens .ensures .1)
+    (at-add-tokens2 .ensures .1) (at-either .ensures) (at-add-tokens .ensures .2) (at-add-tokens2 .ensures .2)) (at-finish .ensures)
 
 pub compile-simple-spec : {M : Type 1} → statement M
 compile-simple-spec =

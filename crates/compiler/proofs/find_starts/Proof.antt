@@ -24,52 +24,99 @@ cast-starts : tie.Need-cast-starts Inv-loop μ-loop
 cast-starts c =
     let at-loop = c .before .loop in
     let at-start = c .before .before .before .before in
-    let s = alts.size-least (at-start .args .ws .now) (at-loop .at) in let f = law.marked-fits (at-start .args .ws .now) (at-start .args .starts .now) (at-loop .starts) (at-loop .at) (at-loop .n) ((at-start .pre .0) .tokens) (c .loop-test .taken) (at-loop .inv .1 ((at-start .pre .0) .tokens) ((at-start .pre .0) .entered)) in let l = (at-start .pre .0) .short in let g = (at-loop .inv .1 ((at-start .pre .0) .tokens) ((at-start .pre .0) .entered)) .few in let r = at-start .pre .1 in omega arith
+    let s = alts.size-least (at-start .args .ws .now) (at-loop .at) in
+    let f = law.marked-fits (at-start .args .ws .now) (at-start .args .starts .now) (at-loop .starts) (at-loop .at) (at-loop .n) ((at-start .pre .0) .tokens) (c .loop-test .taken)
+    (at-loop .inv .1 ((at-start .pre .0) .tokens) ((at-start .pre .0) .entered)) in
+    let l = (at-start .pre .0) .short in
+    let g = (at-loop .inv .1 ((at-start .pre .0) .tokens) ((at-start .pre .0) .entered)) .few in
+    let r = at-start .pre .1 in omega arith
 
 mul-starts : tie.Need-mul-starts Inv-loop μ-loop
 mul-starts c =
     let at-loop = c .before .loop in
     let at-start = c .before .before .before .before in
-    let s = alts.size-least (at-start .args .ws .now) (at-loop .at) in let f = law.marked-fits (at-start .args .ws .now) (at-start .args .starts .now) (at-loop .starts) (at-loop .at) (at-loop .n) ((at-start .pre .0) .tokens) (c .loop-test .taken) (at-loop .inv .1 ((at-start .pre .0) .tokens) ((at-start .pre .0) .entered)) in let l = (at-start .pre .0) .short in let g = (at-loop .inv .1 ((at-start .pre .0) .tokens) ((at-start .pre .0) .entered)) .few in let r = at-start .pre .1 in omega arith
+    let s = alts.size-least (at-start .args .ws .now) (at-loop .at) in
+    let f = law.marked-fits (at-start .args .ws .now) (at-start .args .starts .now) (at-loop .starts) (at-loop .at) (at-loop .n) ((at-start .pre .0) .tokens) (c .loop-test .taken)
+    (at-loop .inv .1 ((at-start .pre .0) .tokens) ((at-start .pre .0) .entered)) in
+    let l = (at-start .pre .0) .short in
+    let g = (at-loop .inv .1 ((at-start .pre .0) .tokens) ((at-start .pre .0) .entered)) .few in
+    let r = at-start .pre .1 in omega arith
 
 slice-write-starts : tie.Need-slice-write-starts Inv-loop μ-loop
 slice-write-starts c =
     let at-loop = c .before .loop in
     let at-start = c .before .before .before .before in
-    let s = alts.size-least (at-start .args .ws .now) (at-loop .at) in let f = law.marked-fits (at-start .args .ws .now) (at-start .args .starts .now) (at-loop .starts) (at-loop .at) (at-loop .n) ((at-start .pre .0) .tokens) (c .loop-test .taken) (at-loop .inv .1 ((at-start .pre .0) .tokens) ((at-start .pre .0) .entered)) in let l = (at-start .pre .0) .short in let g = (at-loop .inv .1 ((at-start .pre .0) .tokens) ((at-start .pre .0) .entered)) .few in let r = at-start .pre .1 in omega arith
+    let s = alts.size-least (at-start .args .ws .now) (at-loop .at) in
+    let f = law.marked-fits (at-start .args .ws .now) (at-start .args .starts .now) (at-loop .starts) (at-loop .at) (at-loop .n) ((at-start .pre .0) .tokens) (c .loop-test .taken)
+    (at-loop .inv .1 ((at-start .pre .0) .tokens) ((at-start .pre .0) .entered)) in
+    let l = (at-start .pre .0) .short in
+    let g = (at-loop .inv .1 ((at-start .pre .0) .tokens) ((at-start .pre .0) .entered)) .few in
+    let r = at-start .pre .1 in omega arith
 
 add-n : tie.Need-add-n Inv-loop μ-loop
 add-n c =
     let at-loop = c .before .loop in
     let at-start = c .before .before .before .before in
-    let s = alts.size-least (at-start .args .ws .now) (at-loop .at) in let f = law.marked-fits (at-start .args .ws .now) (at-start .args .starts .now) (at-loop .starts) (at-loop .at) (at-loop .n) ((at-start .pre .0) .tokens) (c .loop-test .taken) (at-loop .inv .1 ((at-start .pre .0) .tokens) ((at-start .pre .0) .entered)) in let l = (at-start .pre .0) .short in let g = (at-loop .inv .1 ((at-start .pre .0) .tokens) ((at-start .pre .0) .entered)) .few in let r = at-start .pre .1 in omega arith
+    let s = alts.size-least (at-start .args .ws .now) (at-loop .at) in
+    let f = law.marked-fits (at-start .args .ws .now) (at-start .args .starts .now) (at-loop .starts) (at-loop .at) (at-loop .n) ((at-start .pre .0) .tokens) (c .loop-test .taken)
+    (at-loop .inv .1 ((at-start .pre .0) .tokens) ((at-start .pre .0) .entered)) in
+    let l = (at-start .pre .0) .short in
+    let g = (at-loop .inv .1 ((at-start .pre .0) .tokens) ((at-start .pre .0) .entered)) .few in
+    let r = at-start .pre .1 in omega arith
 
 token-size-requires : tie.Need-token-size-requires Inv-loop μ-loop
 token-size-requires c κs =
     let at-loop = c .before .loop in
     let at-start = c .before .before .before .before in
-    let s = alts.size-least (at-start .args .ws .now) (at-loop .at) in let f = law.marked-fits (at-start .args .ws .now) (at-start .args .starts .now) (at-loop .starts) (at-loop .at) (at-loop .n) ((at-start .pre .0) .tokens) (c .loop-test .taken) (at-loop .inv .1 ((at-start .pre .0) .tokens) ((at-start .pre .0) .entered)) in let l = (at-start .pre .0) .short in let g = (at-loop .inv .1 ((at-start .pre .0) .tokens) ((at-start .pre .0) .entered)) .few in let r = at-start .pre .1 in omega arith
+    let s = alts.size-least (at-start .args .ws .now) (at-loop .at) in
+    let f = law.marked-fits (at-start .args .ws .now) (at-start .args .starts .now) (at-loop .starts) (at-loop .at) (at-loop .n) ((at-start .pre .0) .tokens) (c .loop-test .taken)
+    (at-loop .inv .1 ((at-start .pre .0) .tokens) ((at-start .pre .0) .entered)) in
+    let l = (at-start .pre .0) .short in
+    let g = (at-loop .inv .1 ((at-start .pre .0) .tokens) ((at-start .pre .0) .entered)) .few in
+    let r = at-start .pre .1 in omega arith
 
 add-at : tie.Need-add-at Inv-loop μ-loop
 add-at c =
     let at-loop-test = c .before .loop-test in
     let at-loop = c .before .before .loop in
     let at-start = c .before .before .before .before .before in
-    let s = alts.size-least (at-start .args .ws .now) (at-loop .at) in let f = law.marked-fits (at-start .args .ws .now) (at-start .args .starts .now) (at-loop .starts) (at-loop .at) (at-loop .n) ((at-start .pre .0) .tokens) (at-loop-test .taken) (at-loop .inv .1 ((at-start .pre .0) .tokens) ((at-start .pre .0) .entered)) in let l = (at-start .pre .0) .short in let g = (at-loop .inv .1 ((at-start .pre .0) .tokens) ((at-start .pre .0) .entered)) .few in let r = at-start .pre .1 in omega (arith, c .token-size .ensures)
+    let s = alts.size-least (at-start .args .ws .now) (at-loop .at) in
+    let f = law.marked-fits (at-start .args .ws .now) (at-start .args .starts .now) (at-loop .starts) (at-loop .at) (at-loop .n) ((at-start .pre .0) .tokens) (at-loop-test .taken)
+    (at-loop .inv .1 ((at-start .pre .0) .tokens) ((at-start .pre .0) .entered)) in
+    let l = (at-start .pre .0) .short in
+    let g = (at-loop .inv .1 ((at-start .pre .0) .tokens) ((at-start .pre .0) .entered)) .few in
+    let r = at-start .pre .1 in omega (arith, c .token-size .ensures)
 
 loop-less : tie.Need-loop-less Inv-loop μ-loop
 loop-less c =
     let at-loop-test = c .before .loop-test in
     let at-loop = c .before .before .loop in
     let at-start = c .before .before .before .before .before in
-    let s = alts.size-least (at-start .args .ws .now) (at-loop .at) in let f = law.marked-fits (at-start .args .ws .now) (at-start .args .starts .now) (at-loop .starts) (at-loop .at) (at-loop .n) ((at-start .pre .0) .tokens) (at-loop-test .taken) (at-loop .inv .1 ((at-start .pre .0) .tokens) ((at-start .pre .0) .entered)) in let l = (at-start .pre .0) .short in let g = (at-loop .inv .1 ((at-start .pre .0) .tokens) ((at-start .pre .0) .entered)) .few in let r = at-start .pre .1 in omega (arith, c .token-size .ensures)
+    let s = alts.size-least (at-start .args .ws .now) (at-loop .at) in
+    let f = law.marked-fits (at-start .args .ws .now) (at-start .args .starts .now) (at-loop .starts) (at-loop .at) (at-loop .n) ((at-start .pre .0) .tokens) (at-loop-test .taken)
+    (at-loop .inv .1 ((at-start .pre .0) .tokens) ((at-start .pre .0) .entered)) in
+    let l = (at-start .pre .0) .short in
+    let g = (at-loop .inv .1 ((at-start .pre .0) .tokens) ((at-start .pre .0) .entered)) .few in
+    let r = at-start .pre .1 in omega (arith, c .token-size .ensures)
 
 loop-again : tie.Need-loop-again Inv-loop μ-loop
 loop-again c =
     let at-loop-test = c .before .loop-test in
     let at-loop = c .before .before .loop in
     let at-start = c .before .before .before .before .before in
-    let s = alts.size-least (at-start .args .ws .now) (at-loop .at) in let f = law.marked-fits (at-start .args .ws .now) (at-start .args .starts .now) (at-loop .starts) (at-loop .at) (at-loop .n) ((at-start .pre .0) .tokens) (at-loop-test .taken) (at-loop .inv .1 ((at-start .pre .0) .tokens) ((at-start .pre .0) .entered)) in let l = (at-start .pre .0) .short in let g = (at-loop .inv .1 ((at-start .pre .0) .tokens) ((at-start .pre .0) .entered)) .few in let r = at-start .pre .1 in (length-set (at-loop .starts) (at-loop .n) _ ∙ at-loop .inv .0, λ ts e. subst (λ (k : ℕ). law.Marked (at-start .args .ws .now) (at-start .args .starts .now) (set (at-loop .starts) (at-loop .n) (at-loop .at)) ((at-loop .at) + k) ((at-loop .n) + 1) ts) (sym (c .token-size .ensures)) (law.marked-step (at-start .args .ws .now) (at-start .args .starts .now) (at-loop .starts) (at-loop .at) (at-loop .n) ts (at-loop-test .taken) (omega arith) (at-loop .inv .1 ts e)))
+    let s = alts.size-least (at-start .args .ws .now) (at-loop .at) in
+    let f = law.marked-fits (at-start .args .ws .now) (at-start .args .starts .now) (at-loop .starts) (at-loop .at) (at-loop .n) ((at-start .pre .0) .tokens) (at-loop-test .taken)
+    (at-loop .inv .1 ((at-start .pre .0) .tokens) ((at-start .pre .0) .entered)) in
+    let l = (at-start .pre .0) .short in
+    let g = (at-loop .inv .1 ((at-start .pre .0) .tokens) ((at-start .pre .0) .entered)) .few in
+    let r = at-start .pre .1 in (
+      length-set (at-loop .starts) (at-loop .n) _
+          ∙ at-loop .inv .0,
+      λ ts e. subst
+          (λ (k : ℕ). law.Marked (at-start .args .ws .now) (at-start .args .starts .now) (set (at-loop .starts) (at-loop .n) (at-loop .at)) ((at-loop .at) + k) ((at-loop .n) + 1) ts)
+          (sym (c .token-size .ensures))
+          (law.marked-step (at-start .args .ws .now) (at-start .args .starts .now) (at-loop .starts) (at-loop .at) (at-loop .n) ts (at-loop-test .taken) (omega arith) (at-loop .inv .1 ts e)),
+    )
 
 same-length : tie.Need-same-length Inv-loop μ-loop
 same-length c =

@@ -75,7 +75,10 @@ returns-4 c =
     let at-if2 = c .before .before .before .before .before .before .before .before .before .if2 in
     let at-if1 = c .before .before .before .before .before .before .before .before .before .before .if1 in
     let at-start = c .before .before .before .before .before .before .before .before .before .before .before .before .before .before .before in
-    law.made-both (at-start .args .n) (at-start .args .m) (take (at-start .args .n) (at-start .args .first .now)) (take (at-start .args .m) (at-start .args .second .now)) (at-start .args .forward .now) _ (at-start .args .reverse .now) _ (at-start .args .long) (at-if1 .left) (at-if2 .left) (at-if3 .left) (length-take-le (at-start .args .n) (at-start .args .first .now) (at-start .pre .0)) (length-take-le (at-start .args .m) (at-start .args .second .now) (at-start .pre .1)) (at-fill .ensures) (at-fill2 .ensures)
+    law.made-both (at-start .args .n) (at-start .args .m) (take (at-start .args .n) (at-start .args .first .now)) (take (at-start .args .m) (at-start .args .second .now))
+    (at-start .args .forward .now) _ (at-start .args .reverse .now) _ (at-start .args .long) (at-if1 .left) (at-if2 .left) (at-if3 .left)
+    (length-take-le (at-start .args .n) (at-start .args .first .now) (at-start .pre .0)) (length-take-le (at-start .args .m) (at-start .args .second .now) (at-start .pre .1)) (at-fill .ensures)
+    (at-fill2 .ensures)
 
 pub finish-spec : {M : Type 1} → statement M
 finish-spec =

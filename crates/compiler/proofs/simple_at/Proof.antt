@@ -89,7 +89,9 @@ unfolding simpleAt
 returns c =
     let at-if1 = c .before .before .before .if1 in
     let at-start = c .before .before .before .before .before .before in
-    let e : (at-start .args .at) + 4 + 4 * getD (at-start .args .ws .now) ((at-start .args .at) + 2) 0 - ((at-start .args .at) + 4) ≡ 4 * getD (at-start .args .ws .now) ((at-start .args .at) + 2) 0 = omega arith in rw (eq-eqb (getD (at-start .args .ws .now) (at-start .args .at) 0) 5 (at-if1 .taken)) (c .plain-entries .ensures ∙ ap (λ (n : ℕ). plainEntries (take n (drop ((at-start .args .at) + 4) (at-start .args .ws .now)))) e)
+    let e : (at-start .args .at) + 4 + 4 * getD (at-start .args .ws .now) ((at-start .args .at) + 2) 0 - ((at-start .args .at) + 4) ≡ 4 * getD (at-start .args .ws .now)
+    ((at-start .args .at) + 2) 0 = omega arith in rw (eq-eqb (getD (at-start .args .ws .now) (at-start .args .at) 0) 5 (at-if1 .taken))
+    (c .plain-entries .ensures ∙ ap (λ (n : ℕ). plainEntries (take n (drop ((at-start .args .at) + 4) (at-start .args .ws .now)))) e)
 
 add-jump-near : tie.Need-add-jump-near
 add-jump-near c =

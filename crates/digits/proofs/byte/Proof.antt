@@ -78,7 +78,13 @@ add-t9 c =
     let at-hex-digit = c .before .before .before .before .before .before .before .before .hex-digit in
     let at-peek = c .before .before .before .before .before .before .before .before .before .peek in
     let at-start = c .before .before .before .before .before .before .before .before .before .before .before in
-    omega (arith, digit-small (getD (at-start .args .text .now) (at-start .args .at) 0) (at-high .given .0 .0) (ap digit (sym (at-peek .ensures)) ∙ sym (at-hex-digit .ensures) ∙ ap valueOf (at-high .given .1)), digit-small (getD (at-start .args .text .now) ((at-start .args .at) + 1) 0) (at-low .given .0 .0) (ap digit (sym (at-peek2 .ensures)) ∙ sym (at-hex-digit2 .ensures) ∙ ap valueOf (at-low .given .1)))
+    omega (
+      arith,
+      digit-small (getD (at-start .args .text .now) (at-start .args .at) 0) (at-high .given .0 .0)
+          (ap digit (sym (at-peek .ensures)) ∙ sym (at-hex-digit .ensures) ∙ ap valueOf (at-high .given .1)),
+      digit-small (getD (at-start .args .text .now) ((at-start .args .at) + 1) 0)
+          (at-low .given .0 .0) (ap digit (sym (at-peek2 .ensures)) ∙ sym (at-hex-digit2 .ensures) ∙ ap valueOf (at-low .given .1)),
+    )
 
 add-t8 : tie.Need-add-t8
 add-t8 c =
@@ -108,7 +114,9 @@ returns-3 c =
     let at-hex-digit = c .before .before .before .before .before .before .before .before .before .hex-digit in
     let at-peek = c .before .before .before .before .before .before .before .before .before .before .peek in
     let at-start = c .before .before .before .before .before .before .before .before .before .before .before .before in
-    ap (λ (e : ℕ). found (whole (16 * (at-high .given .0 .0) + at-low .given .0 .0)) ((at-start .args .at) + 2) e) (c .skip-blanks .ensures) ∙ sym (byte-both (at-start .args .text .now) (at-start .args .at) (ap digit (sym (at-peek .ensures)) ∙ sym (at-hex-digit .ensures) ∙ ap valueOf (at-high .given .1)) (ap digit (sym (at-peek2 .ensures)) ∙ sym (at-hex-digit2 .ensures) ∙ ap valueOf (at-low .given .1)))
+    ap (λ (e : ℕ). found (whole (16 * (at-high .given .0 .0) + at-low .given .0 .0)) ((at-start .args .at) + 2) e) (c .skip-blanks .ensures)
+    ∙ sym (byte-both (at-start .args .text .now) (at-start .args .at) (ap digit (sym (at-peek .ensures)) ∙ sym (at-hex-digit .ensures) ∙ ap valueOf (at-high .given .1))
+    (ap digit (sym (at-peek2 .ensures)) ∙ sym (at-hex-digit2 .ensures) ∙ ap valueOf (at-low .given .1)))
 
 pub byte-spec : {M : Type 1} → statement M
 byte-spec =

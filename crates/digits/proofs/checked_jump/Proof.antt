@@ -55,7 +55,9 @@ returns-4 c =
     let at-both-are = c .before .before .before .both-are in
     let at-to = c .before .before .before .before .before .to in
     let at-start = c .before .before .before .before .before .before .before .before in
-    ap (λ (e : ℕ). found (between (at-start .args .from) (some (at-to .given .0 .0))) (at-start .args .stop) e) (c .skip-blanks2 .ensures) ∙ sym (checked-both (at-start .args .text .now) (at-start .args .at) (at-start .args .from) (at-to .given .0 .0) (at-start .args .stop) (sym (at-both-are .ensures) ∙ at-if1 .left) (at-if2 .left)) ∙ ap (λ (u : Upper). checked (at-start .args .text .now) (at-start .args .at) (at-start .args .from) (upperOf u) (at-start .args .stop)) (sym (at-to .given .1))
+    ap (λ (e : ℕ). found (between (at-start .args .from) (some (at-to .given .0 .0))) (at-start .args .stop) e) (c .skip-blanks2 .ensures)
+    ∙ sym (checked-both (at-start .args .text .now) (at-start .args .at) (at-start .args .from) (at-to .given .0 .0) (at-start .args .stop) (sym (at-both-are .ensures) ∙ at-if1 .left)
+    (at-if2 .left)) ∙ ap (λ (u : Upper). checked (at-start .args .text .now) (at-start .args .at) (at-start .args .from) (upperOf u) (at-start .args .stop)) (sym (at-to .given .1))
 
 pub checked-jump-spec : {M : Type 1} → statement M
 checked-jump-spec =

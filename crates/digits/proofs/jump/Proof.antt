@@ -28,7 +28,10 @@ returns c =
     let at-b = c .before .before .before .before .b in
     let at-range = c .before .before .before .before .before .before .range in
     let at-start = c .before .before .before .before .before .before .before .before in
-    sym (ap (jumped (at-start .args .inside) (at-start .args .at)) (sym (at-range .ensures) ∙ ap ranged (at-b .given .1) ∙ ap (λ (u : Upper). found (between (at-b .given .0 .0) (upperOf u)) (at-b .given .0 .1 .1 .0) (at-b .given .0 .1 .1 .1 .0)) (at-enum-told .given .1)) ∙ jumped-unbounded (at-start .args .at) (at-b .given .0 .0) (at-b .given .0 .1 .1 .0) (at-b .given .0 .1 .1 .1 .0) (at-start .args .inside) (c .if1 .taken))
+    sym (ap (jumped (at-start .args .inside) (at-start .args .at))
+    (sym (at-range .ensures) ∙ ap ranged (at-b .given .1)
+    ∙ ap (λ (u : Upper). found (between (at-b .given .0 .0) (upperOf u)) (at-b .given .0 .1 .1 .0) (at-b .given .0 .1 .1 .1 .0)) (at-enum-told .given .1))
+    ∙ jumped-unbounded (at-start .args .at) (at-b .given .0 .0) (at-b .given .0 .1 .1 .0) (at-b .given .0 .1 .1 .1 .0) (at-start .args .inside) (c .if1 .taken))
 
 returns-2 : tie.Need-returns-2
 returns-2 c =
@@ -36,7 +39,10 @@ returns-2 c =
     let at-b = c .before .before .before .before .b in
     let at-range = c .before .before .before .before .before .before .range in
     let at-start = c .before .before .before .before .before .before .before .before in
-    sym (ap (jumped (at-start .args .inside) (at-start .args .at)) (sym (at-range .ensures) ∙ ap ranged (at-b .given .1) ∙ ap (λ (u : Upper). found (between (at-b .given .0 .0) (upperOf u)) (at-b .given .0 .1 .1 .0) (at-b .given .0 .1 .1 .1 .0)) (at-enum-told .given .1)) ∙ jumped-open (at-start .args .at) (at-b .given .0 .0) (at-b .given .0 .1 .1 .0) (at-b .given .0 .1 .1 .1 .0) (at-start .args .inside) (c .if1 .left))
+    sym (ap (jumped (at-start .args .inside) (at-start .args .at))
+    (sym (at-range .ensures) ∙ ap ranged (at-b .given .1)
+    ∙ ap (λ (u : Upper). found (between (at-b .given .0 .0) (upperOf u)) (at-b .given .0 .1 .1 .0) (at-b .given .0 .1 .1 .1 .0)) (at-enum-told .given .1))
+    ∙ jumped-open (at-start .args .at) (at-b .given .0 .0) (at-b .given .0 .1 .1 .0) (at-b .given .0 .1 .1 .1 .0) (at-start .args .inside) (c .if1 .left))
 
 inside-too-big-requires : tie.Need-inside-too-big-requires
 inside-too-big-requires c κs = search needs
@@ -48,7 +54,11 @@ returns-3 c =
     let at-b = c .before .before .before .before .before .before .b in
     let at-range = c .before .before .before .before .before .before .before .before .range in
     let at-start = c .before .before .before .before .before .before .before .before .before .before in
-    sym (ap (jumped (at-start .args .inside) (at-start .args .at)) (sym (at-range .ensures) ∙ ap ranged (at-b .given .1) ∙ ap (λ (u : Upper). found (between (at-b .given .0 .0) (upperOf u)) (at-b .given .0 .1 .1 .0) (at-b .given .0 .1 .1 .1 .0)) (at-to .given .1)) ∙ jumped-big (at-start .args .at) (at-b .given .0 .0) (at-b .given .0 .1 .1 .0) (at-b .given .0 .1 .1 .1 .0) (at-start .args .inside) (at-to .given .0 .0) (sym (at-inside-too-big .ensures) ∙ c .if2 .taken))
+    sym (ap (jumped (at-start .args .inside) (at-start .args .at))
+    (sym (at-range .ensures) ∙ ap ranged (at-b .given .1)
+    ∙ ap (λ (u : Upper). found (between (at-b .given .0 .0) (upperOf u)) (at-b .given .0 .1 .1 .0) (at-b .given .0 .1 .1 .1 .0)) (at-to .given .1))
+    ∙ jumped-big (at-start .args .at) (at-b .given .0 .0) (at-b .given .0 .1 .1 .0) (at-b .given .0 .1 .1 .1 .0) (at-start .args .inside) (at-to .given .0 .0)
+    (sym (at-inside-too-big .ensures) ∙ c .if2 .taken))
 
 one-jump-requires : tie.Need-one-jump-requires
 one-jump-requires c κs = search needs
@@ -67,7 +77,12 @@ returns-4 c =
     let at-b = c .before .before .before .before .before .before .before .b in
     let at-range = c .before .before .before .before .before .before .before .before .before .range in
     let at-start = c .before .before .before .before .before .before .before .before .before .before .before in
-    ap (λ (k : Token). found k (at-b .given .0 .1 .1 .0) (at-b .given .0 .1 .1 .1 .0)) (c .one-jump .ensures) ∙ sym (ap (jumped (at-start .args .inside) (at-start .args .at)) (sym (at-range .ensures) ∙ ap ranged (at-b .given .1) ∙ ap (λ (u : Upper). found (between (at-b .given .0 .0) (upperOf u)) (at-b .given .0 .1 .1 .0) (at-b .given .0 .1 .1 .1 .0)) (at-to .given .1)) ∙ jumped-found (at-start .args .at) (at-b .given .0 .0) (at-b .given .0 .1 .1 .0) (at-b .given .0 .1 .1 .1 .0) (at-start .args .inside) (at-to .given .0 .0) (sym (at-inside-too-big .ensures) ∙ at-if2 .left))
+    ap (λ (k : Token). found k (at-b .given .0 .1 .1 .0) (at-b .given .0 .1 .1 .1 .0)) (c .one-jump .ensures)
+    ∙ sym (ap (jumped (at-start .args .inside) (at-start .args .at))
+    (sym (at-range .ensures) ∙ ap ranged (at-b .given .1)
+    ∙ ap (λ (u : Upper). found (between (at-b .given .0 .0) (upperOf u)) (at-b .given .0 .1 .1 .0) (at-b .given .0 .1 .1 .1 .0)) (at-to .given .1))
+    ∙ jumped-found (at-start .args .at) (at-b .given .0 .0) (at-b .given .0 .1 .1 .0) (at-b .given .0 .1 .1 .1 .0) (at-start .args .inside) (at-to .given .0 .0)
+    (sym (at-inside-too-big .ensures) ∙ at-if2 .left))
 
 returns-5 : tie.Need-returns-5
 unfolding jumped

@@ -58,7 +58,13 @@ returns-2 c =
     let at-in-range = c .before .before .before .before .before .before .in-range in
     let at-peek = c .before .before .before .before .before .before .before .peek in
     let at-start = c .before .before .before .before .before .before .before .before .before in
-    let z = number-none (at-start .args .text .now) (at-loop .value) (at-loop .i) (ap (within 48 57) (sym (at-peek2 .ensures)) ∙ sym (at-in-range2 .ensures) ∙ not-true (at-in-range2 .result) (at-if2 .taken)) in let w = at-loop .inv .1 in let q : (at-start .args .at) + decimals (drop (at-start .args .at) (at-start .args .text .now)) ≡ (at-loop .i) = omega arith in ap (λ (e : ℕ). found (at-loop .value) (at-loop .i) e) (c .skip-blanks .ensures) ∙ sym (number-found (at-start .args .text .now) (at-start .args .at) (ap (within 48 57) (sym (at-peek .ensures)) ∙ sym (at-in-range .ensures) ∙ not-false (at-in-range .result) (at-if1 .left)) (at-loop .inv .0 ∙ z .1) q (at-loop .inv .2))
+    let z = number-none (at-start .args .text .now) (at-loop .value) (at-loop .i)
+    (ap (within 48 57) (sym (at-peek2 .ensures)) ∙ sym (at-in-range2 .ensures) ∙ not-true (at-in-range2 .result) (at-if2 .taken)) in
+    let w = at-loop .inv .1 in
+    let q : (at-start .args .at) + decimals (drop (at-start .args .at) (at-start .args .text .now)) ≡ (at-loop .i) = omega arith in ap (λ (e : ℕ). found (at-loop .value) (at-loop .i) e)
+    (c .skip-blanks .ensures)
+    ∙ sym (number-found (at-start .args .text .now) (at-start .args .at) (ap (within 48 57) (sym (at-peek .ensures)) ∙ sym (at-in-range .ensures) ∙ not-false (at-in-range .result) (at-if1 .left))
+    (at-loop .inv .0 ∙ z .1) q (at-loop .inv .2))
 
 mul-value : tie.Need-mul-value Inv-loop μ-loop
 mul-value c =
@@ -96,7 +102,18 @@ returns-3 c =
     let at-in-range = c .before .before .before .before .before .before .before .in-range in
     let at-peek = c .before .before .before .before .before .before .before .before .peek in
     let at-start = c .before .before .before .before .before .before .before .before .before .before in
-    let p = at-peek2 .ensures in let d = within-true 48 57 (getD (at-start .args .text .now) (at-loop .i) 0) (ap (within 48 57) (sym (at-peek2 .ensures)) ∙ sym (at-in-range2 .ensures) ∙ not-false (at-in-range2 .result) (at-if2 .left)) in let l = at-loop .inv .2 in let w = at-wide .ensures in let n = number-next (at-start .args .text .now) (at-loop .value) (at-loop .i) (ap (within 48 57) (sym (at-peek2 .ensures)) ∙ sym (at-in-range2 .ensures) ∙ not-false (at-in-range2 .result) (at-if2 .left)) in let m = numeral-from (10 * (at-loop .value) + (getD (at-start .args .text .now) (at-loop .i) 0 - 48)) (drop ((at-loop .i) + 1) (at-start .args .text .now)) in let k = at-loop .inv .0 in let h = c .if3 .taken in let b : 4294967295 < numeral 0 (drop (at-start .args .at) (at-start .args .text .now)) = omega arith in sym (number-big (at-start .args .text .now) (at-start .args .at) (ap (within 48 57) (sym (at-peek .ensures)) ∙ sym (at-in-range .ensures) ∙ not-false (at-in-range .result) (at-if1 .left)) b)
+    let p = at-peek2 .ensures in
+    let d = within-true 48 57 (getD (at-start .args .text .now) (at-loop .i) 0)
+    (ap (within 48 57) (sym (at-peek2 .ensures)) ∙ sym (at-in-range2 .ensures) ∙ not-false (at-in-range2 .result) (at-if2 .left)) in
+    let l = at-loop .inv .2 in
+    let w = at-wide .ensures in
+    let n = number-next (at-start .args .text .now) (at-loop .value) (at-loop .i)
+    (ap (within 48 57) (sym (at-peek2 .ensures)) ∙ sym (at-in-range2 .ensures) ∙ not-false (at-in-range2 .result) (at-if2 .left)) in
+    let m = numeral-from (10 * (at-loop .value) + (getD (at-start .args .text .now) (at-loop .i) 0 - 48)) (drop ((at-loop .i) + 1) (at-start .args .text .now)) in
+    let k = at-loop .inv .0 in
+    let h = c .if3 .taken in
+    let b : 4294967295 < numeral 0 (drop (at-start .args .at) (at-start .args .text .now)) = omega arith in sym
+    (number-big (at-start .args .text .now) (at-start .args .at) (ap (within 48 57) (sym (at-peek .ensures)) ∙ sym (at-in-range .ensures) ∙ not-false (at-in-range .result) (at-if1 .left)) b)
 
 add-i : tie.Need-add-i Inv-loop μ-loop
 add-i c =
@@ -124,7 +141,16 @@ loop-again c =
     let at-peek2 = c .before .before .before .before .peek2 in
     let at-loop = c .before .before .before .before .before .loop in
     let at-start = c .before .before .before .before .before .before .before .before .before .before in
-    let p = at-peek2 .ensures in let d = within-true 48 57 (getD (at-start .args .text .now) (at-loop .i) 0) (ap (within 48 57) (sym (at-peek2 .ensures)) ∙ sym (at-in-range2 .ensures) ∙ not-false (at-in-range2 .result) (at-if2 .left)) in let l = at-loop .inv .2 in let w = at-wide .ensures in let n = number-next (at-start .args .text .now) (at-loop .value) (at-loop .i) (ap (within 48 57) (sym (at-peek2 .ensures)) ∙ sym (at-in-range2 .ensures) ∙ not-false (at-in-range2 .result) (at-if2 .left)) in let k = at-loop .inv .1 in let q : 10 * (at-loop .value) + (getD (at-start .args .text .now) (at-loop .i) 0 - 48) ≡ 10 * (at-loop .value) + at-wide .result = omega arith in (at-loop .inv .0 ∙ n .1 ∙ ap (λ (m : ℕ). numeral m (drop ((at-loop .i) + 1) (at-start .args .text .now))) q, omega arith, c .if3 .left)
+    let p = at-peek2 .ensures in
+    let d = within-true 48 57 (getD (at-start .args .text .now) (at-loop .i) 0)
+    (ap (within 48 57) (sym (at-peek2 .ensures)) ∙ sym (at-in-range2 .ensures) ∙ not-false (at-in-range2 .result) (at-if2 .left)) in
+    let l = at-loop .inv .2 in
+    let w = at-wide .ensures in
+    let n = number-next (at-start .args .text .now) (at-loop .value) (at-loop .i)
+    (ap (within 48 57) (sym (at-peek2 .ensures)) ∙ sym (at-in-range2 .ensures) ∙ not-false (at-in-range2 .result) (at-if2 .left)) in
+    let k = at-loop .inv .1 in
+    let q : 10 * (at-loop .value) + (getD (at-start .args .text .now) (at-loop .i) 0 - 48) ≡ 10 * (at-loop .value) + at-wide .result = omega arith in
+    (at-loop .inv .0 ∙ n .1 ∙ ap (λ (m : ℕ). numeral m (drop ((at-loop .i) + 1) (at-start .args .text .now))) q, omega arith, c .if3 .left)
 
 pub number-spec : {M : Type 1} → statement M
 number-spec =

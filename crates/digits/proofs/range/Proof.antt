@@ -57,7 +57,11 @@ returns-2 c =
     let at-if1 = c .before .before .before .before .before .before .before .before .if1 in
     let at-peek = c .before .before .before .before .before .before .before .before .before .peek in
     let at-start = c .before .before .before .before .before .before .before .before .before .before .before in
-    c .checked-jump .ensures ∙ sym (range-at (at-start .args .text .now) (at-start .args .at) (at-skip-blanks .result) (sym (at-peek .ensures) ∙ at-if1 .left) (at-skip-blanks .ensures) (sym (at-number .ensures) ∙ ap (numbered (at-skip-blanks .result)) (at-from .given .1)) ∙ lower-closed (at-start .args .text .now) (at-start .args .at) (at-skip-blanks .result) (at-from .given .0 .0) (at-from .given .0 .1 .0) (at-from .given .0 .1 .1 .0) (sym (at-peek2 .ensures) ∙ at-if2 .taken))
+    c .checked-jump .ensures
+    ∙ sym (range-at (at-start .args .text .now) (at-start .args .at) (at-skip-blanks .result) (sym (at-peek .ensures) ∙ at-if1 .left) (at-skip-blanks .ensures)
+    (sym (at-number .ensures) ∙ ap (numbered (at-skip-blanks .result)) (at-from .given .1))
+    ∙ lower-closed (at-start .args .text .now) (at-start .args .at) (at-skip-blanks .result) (at-from .given .0 .0) (at-from .given .0 .1 .0) (at-from .given .0 .1 .1 .0)
+    (sym (at-peek2 .ensures) ∙ at-if2 .taken))
 
 dashed-jump-requires : tie.Need-dashed-jump-requires
 dashed-jump-requires c κs = search needs
@@ -81,7 +85,11 @@ returns-3 c =
     let at-if1 = c .before .before .before .before .before .before .before .before .if1 in
     let at-peek = c .before .before .before .before .before .before .before .before .before .peek in
     let at-start = c .before .before .before .before .before .before .before .before .before .before .before in
-    c .dashed-jump .ensures ∙ sym (range-at (at-start .args .text .now) (at-start .args .at) (at-skip-blanks .result) (sym (at-peek .ensures) ∙ at-if1 .left) (at-skip-blanks .ensures) (sym (at-number .ensures) ∙ ap (numbered (at-skip-blanks .result)) (at-from .given .1)) ∙ lower-dash (at-start .args .text .now) (at-start .args .at) (at-skip-blanks .result) (at-from .given .0 .0) (at-from .given .0 .1 .0) (at-from .given .0 .1 .1 .0) (λ z. at-if2 .left (at-peek2 .ensures ∙ z)))
+    c .dashed-jump .ensures
+    ∙ sym (range-at (at-start .args .text .now) (at-start .args .at) (at-skip-blanks .result) (sym (at-peek .ensures) ∙ at-if1 .left) (at-skip-blanks .ensures)
+    (sym (at-number .ensures) ∙ ap (numbered (at-skip-blanks .result)) (at-from .given .1))
+    ∙ lower-dash (at-start .args .text .now) (at-start .args .at) (at-skip-blanks .result) (at-from .given .0 .0) (at-from .given .0 .1 .0) (at-from .given .0 .1 .1 .0)
+    (λ z. at-if2 .left (at-peek2 .ensures ∙ z)))
 
 returns-4 : tie.Need-returns-4
 unfolding lowerAt

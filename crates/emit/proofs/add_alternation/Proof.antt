@@ -99,13 +99,20 @@ part-add-lists-end-2 c =
 add-lists-requires : tie.Need-add-lists-requires
 add-lists-requires c κs =
     let at-start = c .before .before .before .before .before .before in
-    let f = law.alt-fits (at-start .args .tokens .now) (at-start .args .at) (at-start .pre .0) (at-start .pre .1) in let s = law.size-five (at-start .args .tokens .now) (at-start .args .at) (at-start .pre .1) in let pre = at-start .pre in let p = law.handed-long (at-start .args .tokens .now) (at-start .args .at) (at-start .pre .0) (at-start .pre .1) in (law.handed-listed (at-start .args .tokens .now) (at-start .args .at) (at-start .pre .0) (at-start .pre .1), omega arith, simp (length-take, length-drop) (omega arith))
+    let f = law.alt-fits (at-start .args .tokens .now) (at-start .args .at) (at-start .pre .0) (at-start .pre .1) in
+    let s = law.size-five (at-start .args .tokens .now) (at-start .args .at) (at-start .pre .1) in
+    let pre = at-start .pre in
+    let p = law.handed-long (at-start .args .tokens .now) (at-start .args .at) (at-start .pre .0) (at-start .pre .1) in
+    (law.handed-listed (at-start .args .tokens .now) (at-start .args .at) (at-start .pre .0) (at-start .pre .1), omega arith, simp (length-take, length-drop) (omega arith))
 
 cast-t23 : tie.Need-cast-t23
 cast-t23 c =
     let at-add-lists = c .before .before .add-lists in
     let at-start = c .before .before .before .before .before .before .before .before .before in
-    let f = law.alt-fits (at-start .args .tokens .now) (at-start .args .at) (at-start .pre .0) (at-start .pre .1) in let s = law.size-five (at-start .args .tokens .now) (at-start .args .at) (at-start .pre .1) in let pre = at-start .pre in omega (arith, law.handed-few (at-start .args .tokens .now) (at-start .args .at) (at-start .pre .0) (at-start .pre .1) (at-start .args .backwards), at-add-lists .ensures .0)
+    let f = law.alt-fits (at-start .args .tokens .now) (at-start .args .at) (at-start .pre .0) (at-start .pre .1) in
+    let s = law.size-five (at-start .args .tokens .now) (at-start .args .at) (at-start .pre .1) in
+    let pre = at-start .pre in omega
+    (arith, law.handed-few (at-start .args .tokens .now) (at-start .args .at) (at-start .pre .0) (at-start .pre .1) (at-start .args .backwards), at-add-lists .ensures .0)
 
 node-word-requires : tie.Need-node-word-requires
 node-word-requires c κs = search needs
@@ -127,7 +134,11 @@ returns : tie.Need-returns
 returns c =
     let at-add-lists = c .before .before .before .add-lists in
     let at-start = c .before .before .before .before .before .before .before .before .before .before in
-    let f = law.alt-fits (at-start .args .tokens .now) (at-start .args .at) (at-start .pre .0) (at-start .pre .1) in let s = law.size-five (at-start .args .tokens .now) (at-start .args .at) (at-start .pre .1) in let pre = at-start .pre in law.alternation (at-start .args .tokens .now) (at-start .args .at) (at-start .pre .0) (at-start .pre .1) (at-start .args .backwards) (at-start .args .out .now) (at-add-lists .last .1 .1 .1 .0) (at-add-lists .result .count) (c .node-word .result) (at-add-lists .result .long) (omega arith) (at-add-lists .ensures .0) (at-add-lists .ensures .1) (at-add-lists .ensures .2) (c .node-word .ensures)
+    let f = law.alt-fits (at-start .args .tokens .now) (at-start .args .at) (at-start .pre .0) (at-start .pre .1) in
+    let s = law.size-five (at-start .args .tokens .now) (at-start .args .at) (at-start .pre .1) in
+    let pre = at-start .pre in law.alternation (at-start .args .tokens .now) (at-start .args .at) (at-start .pre .0) (at-start .pre .1) (at-start .args .backwards) (at-start .args .out .now)
+    (at-add-lists .last .1 .1 .1 .0) (at-add-lists .result .count) (c .node-word .result) (at-add-lists .result .long) (omega arith) (at-add-lists .ensures .0) (at-add-lists .ensures .1)
+    (at-add-lists .ensures .2) (c .node-word .ensures)
 
 pub add-alternation-spec : {M : Type 1} → statement M
 add-alternation-spec =

@@ -132,7 +132,14 @@ add-list-requires c κs =
     let at-loop-test = c .before .before .before .loop-test in
     let at-loop = c .before .before .before .before .loop in
     let at-start = c .before .before .before .before .before .before .before in
-    let f = law.list-fits (at-start .args .backwards) (at-start .args .lists) (at-start .args .entries .now) (at-start .args .out .now) (at-loop .out) (at-loop .x) (at-loop .n) (at-loop .l) (at-loop .long) (at-loop .inv) (at-loop-test .taken) in let g = at-loop .inv .few in let w = at-loop .inv .within in let s = at-loop .inv .same in let pre = at-start .pre in let p = law.part-long (at-start .args .backwards) (at-start .args .lists) (at-start .args .entries .now) (at-start .args .out .now) (at-loop .out) (at-loop .x) (at-loop .n) (at-loop .l) (at-loop .long) (at-loop .inv) (at-loop-test .taken) in simp (length-take, length-drop) (omega arith)
+    let f = law.list-fits (at-start .args .backwards) (at-start .args .lists) (at-start .args .entries .now) (at-start .args .out .now) (at-loop .out) (at-loop .x) (at-loop .n) (at-loop .l)
+    (at-loop .long) (at-loop .inv) (at-loop-test .taken) in
+    let g = at-loop .inv .few in
+    let w = at-loop .inv .within in
+    let s = at-loop .inv .same in
+    let pre = at-start .pre in
+    let p = law.part-long (at-start .args .backwards) (at-start .args .lists) (at-start .args .entries .now) (at-start .args .out .now) (at-loop .out) (at-loop .x) (at-loop .n) (at-loop .l)
+    (at-loop .long) (at-loop .inv) (at-loop-test .taken) in simp (length-take, length-drop) (omega arith)
 
 branch-word-requires : tie.Need-branch-word-requires Inv-loop μ-loop
 branch-word-requires c κs =
@@ -140,7 +147,17 @@ branch-word-requires c κs =
     let at-loop-test = c .before .before .before .before .before .before .loop-test in
     let at-loop = c .before .before .before .before .before .before .before .loop in
     let at-start = c .before .before .before .before .before .before .before .before .before .before in
-    let f = law.list-fits (at-start .args .backwards) (at-start .args .lists) (at-start .args .entries .now) (at-start .args .out .now) (at-loop .out) (at-loop .x) (at-loop .n) (at-loop .l) (at-loop .long) (at-loop .inv) (at-loop-test .taken) in let g = at-loop .inv .few in let w = at-loop .inv .within in let s = at-loop .inv .same in let pre = at-start .pre in omega (arith, law.listed-few (at-start .args .backwards) (at-start .args .lists) (at-start .args .entries .now) (at-start .args .out .now) (at-loop .out) (at-loop .x) (at-loop .n) (at-loop .l) (at-loop .long) (at-loop .inv) (at-loop-test .taken), at-add-list .ensures .0)
+    let f = law.list-fits (at-start .args .backwards) (at-start .args .lists) (at-start .args .entries .now) (at-start .args .out .now) (at-loop .out) (at-loop .x) (at-loop .n) (at-loop .l)
+    (at-loop .long) (at-loop .inv) (at-loop-test .taken) in
+    let g = at-loop .inv .few in
+    let w = at-loop .inv .within in
+    let s = at-loop .inv .same in
+    let pre = at-start .pre in omega (
+      arith,
+      law.listed-few (at-start .args .backwards) (at-start .args .lists) (at-start .args .entries .now) (at-start .args .out .now) (at-loop .out) (at-loop .x) (at-loop .n) (at-loop .l)
+          (at-loop .long) (at-loop .inv) (at-loop-test .taken),
+      at-add-list .ensures .0,
+    )
 
 mul-out : tie.Need-mul-out Inv-loop μ-loop
 mul-out c =
@@ -178,7 +195,9 @@ loop-again c =
     let at-loop-test = c .before .before .before .before .before .before .before .before .loop-test in
     let at-loop = c .before .before .before .before .before .before .before .before .before .loop in
     let at-start = c .before .before .before .before .before .before .before .before .before .before .before .before in
-    law.left-more (at-start .args .backwards) (at-start .args .lists) (at-start .args .entries .now) (at-start .args .out .now) (at-loop .out) (at-loop .x) (at-loop .n) (at-loop .l) (at-loop .long) (at-loop .inv) (at-loop-test .taken) (at-add-list .last .1 .1 .0) (at-add-list .result) (at-branch-word .result) (c .longer .result) (at-start .pre .2) (at-add-list .ensures .0) (at-add-list .ensures .1) (at-branch-word .ensures) (c .longer .ensures)
+    law.left-more (at-start .args .backwards) (at-start .args .lists) (at-start .args .entries .now) (at-start .args .out .now) (at-loop .out) (at-loop .x) (at-loop .n) (at-loop .l) (at-loop .long)
+    (at-loop .inv) (at-loop-test .taken) (at-add-list .last .1 .1 .0) (at-add-list .result) (at-branch-word .result) (c .longer .result) (at-start .pre .2) (at-add-list .ensures .0)
+    (at-add-list .ensures .1) (at-branch-word .ensures) (c .longer .ensures)
 
 same-length : tie.Need-same-length Inv-loop μ-loop
 same-length c = search needs

@@ -61,7 +61,13 @@ returns c =
     let at-add-alternation = c .before .before .before .before .add-alternation in
     let at-if1 = c .before .before .before .before .before .before .if1 in
     let at-start = c .before .before .before .before .before .before .before .before .before .before in
-    let s = law.size-least (at-start .args .tokens .now) (at-start .args .at) in let f = at-start .pre .0 .fits in let pre = at-start .pre in law.step-alt (at-start .args .out .now) (at-start .args .n) (at-start .args .last) (at-start .args .long) (altAt (at-start .args .backwards) (at-start .args .tokens .now) (at-start .args .at)) (tokenAt (at-start .args .backwards) (at-start .args .tokens .now) (at-start .args .at)) (at-add-alternation .last .1 .1 .1 .0) (at-add-alternation .result .count) (at-add-alternation .result .long) (c .either .result) (law.token-five (at-start .args .tokens .now) (at-start .args .at) (at-start .args .backwards) (at-if1 .taken)) (omega arith) (at-add-alternation .ensures .0) (at-add-alternation .ensures .1) (c .either .ensures) (at-add-alternation .ensures .2)
+    let s = law.size-least (at-start .args .tokens .now) (at-start .args .at) in
+    let f = at-start .pre .0 .fits in
+    let pre = at-start .pre in law.step-alt (at-start .args .out .now) (at-start .args .n) (at-start .args .last) (at-start .args .long)
+    (altAt (at-start .args .backwards) (at-start .args .tokens .now) (at-start .args .at)) (tokenAt (at-start .args .backwards) (at-start .args .tokens .now) (at-start .args .at))
+    (at-add-alternation .last .1 .1 .1 .0) (at-add-alternation .result .count) (at-add-alternation .result .long) (c .either .result)
+    (law.token-five (at-start .args .tokens .now) (at-start .args .at) (at-start .args .backwards) (at-if1 .taken)) (omega arith) (at-add-alternation .ensures .0) (at-add-alternation .ensures .1)
+    (c .either .ensures) (at-add-alternation .ensures .2)
 
 add-entry-piece : tie.Need-add-entry-piece
 add-entry-piece c =
@@ -110,7 +116,10 @@ returns-2 c =
     let at-entry-piece = c .before .before .before .before .entry-piece in
     let at-if1 = c .before .before .before .before .before .before .before .if1 in
     let at-start = c .before .before .before .before .before .before .before .before .before .before .before in
-    law.step-single (at-start .args .out .now) (at-start .args .n) (at-start .args .last) (at-start .args .long) (tokenAt (at-start .args .backwards) (at-start .args .tokens .now) (at-start .args .at)) (entryAt (at-start .args .tokens .now) (at-start .args .at)) (at-entry-piece .result) _ _ _ (law.token-other (at-start .args .tokens .now) (at-start .args .at) (at-start .args .backwards) (at-if1 .left)) (law.entry-at-single (at-start .args .tokens .now) (at-start .args .at)) (law.entry-piece-is (at-start .args .tokens .now) (at-start .args .at) (at-entry-piece .result) (at-entry-piece .ensures)) (at-add-piece .ensures)
+    law.step-single (at-start .args .out .now) (at-start .args .n) (at-start .args .last) (at-start .args .long)
+    (tokenAt (at-start .args .backwards) (at-start .args .tokens .now) (at-start .args .at)) (entryAt (at-start .args .tokens .now) (at-start .args .at)) (at-entry-piece .result) _ _ _
+    (law.token-other (at-start .args .tokens .now) (at-start .args .at) (at-start .args .backwards) (at-if1 .left)) (law.entry-at-single (at-start .args .tokens .now) (at-start .args .at))
+    (law.entry-piece-is (at-start .args .tokens .now) (at-start .args .at) (at-entry-piece .result) (at-entry-piece .ensures)) (at-add-piece .ensures)
 
 pub add-token-spec : {M : Type 1} → statement M
 add-token-spec =

@@ -40,7 +40,20 @@ add-token-requires c κs =
     let at-loop-test = c .before .before .before .loop-test in
     let at-loop = c .before .before .before .before .loop in
     let at-start = c .before .before .before .before .before .before .before .before in
-    let s = at-loop .inv .same in (link.token-stands (at-start .args .backwards) (at-start .args .tokens .now) (at-start .args .starts .now) (at-start .pre .0) (at-place .result) (at-place .ensures .1), at-start .pre .1, omega (arith, law.token-fits (at-start .args .backwards) (at-start .args .tokens .now) (at-start .args .starts .now) (at-start .args .out .now) (at-loop .out) (at-loop .n) (at-loop .last) (at-loop .long) (at-loop .k) (at-loop .inv) (at-start .pre .0) (at-start .pre .2) (at-loop-test .taken) (getD (at-start .args .starts .now) (at-place .result) 0) (ap (λ (i : ℕ). getD (at-start .args .starts .now) i 0) (at-place .ensures .0)), at-start .pre .2), hold.holds-behind _ (at-start .args .out .now) (at-loop .out) (at-loop .n) (at-loop .last) (at-loop .inv .held))
+    let s = at-loop .inv .same in (
+      link.token-stands (at-start .args .backwards) (at-start .args .tokens .now) (at-start .args .starts .now) (at-start .pre .0) (at-place .result)
+          (at-place .ensures .1),
+      at-start .pre .1,
+      omega (
+        arith,
+        law.token-fits (at-start .args .backwards) (at-start .args .tokens .now) (at-start .args .starts .now) (at-start .args .out .now) (at-loop .out) (at-loop .n) (at-loop .last)
+            (at-loop .long) (at-loop .k) (at-loop .inv) (at-start .pre .0) (at-start .pre .2) (at-loop-test .taken) (getD (at-start .args .starts .now) (at-place .result) 0)
+            (ap (λ (i : ℕ). getD (at-start .args .starts .now) i 0) (at-place .ensures .0)),
+        at-start .pre .2,
+      ),
+      hold.holds-behind _ (at-start .args .out .now) (at-loop .out) (at-loop .n) (at-loop .last)
+          (at-loop .inv .held),
+    )
 
 add-k : tie.Need-add-k Inv-loop μ-loop
 add-k c = search needs
@@ -55,7 +68,10 @@ loop-again c =
     let at-loop-test = c .before .before .before .before .before .before .loop-test in
     let at-loop = c .before .before .before .before .before .before .before .loop in
     let at-start = c .before .before .before .before .before .before .before .before .before .before .before in
-    law.done-more (at-start .args .backwards) (at-start .args .tokens .now) (at-start .args .starts .now) (at-start .args .out .now) (at-loop .out) (at-loop .n) (at-loop .last) (at-loop .long) (at-loop .k) (at-loop .inv) (at-start .pre .0) (at-start .pre .2) (at-loop-test .taken) (getD (at-start .args .starts .now) (at-place .result) 0) (ap (λ (i : ℕ). getD (at-start .args .starts .now) i 0) (at-place .ensures .0)) (at-add-token .result .count) (at-add-token .result .last) (at-add-token .result .long) (at-add-token .last .1 .1 .1 .0) (at-add-token .kept .1 .1 .1 .0) (at-add-token .ensures)
+    law.done-more (at-start .args .backwards) (at-start .args .tokens .now) (at-start .args .starts .now) (at-start .args .out .now) (at-loop .out) (at-loop .n) (at-loop .last) (at-loop .long)
+    (at-loop .k) (at-loop .inv) (at-start .pre .0) (at-start .pre .2) (at-loop-test .taken) (getD (at-start .args .starts .now) (at-place .result) 0)
+    (ap (λ (i : ℕ). getD (at-start .args .starts .now) i 0) (at-place .ensures .0)) (at-add-token .result .count) (at-add-token .result .last) (at-add-token .result .long)
+    (at-add-token .last .1 .1 .1 .0) (at-add-token .kept .1 .1 .1 .0) (at-add-token .ensures)
 
 same-length : tie.Need-same-length Inv-loop μ-loop
 same-length c =

@@ -90,7 +90,13 @@ loop-less c =
     let at-loop-test = c .before .before .before .before .before .before .before .loop-test in
     let at-loop = c .before .before .before .before .before .before .before .before .loop in
     let at-start = c .before .before .before .before .before .before .before .before .before .before in
-    omega (arith, (law.here-inside (at-start .args .run .now) ((at-start .pre) .0) (at-loop .prior) (at-loop .at) (at-loop .top) (at-loop .inv) (at-loop-test .taken) (at-part-words .result) (at-part-words .ensures)) .0, (law.here-inside (at-start .args .run .now) ((at-start .pre) .0) (at-loop .prior) (at-loop .at) (at-loop .top) (at-loop .inv) (at-loop-test .taken) (at-part-words .result) (at-part-words .ensures)) .1)
+    omega (
+      arith,
+      (law.here-inside (at-start .args .run .now) ((at-start .pre) .0) (at-loop .prior) (at-loop .at) (at-loop .top) (at-loop .inv) (at-loop-test .taken) (at-part-words .result)
+          (at-part-words .ensures)) .0,
+      (law.here-inside (at-start .args .run .now) ((at-start .pre) .0) (at-loop .prior) (at-loop .at) (at-loop .top) (at-loop .inv) (at-loop-test .taken) (at-part-words .result)
+          (at-part-words .ensures)) .1,
+    )
 
 loop-again : tie.Need-loop-again Inv-loop μ-loop
 loop-again c =

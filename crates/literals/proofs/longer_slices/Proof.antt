@@ -105,7 +105,10 @@ returns c =
     let at-rank-of = c .before .before .before .before .rank-of in
     let at-loop = c .before .before .before .before .before .before .loop in
     let at-start = c .before .before .before .before .before .before .before .before .before .before in
-    λ own ps k. sym ((law.weighed (at-start .args .run .now) (at-start .args .prior) (at-start .args .at) (at-loop .to) (at-loop .len) (choiceSays (at-start .args .run .now) (at-start .args .best)) (at-loop .top) (at-start .pre) (at-loop .inv) (at-ranked-against .result) (at-byte-words .result) (at-rank-of .result) (at-byte-words .ensures .0) (at-rank-of .ensures) (at-ranked-against .ensures)) own ps k ∙ slices.further-long _ _ _ _ _ (c .if1 .taken))
+    λ own ps k. sym
+    ((law.weighed (at-start .args .run .now) (at-start .args .prior) (at-start .args .at) (at-loop .to) (at-loop .len) (choiceSays (at-start .args .run .now) (at-start .args .best))
+    (at-loop .top) (at-start .pre) (at-loop .inv) (at-ranked-against .result) (at-byte-words .result) (at-rank-of .result) (at-byte-words .ensures .0) (at-rank-of .ensures)
+    (at-ranked-against .ensures)) own ps k ∙ slices.further-long _ _ _ _ _ (c .if1 .taken))
 
 sub-if2 : tie.Need-sub-if2 Inv-loop μ-loop
 sub-if2 c =
@@ -119,7 +122,11 @@ returns-2 c =
     let at-rank-of = c .before .before .before .before .before .rank-of in
     let at-loop = c .before .before .before .before .before .before .before .loop in
     let at-start = c .before .before .before .before .before .before .before .before .before .before .before in
-    λ own ps k. sym ((law.weighed (at-start .args .run .now) (at-start .args .prior) (at-start .args .at) (at-loop .to) (at-loop .len) (choiceSays (at-start .args .run .now) (at-start .args .best)) (at-loop .top) (at-start .pre) (at-loop .inv) (at-ranked-against .result) (at-byte-words .result) (at-rank-of .result) (at-byte-words .ensures .0) (at-rank-of .ensures) (at-ranked-against .ensures)) own ps k ∙ slices.further-none _ (drop (at-loop .to) (at-start .args .run .now)) _ _ _ (omega (arith, length-drop (at-loop .to) (at-start .args .run .now), c .if2 .taken)))
+    λ own ps k. sym
+    ((law.weighed (at-start .args .run .now) (at-start .args .prior) (at-start .args .at) (at-loop .to) (at-loop .len) (choiceSays (at-start .args .run .now) (at-start .args .best))
+    (at-loop .top) (at-start .pre) (at-loop .inv) (at-ranked-against .result) (at-byte-words .result) (at-rank-of .result) (at-byte-words .ensures .0) (at-rank-of .ensures)
+    (at-ranked-against .ensures)) own ps k
+    ∙ slices.further-none _ (drop (at-loop .to) (at-start .args .run .now)) _ _ _ (omega (arith, length-drop (at-loop .to) (at-start .args .run .now), c .if2 .taken)))
 
 mul-part-words-2 : tie.Need-mul-part-words-2 Inv-loop μ-loop
 mul-part-words-2 c =
@@ -188,7 +195,14 @@ loop-less c =
     let at-if2 = c .before .before .before .before .if2 in
     let at-loop = c .before .before .before .before .before .before .before .before .before .before .before .loop in
     let at-start = c .before .before .before .before .before .before .before .before .before .before .before .before .before .before .before in
-    omega (arith, law.part-inside (at-start .args .run .now) (at-start .args .prior) (at-start .args .at) (at-loop .to) (at-loop .len) (choiceSays (at-start .args .run .now) (at-start .args .best)) (at-loop .top) (at-start .pre) (at-loop .inv) (at-part-words2 .result) (at-part-words2 .ensures) (at-if2 .left) .0, law.part-inside (at-start .args .run .now) (at-start .args .prior) (at-start .args .at) (at-loop .to) (at-loop .len) (choiceSays (at-start .args .run .now) (at-start .args .best)) (at-loop .top) (at-start .pre) (at-loop .inv) (at-part-words2 .result) (at-part-words2 .ensures) (at-if2 .left) .1)
+    omega (
+      arith,
+      law.part-inside (at-start .args .run .now) (at-start .args .prior) (at-start .args .at) (at-loop .to) (at-loop .len) (choiceSays (at-start .args .run .now) (at-start .args .best))
+          (at-loop .top) (at-start .pre) (at-loop .inv) (at-part-words2 .result) (at-part-words2 .ensures) (at-if2 .left) .0,
+      law.part-inside (at-start .args .run .now) (at-start .args .prior)
+          (at-start .args .at) (at-loop .to) (at-loop .len) (choiceSays (at-start .args .run .now) (at-start .args .best)) (at-loop .top) (at-start .pre) (at-loop .inv) (at-part-words2 .result)
+          (at-part-words2 .ensures) (at-if2 .left) .1,
+    )
 
 loop-again : tie.Need-loop-again Inv-loop μ-loop
 loop-again c =
@@ -200,7 +214,11 @@ loop-again c =
     let at-rank-of = c .before .before .before .before .before .before .before .before .before .rank-of in
     let at-loop = c .before .before .before .before .before .before .before .before .before .before .before .loop in
     let at-start = c .before .before .before .before .before .before .before .before .before .before .before .before .before .before .before in
-    law.going-on (at-start .args .run .now) (at-start .args .prior) (at-start .args .at) (at-loop .to) (at-loop .len) (choiceSays (at-start .args .run .now) (at-start .args .best)) (at-loop .top) (at-start .pre) (at-loop .inv) (at-ranked-against .result) (at-part-words2 .result) (c .length-of .result) (at-loop .to + at-part-words2 .result) (at-part-words2 .ensures) (at-if2 .left) (at-if1 .left) refl (c .length-of .ensures .0) (c .length-of .ensures .1) (law.weighed (at-start .args .run .now) (at-start .args .prior) (at-start .args .at) (at-loop .to) (at-loop .len) (choiceSays (at-start .args .run .now) (at-start .args .best)) (at-loop .top) (at-start .pre) (at-loop .inv) (at-ranked-against .result) (at-byte-words .result) (at-rank-of .result) (at-byte-words .ensures .0) (at-rank-of .ensures) (at-ranked-against .ensures))
+    law.going-on (at-start .args .run .now) (at-start .args .prior) (at-start .args .at) (at-loop .to) (at-loop .len) (choiceSays (at-start .args .run .now) (at-start .args .best)) (at-loop .top)
+    (at-start .pre) (at-loop .inv) (at-ranked-against .result) (at-part-words2 .result) (c .length-of .result) (at-loop .to + at-part-words2 .result) (at-part-words2 .ensures) (at-if2 .left)
+    (at-if1 .left) refl (c .length-of .ensures .0) (c .length-of .ensures .1)
+    (law.weighed (at-start .args .run .now) (at-start .args .prior) (at-start .args .at) (at-loop .to) (at-loop .len) (choiceSays (at-start .args .run .now) (at-start .args .best)) (at-loop .top)
+    (at-start .pre) (at-loop .inv) (at-ranked-against .result) (at-byte-words .result) (at-rank-of .result) (at-byte-words .ensures .0) (at-rank-of .ensures) (at-ranked-against .ensures))
 
 pub longer-slices-spec : {M : Type 1} → statement M
 longer-slices-spec =

@@ -74,8 +74,13 @@ loop-again c =
     let at-if1 = c .before .before .if1 in
     let at-closes-run = c .before .before .before .closes-run in
     let at-loop-test = c .before .before .before .before .loop-test in
-    let at-loop = c .before .before .before .before .before .loop in
-    (omega (arith, at-loop .inv .0, part.part-long (at-width-of .result) (at-loop .rest .now), (at-width-of .ensures), (step.width-le (at-loop .rest .now) (at-loop-test .taken))), at-loop .inv .1 ∙ ap (λ (x : ℕ). at-loop .n + x) (law.run-end-open (at-loop .rest .now) (at-loop-test .taken) (sym (at-closes-run .ensures) ∙ at-if1 .left)) ∙ sym (add-assoc (at-loop .n) _ _) ∙ ap₂ (λ (x : ℕ) (l : List ℕ). at-loop .n + x + runEnd l) (sym (at-width-of .ensures)) (ap (λ (x : ℕ). drop x (at-loop .rest .now)) (sym (at-width-of .ensures)) ∙ sym (part.part-all (at-width-of .result) (at-loop .rest .now))))
+    let at-loop = c .before .before .before .before .before .loop in (
+      omega (arith, at-loop .inv .0, part.part-long (at-width-of .result) (at-loop .rest .now), (at-width-of .ensures), (step.width-le (at-loop .rest .now) (at-loop-test .taken))),
+      at-loop .inv .1
+          ∙ ap (λ (x : ℕ). at-loop .n + x) (law.run-end-open (at-loop .rest .now) (at-loop-test .taken) (sym (at-closes-run .ensures) ∙ at-if1 .left)) ∙ sym (add-assoc (at-loop .n) _ _)
+          ∙ ap₂ (λ (x : ℕ) (l : List ℕ). at-loop .n + x + runEnd l) (sym (at-width-of .ensures))
+          (ap (λ (x : ℕ). drop x (at-loop .rest .now)) (sym (at-width-of .ensures)) ∙ sym (part.part-all (at-width-of .result) (at-loop .rest .now))),
+    )
 
 returns-2 : tie.Need-returns-2 Inv-loop μ-loop
 returns-2 c =

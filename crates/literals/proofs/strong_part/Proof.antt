@@ -88,8 +88,13 @@ score-at-requires c κs =
     let at-part-words = c .before .before .before .part-words in
     let at-loop-test = c .before .before .before .before .before .loop-test in
     let at-loop = c .before .before .before .before .before .before .loop in
-    let at-start = c .before .before .before .before .before .before .before .before in
-    (law.front-few (at-start .args .run .now) ((at-start .pre) .0) (at-loop .at) (at-loop .inv) (at-loop-test .taken) (at-part-words .result) (at-part-words .ensures), law.front-count (at-start .args .run .now) ((at-start .pre) .0) (at-loop .at) (at-loop .inv) (at-loop-test .taken) (at-part-words .result) (at-part-words .ensures) (at-if1 .taken) .0, law.front-count (at-start .args .run .now) ((at-start .pre) .0) (at-loop .at) (at-loop .inv) (at-loop-test .taken) (at-part-words .result) (at-part-words .ensures) (at-if1 .taken) .1)
+    let at-start = c .before .before .before .before .before .before .before .before in (
+      law.front-few (at-start .args .run .now) ((at-start .pre) .0) (at-loop .at) (at-loop .inv) (at-loop-test .taken) (at-part-words .result) (at-part-words .ensures),
+      law.front-count
+          (at-start .args .run .now) ((at-start .pre) .0) (at-loop .at) (at-loop .inv) (at-loop-test .taken) (at-part-words .result) (at-part-words .ensures) (at-if1 .taken) .0,
+      law.front-count
+          (at-start .args .run .now) ((at-start .pre) .0) (at-loop .at) (at-loop .inv) (at-loop-test .taken) (at-part-words .result) (at-part-words .ensures) (at-if1 .taken) .1,
+    )
 
 returns : tie.Need-returns Inv-loop μ-loop
 returns c =

@@ -79,8 +79,12 @@ loop-again c =
     let at-score-at2 = c .before .score-at2 in
     let at-loop-test = c .before .before .before .before .before .before .loop-test in
     let at-loop = c .before .before .before .before .before .before .before .loop in
-    let at-start = c .before .before .before .before .before .before .before .before .before .before .before in
-    (omega (arith, at-loop-test .taken), at-loop .inv .1 ∙ rank.lowest-more literalScore (tokensIn (at-start .args .ws .now)) (at-loop .k) (at-start .args .n) (at-loop .least) ((at-start .pre) .1) (at-loop-test .taken) ∙ ap (lowest literalScore (drop (at-loop .k + 1) (literals (tokensIn (at-start .args .ws .now))))) (ap (min (at-loop .least)) (sym (at-score-at2 .ensures)) ∙ sym (c .smaller .ensures)))
+    let at-start = c .before .before .before .before .before .before .before .before .before .before .before in (
+      omega (arith, at-loop-test .taken),
+      at-loop .inv .1
+          ∙ rank.lowest-more literalScore (tokensIn (at-start .args .ws .now)) (at-loop .k) (at-start .args .n) (at-loop .least) ((at-start .pre) .1) (at-loop-test .taken)
+          ∙ ap (lowest literalScore (drop (at-loop .k + 1) (literals (tokensIn (at-start .args .ws .now))))) (ap (min (at-loop .least)) (sym (at-score-at2 .ensures)) ∙ sym (c .smaller .ensures)),
+    )
 
 less-requires-2 : tie.Need-less-requires-2 Inv-loop μ-loop
 less-requires-2 c κs = search needs

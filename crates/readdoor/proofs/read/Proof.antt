@@ -34,7 +34,12 @@ zero-words-requires c κs =
     let at-read-text = c .before .before .before .before .before .before .read-text in
     let at-if1 = c .before .before .before .before .before .before .before .before .if1 in
     let at-start = c .before .before .before .before .before .before .before .before .before .before .before in
-    let k : length (at-read-text .last .1 .0) ≡ 4096 = (at-read-text .kept .1 .0 ∙ length-take-le 4096 (at-start .args .pool .now) (at-if1 .left)) in let a = length-append (at-read-text .last .1 .0) (drop 4096 (at-start .args .pool .now)) in (words-fit (at-start .args .text .now) (at-start .args .pool .now) (at-read-text .last .1 .0) (at-read-text .result) (at-if1 .left) (at-read-text .kept .1 .0 ∙ length-take-le 4096 (at-start .args .pool .now) (at-if1 .left)) (at-read-text .ensures) (at-r .given .0 .0) (at-r .given .0 .1 .0) (at-r .given .1), omega arith)
+    let k : length (at-read-text .last .1 .0) ≡ 4096 = (at-read-text .kept .1 .0 ∙ length-take-le 4096 (at-start .args .pool .now) (at-if1 .left)) in
+    let a = length-append (at-read-text .last .1 .0) (drop 4096 (at-start .args .pool .now)) in (
+      words-fit (at-start .args .text .now) (at-start .args .pool .now) (at-read-text .last .1 .0) (at-read-text .result) (at-if1 .left)
+          (at-read-text .kept .1 .0 ∙ length-take-le 4096 (at-start .args .pool .now) (at-if1 .left)) (at-read-text .ensures) (at-r .given .0 .0) (at-r .given .0 .1 .0) (at-r .given .1),
+      omega arith,
+    )
 
 enum-known-r-2 : tie.Need-enum-known-r-2
 enum-known-r-2 c = search needs

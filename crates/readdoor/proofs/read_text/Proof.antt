@@ -56,7 +56,9 @@ returns-3 c =
     let at-peek = c .before .before .before .before .before .before .before .before .before .before .before .peek in
     let at-if1 = c .before .before .before .before .before .before .before .before .before .before .before .before .if1 in
     let at-start = c .before .before .before .before .before .before .before .before .before .before .before .before .before .before .before in
-    text-open (at-start .args .text .now) (at-skip-blanks .result) (at-if1 .left) (sym (at-peek .ensures) ∙ at-if2 .left) (at-skip-blanks .ensures) (at-read-list .result) (at-start .args .pool .now) (at-read-list .last .1 .1 .1 .1 .0) (at-read-list .ensures) (at-got .given .0 .0) (at-got .given .0 .1 .0) (at-got .given .0 .1 .1 .0) (at-got .given .0 .1 .1 .1 .0) (at-got .given .1) (λ z. c .if3 .taken (at-peek2 .ensures ∙ z))
+    text-open (at-start .args .text .now) (at-skip-blanks .result) (at-if1 .left) (sym (at-peek .ensures) ∙ at-if2 .left) (at-skip-blanks .ensures) (at-read-list .result) (at-start .args .pool .now)
+    (at-read-list .last .1 .1 .1 .1 .0) (at-read-list .ensures) (at-got .given .0 .0) (at-got .given .0 .1 .0) (at-got .given .0 .1 .1 .0) (at-got .given .0 .1 .1 .1 .0) (at-got .given .1)
+    (λ z. c .if3 .taken (at-peek2 .ensures ∙ z))
 
 add-skip-blanks : tie.Need-add-skip-blanks
 add-skip-blanks c =
@@ -88,7 +90,9 @@ returns-4 c =
     let at-peek = c .before .before .before .before .before .before .before .before .before .before .before .before .peek in
     let at-if1 = c .before .before .before .before .before .before .before .before .before .before .before .before .before .if1 in
     let at-start = c .before .before .before .before .before .before .before .before .before .before .before .before .before .before .before .before in
-    text-done (at-start .args .text .now) (at-skip-blanks .result) (at-if1 .left) (sym (at-peek .ensures) ∙ at-if2 .left) (at-skip-blanks .ensures) (at-read-list .result) (at-start .args .pool .now) (at-read-list .last .1 .1 .1 .1 .0) (at-read-list .ensures) (at-got .given .0 .0) (at-got .given .0 .1 .0) (at-got .given .0 .1 .1 .0) (at-got .given .0 .1 .1 .1 .0) (c .skip-blanks2 .result) (at-got .given .1) (sym (at-peek2 .ensures) ∙ at-if3 .left) (c .skip-blanks2 .ensures)
+    text-done (at-start .args .text .now) (at-skip-blanks .result) (at-if1 .left) (sym (at-peek .ensures) ∙ at-if2 .left) (at-skip-blanks .ensures) (at-read-list .result) (at-start .args .pool .now)
+    (at-read-list .last .1 .1 .1 .1 .0) (at-read-list .ensures) (at-got .given .0 .0) (at-got .given .0 .1 .0) (at-got .given .0 .1 .1 .0) (at-got .given .0 .1 .1 .1 .0) (c .skip-blanks2 .result)
+    (at-got .given .1) (sym (at-peek2 .ensures) ∙ at-if3 .left) (c .skip-blanks2 .ensures)
 
 same-length-3 : tie.Need-same-length-3
 same-length-3 c = search needs

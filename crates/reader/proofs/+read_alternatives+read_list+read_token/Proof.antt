@@ -101,7 +101,9 @@ module _ (t : ℕ) where
       let at-if1 = c .before .if1 in
       let at-peek = c .before .before .peek in
       let at-start = c .before .before .before .before .before in
-      says-refused (alternatives (at-start .args .text .now) (at-start .args .level) (at-start .args .count) (at-start .args .at)) (at-start .args .n) (at-start .args .pool .now) (at-start .args .pool .now) TooManyTokens (at-start .args .at) (bracket-full (at-start .args .text .now) (at-start .args .level) (at-start .args .count) (at-start .args .at) (sym (at-peek .ensures) ∙ at-if1 .left) (c .if2 .taken))
+      says-refused (alternatives (at-start .args .text .now) (at-start .args .level) (at-start .args .count) (at-start .args .at)) (at-start .args .n) (at-start .args .pool .now)
+      (at-start .args .pool .now) TooManyTokens (at-start .args .at)
+      (bracket-full (at-start .args .text .now) (at-start .args .level) (at-start .args .count) (at-start .args .at) (sym (at-peek .ensures) ∙ at-if1 .left) (c .if2 .taken))
 
   read-alternatives-add-skip-blanks : read-alternatives-lts.Need-add-skip-blanks (read-alternatives-claims t) (read-alternatives-at t) read-alternatives.Post read-alternatives-Inv-loop read-alternatives-μ-loop
   read-alternatives-add-skip-blanks c =
@@ -131,7 +133,10 @@ module _ (t : ℕ) where
       let at-if1 = c .before .before .if1 in
       let at-peek = c .before .before .before .peek in
       let at-start = c .before .before .before .before .before .before in
-      subst (λ (x : ℕ). Listed (at-start .args .text .now) (at-start .args .level) (at-start .args .count) (at-start .args .at) (at-start .args .n) (at-start .args .pool .now) (at-start .args .pool .now) x x ((at-start .args .n) + 4) ((at-start .args .count) + 1) 0) (sym (c .skip-blanks .ensures)) (listed-start (at-start .args .text .now) (at-start .args .level) (at-start .args .count) (at-start .args .at) (at-start .args .n) (at-start .args .pool .now) (here-at (at-start .args .text .now) (at-start .args .at) 40 (sym (at-peek .ensures) ∙ at-if1 .left) (omega arith)) (at-start .pre .1 .0 .used) (at-if2 .left))
+      subst (λ (x : ℕ). Listed (at-start .args .text .now) (at-start .args .level) (at-start .args .count) (at-start .args .at) (at-start .args .n) (at-start .args .pool .now)
+      (at-start .args .pool .now) x x ((at-start .args .n) + 4) ((at-start .args .count) + 1) 0) (sym (c .skip-blanks .ensures))
+      (listed-start (at-start .args .text .now) (at-start .args .level) (at-start .args .count) (at-start .args .at) (at-start .args .n) (at-start .args .pool .now)
+      (here-at (at-start .args .text .now) (at-start .args .at) 40 (sym (at-peek .ensures) ∙ at-if1 .left) (omega arith)) (at-start .pre .1 .0 .used) (at-if2 .left))
 
   read-alternatives-add-read-list : read-alternatives-lts.Need-add-read-list (read-alternatives-claims t) (read-alternatives-at t) read-alternatives.Post read-alternatives-Inv-loop read-alternatives-μ-loop
   read-alternatives-add-read-list c =
@@ -161,7 +166,15 @@ module _ (t : ℕ) where
       let at-loop = c .before .before .before .before .before .before .before .before .loop in
       let at-if2 = c .before .before .before .before .before .before .before .before .before .before .if2 in
       let at-start = c .before .before .before .before .before .before .before .before .before .before .before .before .before .before .before in
-      let o = at-start .pre .1 .0 in let e = at-start .pre .0 in let h = at-start .pre .1 .1 in let f = at-if2 .left in let v = at-loop .inv in let w = turned (at-start .args .text .now) (at-start .args .level) (at-start .args .count) (at-start .args .at) (at-start .args .n) (at-start .args .pool .now) (at-loop .pool) (at-loop .x) (at-loop .miss) (at-loop .m) (at-loop .c) (at-loop .k) (at-loop .inv) (at-read-list .result) (at-read-list .last .1 .1 .1 .1 .0) (at-read-list .ensures) (at-got .given .0 .0) (at-got .given .0 .1 .0) (at-got .given .0 .1 .1 .0) (at-got .given .0 .1 .1 .1 .0) (at-got .given .1) in let z : length (at-read-list .last .1 .1 .1 .1 .0) ≡ 4096 = (at-read-list .kept .1 .1 .1 .1 .0 ∙ at-loop .inv .kept) ∙ o .pool in (w .more, omega arith, z, w .few)
+      let o = at-start .pre .1 .0 in
+      let e = at-start .pre .0 in
+      let h = at-start .pre .1 .1 in
+      let f = at-if2 .left in
+      let v = at-loop .inv in
+      let w = turned (at-start .args .text .now) (at-start .args .level) (at-start .args .count) (at-start .args .at) (at-start .args .n) (at-start .args .pool .now) (at-loop .pool) (at-loop .x)
+      (at-loop .miss) (at-loop .m) (at-loop .c) (at-loop .k) (at-loop .inv) (at-read-list .result) (at-read-list .last .1 .1 .1 .1 .0) (at-read-list .ensures) (at-got .given .0 .0)
+      (at-got .given .0 .1 .0) (at-got .given .0 .1 .1 .0) (at-got .given .0 .1 .1 .1 .0) (at-got .given .1) in
+      let z : length (at-read-list .last .1 .1 .1 .1 .0) ≡ 4096 = (at-read-list .kept .1 .1 .1 .1 .0 ∙ at-loop .inv .kept) ∙ o .pool in (w .more, omega arith, z, w .few)
 
   read-alternatives-add-k : read-alternatives-lts.Need-add-k (read-alternatives-claims t) (read-alternatives-at t) read-alternatives.Post read-alternatives-Inv-loop read-alternatives-μ-loop
   read-alternatives-add-k c =
@@ -179,7 +192,15 @@ module _ (t : ℕ) where
       let at-loop = c .before .before .before .before .before .before .before .before .before .before .before .before .before .before .loop in
       let at-if2 = c .before .before .before .before .before .before .before .before .before .before .before .before .before .before .before .before .if2 in
       let at-start = c .before .before .before .before .before .before .before .before .before .before .before .before .before .before .before .before .before .before .before .before .before in
-      let o = at-start .pre .1 .0 in let e = at-start .pre .0 in let h = at-start .pre .1 .1 in let f = at-if2 .left in let v = at-loop .inv in let w = turned (at-start .args .text .now) (at-start .args .level) (at-start .args .count) (at-start .args .at) (at-start .args .n) (at-start .args .pool .now) (at-loop .pool) (at-loop .x) (at-loop .miss) (at-loop .m) (at-loop .c) (at-loop .k) (at-loop .inv) (at-read-list .result) (at-read-list .last .1 .1 .1 .1 .0) (at-read-list .ensures) (at-got .given .0 .0) (at-got .given .0 .1 .0) (at-got .given .0 .1 .1 .0) (at-got .given .0 .1 .1 .1 .0) (at-got .given .1) in let z : length (at-put-head .last .0) ≡ 4096 = (at-put-head .kept .0 ∙ (at-read-list .kept .1 .1 .1 .1 .0 ∙ at-loop .inv .kept)) ∙ o .pool in (omega arith, omega arith, z, omega arith)
+      let o = at-start .pre .1 .0 in
+      let e = at-start .pre .0 in
+      let h = at-start .pre .1 .1 in
+      let f = at-if2 .left in
+      let v = at-loop .inv in
+      let w = turned (at-start .args .text .now) (at-start .args .level) (at-start .args .count) (at-start .args .at) (at-start .args .n) (at-start .args .pool .now) (at-loop .pool) (at-loop .x)
+      (at-loop .miss) (at-loop .m) (at-loop .c) (at-loop .k) (at-loop .inv) (at-read-list .result) (at-read-list .last .1 .1 .1 .1 .0) (at-read-list .ensures) (at-got .given .0 .0)
+      (at-got .given .0 .1 .0) (at-got .given .0 .1 .1 .0) (at-got .given .0 .1 .1 .1 .0) (at-got .given .1) in
+      let z : length (at-put-head .last .0) ≡ 4096 = (at-put-head .kept .0 ∙ (at-read-list .kept .1 .1 .1 .1 .0 ∙ at-loop .inv .kept)) ∙ o .pool in (omega arith, omega arith, z, omega arith)
 
   read-alternatives-add-skip-blanks-2 : read-alternatives-lts.Need-add-skip-blanks-2 (read-alternatives-claims t) (read-alternatives-at t) read-alternatives.Post read-alternatives-Inv-loop read-alternatives-μ-loop
   read-alternatives-add-skip-blanks-2 c =
@@ -187,7 +208,9 @@ module _ (t : ℕ) where
       let at-read-list = c .before .before .before .before .before .before .before .before .before .before .before .before .before .before .before .read-list in
       let at-loop = c .before .before .before .before .before .before .before .before .before .before .before .before .before .before .before .before .before .loop in
       let at-start = c .before .before .before .before .before .before .before .before .before .before .before .before .before .before .before .before .before .before .before .before .before .before .before .before in
-      let w = turned (at-start .args .text .now) (at-start .args .level) (at-start .args .count) (at-start .args .at) (at-start .args .n) (at-start .args .pool .now) (at-loop .pool) (at-loop .x) (at-loop .miss) (at-loop .m) (at-loop .c) (at-loop .k) (at-loop .inv) (at-read-list .result) (at-read-list .last .1 .1 .1 .1 .0) (at-read-list .ensures) (at-got .given .0 .0) (at-got .given .0 .1 .0) (at-got .given .0 .1 .1 .0) (at-got .given .0 .1 .1 .1 .0) (at-got .given .1) in omega arith
+      let w = turned (at-start .args .text .now) (at-start .args .level) (at-start .args .count) (at-start .args .at) (at-start .args .n) (at-start .args .pool .now) (at-loop .pool) (at-loop .x)
+      (at-loop .miss) (at-loop .m) (at-loop .c) (at-loop .k) (at-loop .inv) (at-read-list .result) (at-read-list .last .1 .1 .1 .1 .0) (at-read-list .ensures) (at-got .given .0 .0)
+      (at-got .given .0 .1 .0) (at-got .given .0 .1 .1 .0) (at-got .given .0 .1 .1 .1 .0) (at-got .given .1) in omega arith
 
   read-alternatives-skip-blanks-requires-2 : read-alternatives-lts.Need-skip-blanks-requires-2 (read-alternatives-claims t) (read-alternatives-at t) read-alternatives.Post read-alternatives-Inv-loop read-alternatives-μ-loop
   read-alternatives-skip-blanks-requires-2 c κs = search needs
@@ -213,7 +236,17 @@ module _ (t : ℕ) where
       let at-if1 = c .before .before .before .before .before .before .before .before .before .before .before .before .before .before .before .before .before .before .before .before .before .if1 in
       let at-peek = c .before .before .before .before .before .before .before .before .before .before .before .before .before .before .before .before .before .before .before .before .before .before .peek in
       let at-start = c .before .before .before .before .before .before .before .before .before .before .before .before .before .before .before .before .before .before .before .before .before .before .before .before .before in
-      let o = at-start .pre .1 .0 in let e = at-start .pre .0 in let h = at-start .pre .1 .1 in let f = at-if2 .left in let v = at-loop .inv in let r : (at-start .args .n) + 4 ≤ length (at-start .args .pool .now) = omega arith in let r′ : at-loop .m + 4 ≤ length (at-start .args .pool .now) = omega arith in listed-done (at-start .args .text .now) (at-start .args .level) (at-start .args .count) (at-start .args .at) (at-start .args .n) (at-start .args .pool .now) (at-loop .pool) (at-loop .x) (at-loop .miss) (at-loop .m) (at-loop .c) (at-loop .k) (at-loop .inv) (at-read-list .result) (at-read-list .last .1 .1 .1 .1 .0) (at-read-list .ensures) (at-got .given .0 .0) (at-got .given .0 .1 .0) (at-got .given .0 .1 .1 .0) (at-got .given .0 .1 .1 .1 .0) (c .skip-blanks2 .result) (at-put-head .last .0) (at-put-head2 .last .0) r r′ (sym (at-peek .ensures) ∙ at-if1 .left) f (at-got .given .1) (at-put-head .ensures) (at-put-head2 .ensures) (sym (at-peek2 .ensures) ∙ at-if3 .taken) (c .skip-blanks2 .ensures)
+      let o = at-start .pre .1 .0 in
+      let e = at-start .pre .0 in
+      let h = at-start .pre .1 .1 in
+      let f = at-if2 .left in
+      let v = at-loop .inv in
+      let r : (at-start .args .n) + 4 ≤ length (at-start .args .pool .now) = omega arith in
+      let r′ : at-loop .m + 4 ≤ length (at-start .args .pool .now) = omega arith in listed-done (at-start .args .text .now) (at-start .args .level) (at-start .args .count) (at-start .args .at)
+      (at-start .args .n) (at-start .args .pool .now) (at-loop .pool) (at-loop .x) (at-loop .miss) (at-loop .m) (at-loop .c) (at-loop .k) (at-loop .inv) (at-read-list .result)
+      (at-read-list .last .1 .1 .1 .1 .0) (at-read-list .ensures) (at-got .given .0 .0) (at-got .given .0 .1 .0) (at-got .given .0 .1 .1 .0) (at-got .given .0 .1 .1 .1 .0)
+      (c .skip-blanks2 .result) (at-put-head .last .0) (at-put-head2 .last .0) r r′ (sym (at-peek .ensures) ∙ at-if1 .left) f (at-got .given .1) (at-put-head .ensures) (at-put-head2 .ensures)
+      (sym (at-peek2 .ensures) ∙ at-if3 .taken) (c .skip-blanks2 .ensures)
 
   read-alternatives-same-length-2 : read-alternatives-lts.Need-same-length-2 (read-alternatives-claims t) (read-alternatives-at t) read-alternatives.Post read-alternatives-Inv-loop read-alternatives-μ-loop
   read-alternatives-same-length-2 c =
@@ -234,7 +267,10 @@ module _ (t : ℕ) where
       let at-if1 = c .before .before .before .before .before .before .before .before .before .before .before .before .before .before .before .before .before .if1 in
       let at-peek = c .before .before .before .before .before .before .before .before .before .before .before .before .before .before .before .before .before .before .peek in
       let at-start = c .before .before .before .before .before .before .before .before .before .before .before .before .before .before .before .before .before .before .before .before .before in
-      listed-else (at-start .args .text .now) (at-start .args .level) (at-start .args .count) (at-start .args .at) (at-start .args .n) (at-start .args .pool .now) (at-loop .pool) (at-loop .x) (at-loop .miss) (at-loop .m) (at-loop .c) (at-loop .k) (at-loop .inv) (at-read-list .result) (at-read-list .last .1 .1 .1 .1 .0) (at-read-list .ensures) (at-got .given .0 .0) (at-got .given .0 .1 .0) (at-got .given .0 .1 .1 .0) (at-got .given .0 .1 .1 .1 .0) (at-put-head .last .0) (sym (at-peek .ensures) ∙ at-if1 .left) (at-if2 .left) (at-got .given .1) (λ z. at-if3 .left (at-peek2 .ensures ∙ z)) (λ z. c .if4 .taken (at-peek2 .ensures ∙ z))
+      listed-else (at-start .args .text .now) (at-start .args .level) (at-start .args .count) (at-start .args .at) (at-start .args .n) (at-start .args .pool .now) (at-loop .pool) (at-loop .x)
+      (at-loop .miss) (at-loop .m) (at-loop .c) (at-loop .k) (at-loop .inv) (at-read-list .result) (at-read-list .last .1 .1 .1 .1 .0) (at-read-list .ensures) (at-got .given .0 .0)
+      (at-got .given .0 .1 .0) (at-got .given .0 .1 .1 .0) (at-got .given .0 .1 .1 .1 .0) (at-put-head .last .0) (sym (at-peek .ensures) ∙ at-if1 .left) (at-if2 .left) (at-got .given .1)
+      (λ z. at-if3 .left (at-peek2 .ensures ∙ z)) (λ z. c .if4 .taken (at-peek2 .ensures ∙ z))
 
   read-alternatives-add-skip-blanks-3 : read-alternatives-lts.Need-add-skip-blanks-3 (read-alternatives-claims t) (read-alternatives-at t) read-alternatives.Post read-alternatives-Inv-loop read-alternatives-μ-loop
   read-alternatives-add-skip-blanks-3 c =
@@ -242,7 +278,9 @@ module _ (t : ℕ) where
       let at-read-list = c .before .before .before .before .before .before .before .before .before .before .before .before .read-list in
       let at-loop = c .before .before .before .before .before .before .before .before .before .before .before .before .before .before .loop in
       let at-start = c .before .before .before .before .before .before .before .before .before .before .before .before .before .before .before .before .before .before .before .before .before in
-      let w = turned (at-start .args .text .now) (at-start .args .level) (at-start .args .count) (at-start .args .at) (at-start .args .n) (at-start .args .pool .now) (at-loop .pool) (at-loop .x) (at-loop .miss) (at-loop .m) (at-loop .c) (at-loop .k) (at-loop .inv) (at-read-list .result) (at-read-list .last .1 .1 .1 .1 .0) (at-read-list .ensures) (at-got .given .0 .0) (at-got .given .0 .1 .0) (at-got .given .0 .1 .1 .0) (at-got .given .0 .1 .1 .1 .0) (at-got .given .1) in omega arith
+      let w = turned (at-start .args .text .now) (at-start .args .level) (at-start .args .count) (at-start .args .at) (at-start .args .n) (at-start .args .pool .now) (at-loop .pool) (at-loop .x)
+      (at-loop .miss) (at-loop .m) (at-loop .c) (at-loop .k) (at-loop .inv) (at-read-list .result) (at-read-list .last .1 .1 .1 .1 .0) (at-read-list .ensures) (at-got .given .0 .0)
+      (at-got .given .0 .1 .0) (at-got .given .0 .1 .1 .0) (at-got .given .0 .1 .1 .1 .0) (at-got .given .1) in omega arith
 
   read-alternatives-skip-blanks-requires-3 : read-alternatives-lts.Need-skip-blanks-requires-3 (read-alternatives-claims t) (read-alternatives-at t) read-alternatives.Post read-alternatives-Inv-loop read-alternatives-μ-loop
   read-alternatives-skip-blanks-requires-3 c κs = search needs
@@ -253,7 +291,11 @@ module _ (t : ℕ) where
       let at-read-list = c .before .before .before .before .before .before .before .before .before .before .before .before .before .read-list in
       let at-loop = c .before .before .before .before .before .before .before .before .before .before .before .before .before .before .before .loop in
       let at-start = c .before .before .before .before .before .before .before .before .before .before .before .before .before .before .before .before .before .before .before .before .before .before in
-      let w = turned (at-start .args .text .now) (at-start .args .level) (at-start .args .count) (at-start .args .at) (at-start .args .n) (at-start .args .pool .now) (at-loop .pool) (at-loop .x) (at-loop .miss) (at-loop .m) (at-loop .c) (at-loop .k) (at-loop .inv) (at-read-list .result) (at-read-list .last .1 .1 .1 .1 .0) (at-read-list .ensures) (at-got .given .0 .0) (at-got .given .0 .1 .0) (at-got .given .0 .1 .1 .0) (at-got .given .0 .1 .1 .1 .0) (at-got .given .1) in let s = c .skip-blanks3 .ensures in let f = skip-from (at-start .args .text .now) ((at-got .given .0 .0) + 1) in omega arith
+      let w = turned (at-start .args .text .now) (at-start .args .level) (at-start .args .count) (at-start .args .at) (at-start .args .n) (at-start .args .pool .now) (at-loop .pool) (at-loop .x)
+      (at-loop .miss) (at-loop .m) (at-loop .c) (at-loop .k) (at-loop .inv) (at-read-list .result) (at-read-list .last .1 .1 .1 .1 .0) (at-read-list .ensures) (at-got .given .0 .0)
+      (at-got .given .0 .1 .0) (at-got .given .0 .1 .1 .0) (at-got .given .0 .1 .1 .1 .0) (at-got .given .1) in
+      let s = c .skip-blanks3 .ensures in
+      let f = skip-from (at-start .args .text .now) ((at-got .given .0 .0) + 1) in omega arith
 
   read-alternatives-loop-again : read-alternatives-lts.Need-loop-again (read-alternatives-claims t) (read-alternatives-at t) read-alternatives.Post read-alternatives-Inv-loop read-alternatives-μ-loop
   read-alternatives-loop-again c =
@@ -265,7 +307,17 @@ module _ (t : ℕ) where
       let at-loop = c .before .before .before .before .before .before .before .before .before .before .before .before .before .before .before .loop in
       let at-if2 = c .before .before .before .before .before .before .before .before .before .before .before .before .before .before .before .before .before .if2 in
       let at-start = c .before .before .before .before .before .before .before .before .before .before .before .before .before .before .before .before .before .before .before .before .before .before in
-      let o = at-start .pre .1 .0 in let e = at-start .pre .0 in let h = at-start .pre .1 .1 in let f = at-if2 .left in let v = at-loop .inv in let r : (at-start .args .n) + 4 ≤ length (at-start .args .pool .now) = omega arith in let r′ : at-loop .m + 4 ≤ length (at-start .args .pool .now) = omega arith in listed-next (at-start .args .text .now) (at-start .args .level) (at-start .args .count) (at-start .args .at) (at-start .args .n) (at-start .args .pool .now) (at-loop .pool) (at-loop .x) (at-loop .miss) (at-loop .m) (at-loop .c) (at-loop .k) (at-loop .inv) (at-read-list .result) (at-read-list .last .1 .1 .1 .1 .0) (at-read-list .ensures) (at-got .given .0 .0) (at-got .given .0 .1 .0) (at-got .given .0 .1 .1 .0) (at-got .given .0 .1 .1 .1 .0) (c .skip-blanks3 .result) (at-put-head .last .0) r r′ (at-got .given .1) (at-put-head .ensures) (at-put-head .kept .0 ∙ (at-read-list .kept .1 .1 .1 .1 .0 ∙ at-loop .inv .kept)) (sym (at-peek2 .ensures) ∙ at-if4 .left) (c .skip-blanks3 .ensures)
+      let o = at-start .pre .1 .0 in
+      let e = at-start .pre .0 in
+      let h = at-start .pre .1 .1 in
+      let f = at-if2 .left in
+      let v = at-loop .inv in
+      let r : (at-start .args .n) + 4 ≤ length (at-start .args .pool .now) = omega arith in
+      let r′ : at-loop .m + 4 ≤ length (at-start .args .pool .now) = omega arith in listed-next (at-start .args .text .now) (at-start .args .level) (at-start .args .count) (at-start .args .at)
+      (at-start .args .n) (at-start .args .pool .now) (at-loop .pool) (at-loop .x) (at-loop .miss) (at-loop .m) (at-loop .c) (at-loop .k) (at-loop .inv) (at-read-list .result)
+      (at-read-list .last .1 .1 .1 .1 .0) (at-read-list .ensures) (at-got .given .0 .0) (at-got .given .0 .1 .0) (at-got .given .0 .1 .1 .0) (at-got .given .0 .1 .1 .1 .0)
+      (c .skip-blanks3 .result) (at-put-head .last .0) r r′ (at-got .given .1) (at-put-head .ensures) (at-put-head .kept .0 ∙ (at-read-list .kept .1 .1 .1 .1 .0 ∙ at-loop .inv .kept))
+      (sym (at-peek2 .ensures) ∙ at-if4 .left) (c .skip-blanks3 .ensures)
 
   read-alternatives-enum-told : read-alternatives-lts.Need-enum-told (read-alternatives-claims t) (read-alternatives-at t) read-alternatives.Post read-alternatives-Inv-loop read-alternatives-μ-loop
   read-alternatives-enum-told c = search needs
@@ -284,7 +336,9 @@ module _ (t : ℕ) where
       let at-if1 = c .before .before .before .before .before .before .before .before .before .if1 in
       let at-peek = c .before .before .before .before .before .before .before .before .before .before .peek in
       let at-start = c .before .before .before .before .before .before .before .before .before .before .before .before .before in
-      listed-missing (at-start .args .text .now) (at-start .args .level) (at-start .args .count) (at-start .args .at) (at-start .args .n) (at-start .args .pool .now) (at-loop .pool) (at-loop .x) (at-loop .miss) (at-loop .m) (at-loop .c) (at-loop .k) (at-loop .inv) (at-read-list .result) (at-read-list .last .1 .1 .1 .1 .0) (at-read-list .ensures) (sym (at-peek .ensures) ∙ at-if1 .left) (at-if2 .left) (c .enum-told .given .1) (at-read-list .last .1 .1 .1 .1 .0)
+      listed-missing (at-start .args .text .now) (at-start .args .level) (at-start .args .count) (at-start .args .at) (at-start .args .n) (at-start .args .pool .now) (at-loop .pool) (at-loop .x)
+      (at-loop .miss) (at-loop .m) (at-loop .c) (at-loop .k) (at-loop .inv) (at-read-list .result) (at-read-list .last .1 .1 .1 .1 .0) (at-read-list .ensures)
+      (sym (at-peek .ensures) ∙ at-if1 .left) (at-if2 .left) (c .enum-told .given .1) (at-read-list .last .1 .1 .1 .1 .0)
 
   read-alternatives-enum-known-got-2 : read-alternatives-lts.Need-enum-known-got-2 (read-alternatives-claims t) (read-alternatives-at t) read-alternatives.Post read-alternatives-Inv-loop read-alternatives-μ-loop
   read-alternatives-enum-known-got-2 c = search needs
@@ -304,7 +358,9 @@ module _ (t : ℕ) where
       let at-if1 = c .before .before .before .before .before .before .before .before .before .before .if1 in
       let at-peek = c .before .before .before .before .before .before .before .before .before .before .before .peek in
       let at-start = c .before .before .before .before .before .before .before .before .before .before .before .before .before .before in
-      listed-stop (at-start .args .text .now) (at-start .args .level) (at-start .args .count) (at-start .args .at) (at-start .args .n) (at-start .args .pool .now) (at-loop .pool) (at-loop .x) (at-loop .miss) (at-loop .m) (at-loop .c) (at-loop .k) (at-loop .inv) (at-read-list .result) (at-read-list .last .1 .1 .1 .1 .0) (at-read-list .ensures) (sym (at-peek .ensures) ∙ at-if1 .left) (at-if2 .left) (at-got2 .given .0 .0) (at-got2 .given .0 .1 .0) (at-got2 .given .1) (at-read-list .last .1 .1 .1 .1 .0)
+      listed-stop (at-start .args .text .now) (at-start .args .level) (at-start .args .count) (at-start .args .at) (at-start .args .n) (at-start .args .pool .now) (at-loop .pool) (at-loop .x)
+      (at-loop .miss) (at-loop .m) (at-loop .c) (at-loop .k) (at-loop .inv) (at-read-list .result) (at-read-list .last .1 .1 .1 .1 .0) (at-read-list .ensures)
+      (sym (at-peek .ensures) ∙ at-if1 .left) (at-if2 .left) (at-got2 .given .0 .0) (at-got2 .given .0 .1 .0) (at-got2 .given .1) (at-read-list .last .1 .1 .1 .1 .0)
 
   read-list-returns : read-list-lts.Need-returns (read-list-claims t) (read-list-at t) read-list.Post read-list-Inv-loop read-list-μ-loop
   read-list-returns c =
@@ -340,7 +396,9 @@ module _ (t : ℕ) where
       let at-read-token = c .before .before .before .before .before .before .read-token in
       let at-loop = c .before .before .before .before .before .before .before .before .loop in
       let at-start = c .before .before .before .before .before .before .before .before .before .before .before .before in
-      let s = stepped (at-start .args .text .now) (at-start .args .level) (at-start .args .count) (at-start .args .at) (at-start .args .n) (at-start .args .pool .now) (at-loop .pool) (at-loop .x) (at-loop .m) (at-loop .c) (at-loop .k) (at-loop .first) (at-loop .last) (at-loop .inv) (at-read-token .result) (at-read-token .last .1 .1 .1 .1 .0) (at-read-token .ensures) (at-got .given .0 .0) (at-got .given .0 .1 .0) (at-got .given .0 .1 .1 .0) (at-got .given .0 .1 .1 .1 .0) (at-got .given .1) in omega arith
+      let s = stepped (at-start .args .text .now) (at-start .args .level) (at-start .args .count) (at-start .args .at) (at-start .args .n) (at-start .args .pool .now) (at-loop .pool) (at-loop .x)
+      (at-loop .m) (at-loop .c) (at-loop .k) (at-loop .first) (at-loop .last) (at-loop .inv) (at-read-token .result) (at-read-token .last .1 .1 .1 .1 .0) (at-read-token .ensures)
+      (at-got .given .0 .0) (at-got .given .0 .1 .0) (at-got .given .0 .1 .1 .0) (at-got .given .0 .1 .1 .1 .0) (at-got .given .1) in omega arith
 
   read-list-loop-again : read-list-lts.Need-loop-again (read-list-claims t) (read-list-at t) read-list.Post read-list-Inv-loop read-list-μ-loop
   read-list-loop-again c =
@@ -348,7 +406,16 @@ module _ (t : ℕ) where
       let at-read-token = c .before .before .before .before .before .before .read-token in
       let at-loop = c .before .before .before .before .before .before .before .before .loop in
       let at-start = c .before .before .before .before .before .before .before .before .before .before .before .before in
-      let o = at-start .pre .1 in let e = at-start .pre .0 in let v = at-loop .inv in let r : (at-start .args .n) ≤ length (at-start .args .pool .now) = omega arith in subst (λ (b : Bool). Tokened (at-start .args .text .now) (at-start .args .level) (at-start .args .count) (at-start .args .at) (at-start .args .n) (at-start .args .pool .now) (at-read-token .last .1 .1 .1 .1 .0) (at-got .given .0 .0) (at-got .given .0 .1 .0) (at-got .given .0 .1 .1 .0) (at-loop .k + 1) b (at-got .given .0 .1 .1 .1 .0)) (sym (c .first-jump .ensures)) (tokened-next (at-start .args .text .now) (at-start .args .level) (at-start .args .count) (at-start .args .at) (at-start .args .n) (at-start .args .pool .now) (at-loop .pool) (at-loop .x) (at-loop .m) (at-loop .c) (at-loop .k) (at-loop .first) (at-loop .last) (at-loop .inv) (at-read-token .result) (at-read-token .last .1 .1 .1 .1 .0) (at-read-token .ensures) (at-got .given .0 .0) (at-got .given .0 .1 .0) (at-got .given .0 .1 .1 .0) (at-got .given .0 .1 .1 .1 .0) r (at-read-token .kept .1 .1 .1 .1 .0) (at-got .given .1))
+      let o = at-start .pre .1 in
+      let e = at-start .pre .0 in
+      let v = at-loop .inv in
+      let r : (at-start .args .n) ≤ length (at-start .args .pool .now) = omega arith in subst
+      (λ (b : Bool). Tokened (at-start .args .text .now) (at-start .args .level) (at-start .args .count) (at-start .args .at) (at-start .args .n) (at-start .args .pool .now)
+      (at-read-token .last .1 .1 .1 .1 .0) (at-got .given .0 .0) (at-got .given .0 .1 .0) (at-got .given .0 .1 .1 .0) (at-loop .k + 1) b (at-got .given .0 .1 .1 .1 .0))
+      (sym (c .first-jump .ensures))
+      (tokened-next (at-start .args .text .now) (at-start .args .level) (at-start .args .count) (at-start .args .at) (at-start .args .n) (at-start .args .pool .now) (at-loop .pool) (at-loop .x)
+      (at-loop .m) (at-loop .c) (at-loop .k) (at-loop .first) (at-loop .last) (at-loop .inv) (at-read-token .result) (at-read-token .last .1 .1 .1 .1 .0) (at-read-token .ensures)
+      (at-got .given .0 .0) (at-got .given .0 .1 .0) (at-got .given .0 .1 .1 .0) (at-got .given .0 .1 .1 .1 .0) r (at-read-token .kept .1 .1 .1 .1 .0) (at-got .given .1))
 
   read-list-enum-told : read-list-lts.Need-enum-told (read-list-claims t) (read-list-at t) read-list.Post read-list-Inv-loop read-list-μ-loop
   read-list-enum-told c = search needs
@@ -369,7 +436,11 @@ module _ (t : ℕ) where
       let at-loop = c .before .before .before .before .before .before .before .loop in
       let at-if1 = c .before .before .before .before .before .before .before .before .if1 in
       let at-start = c .before .before .before .before .before .before .before .before .before .before .before in
-      subst (λ (r : ListGot). ListSays (list (at-start .args .text .now) (at-start .args .level) (at-start .args .count) (at-start .args .at)) (at-start .args .n) r (at-start .args .pool .now) (at-read-token .last .1 .1 .1 .1 .0)) (sym (c .list-end .ensures)) (tokened-end (at-start .args .text .now) (at-start .args .level) (at-start .args .count) (at-start .args .at) (at-start .args .n) (at-start .args .pool .now) (at-loop .pool) (at-loop .x) (at-loop .m) (at-loop .c) (at-loop .k) (at-loop .first) (at-loop .last) (at-loop .inv) (at-read-token .result) (at-read-token .last .1 .1 .1 .1 .0) (at-read-token .ensures) (at-if1 .left) (at-enum-told .given .1))
+      subst (λ (r : ListGot). ListSays (list (at-start .args .text .now) (at-start .args .level) (at-start .args .count) (at-start .args .at)) (at-start .args .n) r (at-start .args .pool .now)
+      (at-read-token .last .1 .1 .1 .1 .0)) (sym (c .list-end .ensures))
+      (tokened-end (at-start .args .text .now) (at-start .args .level) (at-start .args .count) (at-start .args .at) (at-start .args .n) (at-start .args .pool .now) (at-loop .pool) (at-loop .x)
+      (at-loop .m) (at-loop .c) (at-loop .k) (at-loop .first) (at-loop .last) (at-loop .inv) (at-read-token .result) (at-read-token .last .1 .1 .1 .1 .0) (at-read-token .ensures) (at-if1 .left)
+      (at-enum-told .given .1))
 
   read-list-enum-known-got-2 : read-list-lts.Need-enum-known-got-2 (read-list-claims t) (read-list-at t) read-list.Post read-list-Inv-loop read-list-μ-loop
   read-list-enum-known-got-2 c = search needs
@@ -387,7 +458,9 @@ module _ (t : ℕ) where
       let at-loop = c .before .before .before .before .before .before .before .loop in
       let at-if1 = c .before .before .before .before .before .before .before .before .if1 in
       let at-start = c .before .before .before .before .before .before .before .before .before .before .before in
-      tokened-stop (at-start .args .text .now) (at-start .args .level) (at-start .args .count) (at-start .args .at) (at-start .args .n) (at-start .args .pool .now) (at-loop .pool) (at-loop .x) (at-loop .m) (at-loop .c) (at-loop .k) (at-loop .first) (at-loop .last) (at-loop .inv) (at-read-token .result) (at-read-token .last .1 .1 .1 .1 .0) (at-read-token .ensures) (at-if1 .left) (at-got2 .given .0 .0) (at-got2 .given .0 .1 .0) (at-got2 .given .1)
+      tokened-stop (at-start .args .text .now) (at-start .args .level) (at-start .args .count) (at-start .args .at) (at-start .args .n) (at-start .args .pool .now) (at-loop .pool) (at-loop .x)
+      (at-loop .m) (at-loop .c) (at-loop .k) (at-loop .first) (at-loop .last) (at-loop .inv) (at-read-token .result) (at-read-token .last .1 .1 .1 .1 .0) (at-read-token .ensures) (at-if1 .left)
+      (at-got2 .given .0 .0) (at-got2 .given .0 .1 .0) (at-got2 .given .1)
 
   read-token-plain-token-requires : read-token-lts.Need-plain-token-requires (read-token-claims t) (read-token-at t) read-token.Post
   read-token-plain-token-requires c κs = search needs
@@ -400,7 +473,10 @@ module _ (t : ℕ) where
       let at-piece = c .before .before .piece in
       let at-plain-token = c .before .before .before .before .plain-token in
       let at-start = c .before .before .before .before .before .before .before in
-      says-refused (token (at-start .args .text .now) (at-start .args .level) (at-start .args .count) (at-start .args .at)) (at-start .args .n) (at-start .args .pool .now) (at-start .args .pool .now) TooManyTokens (at-start .args .at) (token-full (at-start .args .text .now) (at-start .args .level) (at-start .args .count) (at-start .args .at) (sym (at-plain-token .ensures) ∙ ap pieceOf (at-piece .given .1)) (c .if1 .taken))
+      says-refused (token (at-start .args .text .now) (at-start .args .level) (at-start .args .count) (at-start .args .at)) (at-start .args .n) (at-start .args .pool .now)
+      (at-start .args .pool .now) TooManyTokens (at-start .args .at)
+      (token-full (at-start .args .text .now) (at-start .args .level) (at-start .args .count) (at-start .args .at) (sym (at-plain-token .ensures) ∙ ap pieceOf (at-piece .given .1))
+      (c .if1 .taken))
 
   read-token-put-plain-requires : read-token-lts.Need-put-plain-requires (read-token-claims t) (read-token-at t) read-token.Post
   read-token-put-plain-requires c κs =
@@ -441,7 +517,12 @@ module _ (t : ℕ) where
       let at-piece = c .before .before .before .before .before .before .piece in
       let at-plain-token = c .before .before .before .before .before .before .before .before .plain-token in
       let at-start = c .before .before .before .before .before .before .before .before .before .before .before in
-      let w : length (entriesOf (tokenOf (at-piece .given .0 .0))) ≡ 4 = one-entry (at-start .args .text .now) (at-start .args .level) (at-start .args .count) (at-start .args .at) (sym (at-plain-token .ensures) ∙ ap pieceOf (at-piece .given .1)) in says-read (token (at-start .args .text .now) (at-start .args .level) (at-start .args .count) (at-start .args .at)) (at-start .args .n) (at-start .args .pool .now) (at-put-plain .last .0) (tokenOf (at-piece .given .0 .0)) (at-piece .given .0 .1 .1 .0) ((at-start .args .count) + 1) ((at-start .args .n) + 4) (at-put-plain .result) (token-found (at-start .args .text .now) (at-start .args .level) (at-start .args .count) (at-start .args .at) (sym (at-plain-token .ensures) ∙ ap pieceOf (at-piece .given .1)) (at-if1 .left)) (omega arith) (at-put-plain .ensures .0) (at-put-plain .ensures .1)
+      let w : length (entriesOf (tokenOf (at-piece .given .0 .0))) ≡ 4 = one-entry (at-start .args .text .now) (at-start .args .level) (at-start .args .count) (at-start .args .at)
+      (sym (at-plain-token .ensures) ∙ ap pieceOf (at-piece .given .1)) in says-read (token (at-start .args .text .now) (at-start .args .level) (at-start .args .count) (at-start .args .at))
+      (at-start .args .n) (at-start .args .pool .now) (at-put-plain .last .0) (tokenOf (at-piece .given .0 .0)) (at-piece .given .0 .1 .1 .0) ((at-start .args .count) + 1)
+      ((at-start .args .n) + 4) (at-put-plain .result)
+      (token-found (at-start .args .text .now) (at-start .args .level) (at-start .args .count) (at-start .args .at) (sym (at-plain-token .ensures) ∙ ap pieceOf (at-piece .given .1))
+      (at-if1 .left)) (omega arith) (at-put-plain .ensures .0) (at-put-plain .ensures .1)
 
   read-token-same-length-2 : read-token-lts.Need-same-length-2 (read-token-claims t) (read-token-at t) read-token.Post
   read-token-same-length-2 c = search needs
@@ -452,7 +533,10 @@ module _ (t : ℕ) where
       let at-enum-told = c .before .before .before .before .enum-told in
       let at-plain-token = c .before .before .before .before .before .before .plain-token in
       let at-start = c .before .before .before .before .before .before .before .before .before in
-      says-same (token (at-start .args .text .now) (at-start .args .level) (at-start .args .count) (at-start .args .at)) (alternatives (at-start .args .text .now) (at-start .args .level) (at-start .args .count) (at-start .args .at)) _ _ _ _ (token-other (at-start .args .text .now) (at-start .args .level) (at-start .args .count) (at-start .args .at) (sym (at-plain-token .ensures) ∙ ap pieceOf (at-enum-told .given .1))) (at-read-alternatives .ensures)
+      says-same (token (at-start .args .text .now) (at-start .args .level) (at-start .args .count) (at-start .args .at))
+      (alternatives (at-start .args .text .now) (at-start .args .level) (at-start .args .count) (at-start .args .at)) _ _ _ _
+      (token-other (at-start .args .text .now) (at-start .args .level) (at-start .args .count) (at-start .args .at) (sym (at-plain-token .ensures) ∙ ap pieceOf (at-enum-told .given .1)))
+      (at-read-alternatives .ensures)
 
   read-token-returns-4 : read-token-lts.Need-returns-4 (read-token-claims t) (read-token-at t) read-token.Post
   read-token-returns-4 c =

@@ -66,7 +66,14 @@ prefixed-by-mul-after t c =
     let at-if1 = c .before .before .before .if1 in
     let at-past-bytes = c .before .before .before .before .past-bytes in
     let at-start = c .before .before .before .before .before .before in
-    omega (arith, mul-le-mul (spell.prefixes-few (at-past-bytes .result .now) (at-if1 .left) (at-start .args .p) (numerable t (c .before .before .before .before)) (at-tally-token .result .literals) (at-tally-token .ensures .literals-are)) (spell.c-le (at-past-bytes .result .now) (at-if1 .left) (at-start .args .p) (numerable t (c .before .before .before .before)) (at-tally-token .result .literals) (at-tally-token .ensures .literals-are)))
+    omega (
+      arith,
+      mul-le-mul
+          (spell.prefixes-few (at-past-bytes .result .now) (at-if1 .left) (at-start .args .p) (numerable t (c .before .before .before .before)) (at-tally-token .result .literals)
+          (at-tally-token .ensures .literals-are))
+          (spell.c-le (at-past-bytes .result .now) (at-if1 .left) (at-start .args .p) (numerable t (c .before .before .before .before)) (at-tally-token .result .literals)
+          (at-tally-token .ensures .literals-are)),
+    )
 
 prefixed-by-mul-prefixed-by : (t : ℕ) → prefixed-by-lts.Need-mul-prefixed-by (prefixed-by-cl t) (prefixed-by-at t) prefixed-by.Post
 prefixed-by-mul-prefixed-by t c =
@@ -98,16 +105,33 @@ prefixed-by-prefixed-by-requires t c κs =
     let at-tally-token = c .before .before .before .tally-token in
     let at-if1 = c .before .before .before .before .if1 in
     let at-past-bytes = c .before .before .before .before .before .past-bytes in
-    let at-start = c .before .before .before .before .before .before .before in
-    (omega (arith, (at-start .pre .0), (at-past-bytes .ensures .short), part.part-less (at-width-of .result) (at-past-bytes .result .now) (omega (arith, (at-width-of .ensures), (step.width-long (at-past-bytes .result .now) (at-if1 .left)))) (at-if1 .left)), subst (λ (l : List ℕ). Numerable (at-start .args .p * at-tally-token .result .literals) (count (tokensIn l))) (ap (λ (x : ℕ). drop x (at-past-bytes .result .now)) (sym (at-width-of .ensures)) ∙ sym (part.part-all (at-width-of .result) (at-past-bytes .result .now))) (spell.after-numerable (at-past-bytes .result .now) (at-if1 .left) (at-start .args .p) (numerable t (c .before .before .before .before .before)) (at-tally-token .result .literals) (at-tally-token .ensures .literals-are)))
+    let at-start = c .before .before .before .before .before .before .before in (
+      omega (
+        arith,
+        (at-start .pre .0),
+        (at-past-bytes .ensures .short),
+        part.part-less (at-width-of .result) (at-past-bytes .result .now)
+            (omega (arith, (at-width-of .ensures), (step.width-long (at-past-bytes .result .now) (at-if1 .left)))) (at-if1 .left),
+      ),
+      subst
+          (λ (l : List ℕ). Numerable (at-start .args .p * at-tally-token .result .literals) (count (tokensIn l)))
+          (ap (λ (x : ℕ). drop x (at-past-bytes .result .now)) (sym (at-width-of .ensures)) ∙ sym (part.part-all (at-width-of .result) (at-past-bytes .result .now)))
+          (spell.after-numerable (at-past-bytes .result .now) (at-if1 .left) (at-start .args .p) (numerable t (c .before .before .before .before .before)) (at-tally-token .result .literals)
+          (at-tally-token .ensures .literals-are)),
+    )
 
 prefixed-by-prefix-of-requires : (t : ℕ) → prefixed-by-lts.Need-prefix-of-requires (prefixed-by-cl t) (prefixed-by-at t) prefixed-by.Post
 prefixed-by-prefix-of-requires t c κs =
     let at-tally-token = c .before .before .before .before .tally-token in
     let at-if1 = c .before .before .before .before .before .if1 in
     let at-past-bytes = c .before .before .before .before .before .before .past-bytes in
-    let at-start = c .before .before .before .before .before .before .before .before in
-    ((at-if1 .left), spell.prefixes-few (at-past-bytes .result .now) (at-if1 .left) (at-start .args .p) (numerable t (c .before .before .before .before .before .before)) (at-tally-token .result .literals) (at-tally-token .ensures .literals-are), spell.token-few (at-past-bytes .result .now) (at-if1 .left) (at-start .args .p) (numerable t (c .before .before .before .before .before .before)) (at-tally-token .result .literals) (at-tally-token .ensures .literals-are))
+    let at-start = c .before .before .before .before .before .before .before .before in (
+      (at-if1 .left),
+      spell.prefixes-few (at-past-bytes .result .now) (at-if1 .left) (at-start .args .p) (numerable t (c .before .before .before .before .before .before))
+          (at-tally-token .result .literals) (at-tally-token .ensures .literals-are),
+      spell.token-few (at-past-bytes .result .now) (at-if1 .left) (at-start .args .p)
+          (numerable t (c .before .before .before .before .before .before)) (at-tally-token .result .literals) (at-tally-token .ensures .literals-are),
+    )
 
 prefixed-by-returns-2 : (t : ℕ) → prefixed-by-lts.Need-returns-2 (prefixed-by-cl t) (prefixed-by-at t) prefixed-by.Post
 prefixed-by-returns-2 t c =
@@ -117,7 +141,14 @@ prefixed-by-returns-2 t c =
     let at-if1 = c .before .before .before .before .before .before .if1 in
     let at-past-bytes = c .before .before .before .before .before .before .before .past-bytes in
     let at-start = c .before .before .before .before .before .before .before .before .before in
-    c .prefix-of .ensures ∙ ap (prefixOf (tokenIn (at-past-bytes .result .now)) (at-start .args .p)) (at-prefixed-by .ensures ∙ ap₂ (λ (x : ℕ) (l : List ℕ). prefixed (tokensIn l) (at-start .args .p * x) (at-start .args .k)) (spell.token-exact (at-past-bytes .result .now) (at-if1 .left) (at-start .args .p) (numerable t (c .before .before .before .before .before .before .before)) (at-tally-token .result .literals) (at-tally-token .ensures .literals-are)) (sym (ap (λ (x : ℕ). drop x (at-past-bytes .result .now)) (sym (at-width-of .ensures)) ∙ sym (part.part-all (at-width-of .result) (at-past-bytes .result .now))))) ∙ sym (spell.prefixed-step (at-past-bytes .result .now) (at-if1 .left) (at-start .args .p) (at-start .args .k)) ∙ sym (at-past-bytes .ensures .numbered (at-start .args .p) (at-start .args .k))
+    c .prefix-of .ensures
+    ∙ ap (prefixOf (tokenIn (at-past-bytes .result .now)) (at-start .args .p))
+    (at-prefixed-by .ensures
+    ∙ ap₂ (λ (x : ℕ) (l : List ℕ). prefixed (tokensIn l) (at-start .args .p * x) (at-start .args .k))
+    (spell.token-exact (at-past-bytes .result .now) (at-if1 .left) (at-start .args .p) (numerable t (c .before .before .before .before .before .before .before)) (at-tally-token .result .literals)
+    (at-tally-token .ensures .literals-are))
+    (sym (ap (λ (x : ℕ). drop x (at-past-bytes .result .now)) (sym (at-width-of .ensures)) ∙ sym (part.part-all (at-width-of .result) (at-past-bytes .result .now)))))
+    ∙ sym (spell.prefixed-step (at-past-bytes .result .now) (at-if1 .left) (at-start .args .p) (at-start .args .k)) ∙ sym (at-past-bytes .ensures .numbered (at-start .args .p) (at-start .args .k))
 
 pub +prefixed-by-spec : {M : Type 1} → statement M
 +prefixed-by-spec = close μ-prefixed-by λ t. prefixed-by-lts.spec (prefixed-by-cl t) (prefixed-by-at t)

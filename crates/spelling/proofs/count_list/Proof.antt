@@ -60,8 +60,13 @@ loop-again c =
     let at-times = c .before .times in
     let at-taken-count = c .before .before .taken-count in
     let at-loop-test = c .before .before .before .before .before .before .loop-test in
-    let at-loop = c .before .before .before .before .before .before .before .loop in
-    (omega (arith, at-times .ensures), at-loop .inv .1 ∙ law.flat-count-more (at-loop .n) (at-loop .rest .now) (at-loop-test .taken) ∙ ap₂ (λ (x : ℕ) (l : List ℕ). min 257 (x * count (flatIn l))) (sym (at-times .ensures ∙ ap (λ (y : ℕ). min 257 (at-loop .n * y)) (law.taken-capped (at-loop .rest .now) _ (at-taken-count .ensures .0) (at-taken-count .ensures .1)))) (sym (part.part-all 4 (at-loop .rest .now))))
+    let at-loop = c .before .before .before .before .before .before .before .loop in (
+      omega (arith, at-times .ensures),
+      at-loop .inv .1 ∙ law.flat-count-more (at-loop .n) (at-loop .rest .now) (at-loop-test .taken)
+          ∙ ap₂ (λ (x : ℕ) (l : List ℕ). min 257 (x * count (flatIn l)))
+          (sym (at-times .ensures ∙ ap (λ (y : ℕ). min 257 (at-loop .n * y)) (law.taken-capped (at-loop .rest .now) _ (at-taken-count .ensures .0) (at-taken-count .ensures .1))))
+          (sym (part.part-all 4 (at-loop .rest .now))),
+    )
 
 returns : tie.Need-returns Inv-loop μ-loop
 returns c =

@@ -99,8 +99,15 @@ loop-again c =
     let at-if1 = c .before .if1 in
     let at-width-of = c .before .before .before .width-of in
     let at-loop-test = c .before .before .before .before .loop-test in
-    let at-loop = c .before .before .before .before .before .loop in
-    (omega (arith, part.part-le (at-width-of .result) (at-loop .rest .now)), at-loop .inv .1 ∙ ⊎-elim (λ w. law.tokens-inside (at-loop .rest .now) (at-loop-test .taken) (w .0 .taken) (ap (λ (x : ℕ). plainLists (listsIn (take (x - 4) (drop 4 (at-loop .rest .now))))) (sym (step.width-inside (at-loop .rest .now) (w .0 .taken)) ∙ sym (at-width-of .ensures)) ∙ sym (w .2 .ensures) ∙ not-false _ (w .3 .left))) (λ w. law.tokens-other (at-loop .rest .now) (at-loop-test .taken) (w .left)) (at-if1 .came) ∙ ap (λ (l : List ℕ). plain (tokensIn l)) (ap (λ (x : ℕ). drop x (at-loop .rest .now)) (sym (at-width-of .ensures)) ∙ sym (part.part-all (at-width-of .result) (at-loop .rest .now))))
+    let at-loop = c .before .before .before .before .before .loop in (
+      omega (arith, part.part-le (at-width-of .result) (at-loop .rest .now)),
+      at-loop .inv .1
+          ∙ ⊎-elim
+          (λ w. law.tokens-inside (at-loop .rest .now) (at-loop-test .taken) (w .0 .taken)
+          (ap (λ (x : ℕ). plainLists (listsIn (take (x - 4) (drop 4 (at-loop .rest .now))))) (sym (step.width-inside (at-loop .rest .now) (w .0 .taken)) ∙ sym (at-width-of .ensures))
+          ∙ sym (w .2 .ensures) ∙ not-false _ (w .3 .left))) (λ w. law.tokens-other (at-loop .rest .now) (at-loop-test .taken) (w .left)) (at-if1 .came)
+          ∙ ap (λ (l : List ℕ). plain (tokensIn l)) (ap (λ (x : ℕ). drop x (at-loop .rest .now)) (sym (at-width-of .ensures)) ∙ sym (part.part-all (at-width-of .result) (at-loop .rest .now))),
+    )
 
 returns-2 : tie.Need-returns-2 Inv-loop μ-loop
 returns-2 c =

@@ -69,8 +69,21 @@ loop-again c =
     let at-width-of = c .before .width-of in
     let at-length-token = c .before .before .length-token in
     let at-loop-test = c .before .before .before .loop-test in
-    let at-loop = c .before .before .before .before .loop in
-    (omega (arith, part.part-le (at-width-of .result) (at-loop .rest .now)), omega (arith, part.part-long (at-width-of .result) (at-loop .rest .now), at-length-token .ensures .1, (at-width-of .ensures), (step.width-le (at-loop .rest .now) (at-loop-test .taken))), at-loop .inv .2 ∙ (ap (λ (x : ℕ). at-loop .n + x) (law.tokens-length-more (at-loop .rest .now) (at-loop-test .taken)) ∙ sym (add-assoc (at-loop .n) (lengthOf (tokenIn (at-loop .rest .now))) (lengthIn (tokensIn (drop (width (at-loop .rest .now)) (at-loop .rest .now))))) ∙ ap₂ (λ (x : ℕ) (l : List ℕ). at-loop .n + x + lengthIn (tokensIn l)) (sym (at-length-token .ensures .0)) (ap (λ (x : ℕ). drop x (at-loop .rest .now)) (sym (at-width-of .ensures)) ∙ sym (part.part-all (at-width-of .result) (at-loop .rest .now)))))
+    let at-loop = c .before .before .before .before .loop in (
+      omega (arith, part.part-le (at-width-of .result) (at-loop .rest .now)),
+      omega (
+        arith,
+        part.part-long (at-width-of .result) (at-loop .rest .now),
+        at-length-token .ensures .1,
+        (at-width-of .ensures),
+        (step.width-le (at-loop .rest .now) (at-loop-test .taken)),
+      ),
+      at-loop .inv .2
+          ∙ (ap (λ (x : ℕ). at-loop .n + x) (law.tokens-length-more (at-loop .rest .now) (at-loop-test .taken))
+          ∙ sym (add-assoc (at-loop .n) (lengthOf (tokenIn (at-loop .rest .now))) (lengthIn (tokensIn (drop (width (at-loop .rest .now)) (at-loop .rest .now)))))
+          ∙ ap₂ (λ (x : ℕ) (l : List ℕ). at-loop .n + x + lengthIn (tokensIn l)) (sym (at-length-token .ensures .0))
+          (ap (λ (x : ℕ). drop x (at-loop .rest .now)) (sym (at-width-of .ensures)) ∙ sym (part.part-all (at-width-of .result) (at-loop .rest .now)))),
+    )
 
 returns : tie.Need-returns Inv-loop μ-loop
 returns c =

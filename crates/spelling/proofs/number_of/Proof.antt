@@ -55,7 +55,11 @@ returns-2 : tie.Need-returns-2
 returns-2 c =
     let at-width-of = c .before .before .width-of in
     let at-start = c .before .before .before .before .before in
-    ap (pieceOf (tokenIn (at-start .args .ws .now)) (at-start .args .p)) (c .prefixed-by .ensures ∙ ap₂ (λ (x : ℕ) (l : List ℕ). prefixed (tokensIn l) (at-start .args .p * x) (at-start .args .k)) (spell.token-exact (at-start .args .ws .now) (at-start .pre .0) (at-start .args .p) (at-start .pre .1) (at-start .args .n) (at-start .pre .2)) (sym (ap (λ (x : ℕ). drop x (at-start .args .ws .now)) (sym (at-width-of .ensures)) ∙ sym (part.part-all (at-width-of .result) (at-start .args .ws .now)))))
+    ap (pieceOf (tokenIn (at-start .args .ws .now)) (at-start .args .p))
+    (c .prefixed-by .ensures
+    ∙ ap₂ (λ (x : ℕ) (l : List ℕ). prefixed (tokensIn l) (at-start .args .p * x) (at-start .args .k))
+    (spell.token-exact (at-start .args .ws .now) (at-start .pre .0) (at-start .args .p) (at-start .pre .1) (at-start .args .n) (at-start .pre .2))
+    (sym (ap (λ (x : ℕ). drop x (at-start .args .ws .now)) (sym (at-width-of .ensures)) ∙ sym (part.part-all (at-width-of .result) (at-start .args .ws .now)))))
 
 pub number-of-spec : {M : Type 1} → statement M
 number-of-spec =

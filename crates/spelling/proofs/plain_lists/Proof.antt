@@ -87,8 +87,13 @@ loop-again c =
     let at-plain-list = c .before .before .plain-list in
     let at-end-of = c .before .before .before .before .end-of in
     let at-loop-test = c .before .before .before .before .before .loop-test in
-    let at-loop = c .before .before .before .before .before .before .loop in
-    (omega (arith, part.part-le (at-end-of .result) (at-loop .rest .now)), at-loop .inv .1 ∙ law.lists-more (at-loop .rest .now) (at-loop-test .taken) (ap (λ (x : ℕ). plainList (flatIn (take (x - 4) (drop 4 (at-loop .rest .now))))) (sym (at-end-of .ensures)) ∙ sym (at-plain-list .ensures) ∙ not-false _ (at-if1 .left)) ∙ ap (λ (l : List ℕ). plainLists (listsIn l)) (ap (λ (x : ℕ). drop x (at-loop .rest .now)) (sym (at-end-of .ensures)) ∙ sym (part.part-all (at-end-of .result) (at-loop .rest .now))))
+    let at-loop = c .before .before .before .before .before .before .loop in (
+      omega (arith, part.part-le (at-end-of .result) (at-loop .rest .now)),
+      at-loop .inv .1
+          ∙ law.lists-more (at-loop .rest .now) (at-loop-test .taken)
+          (ap (λ (x : ℕ). plainList (flatIn (take (x - 4) (drop 4 (at-loop .rest .now))))) (sym (at-end-of .ensures)) ∙ sym (at-plain-list .ensures) ∙ not-false _ (at-if1 .left))
+          ∙ ap (λ (l : List ℕ). plainLists (listsIn l)) (ap (λ (x : ℕ). drop x (at-loop .rest .now)) (sym (at-end-of .ensures)) ∙ sym (part.part-all (at-end-of .result) (at-loop .rest .now))),
+    )
 
 returns-2 : tie.Need-returns-2 Inv-loop μ-loop
 returns-2 c =

@@ -103,8 +103,16 @@ loop-again c =
     let at-end-of = c .before .before .before .before .end-of in
     let at-loop-test = c .before .before .before .before .before .loop-test in
     let at-loop = c .before .before .before .before .before .before .loop in
-    let at-start = c .before .before .before .before .before .before .before .before in
-    (omega (arith, part.part-le (at-end-of .result) (at-loop .rest .now)), subst (λ (l : List ℕ). countIn (listsIn l) ≤ 256) (ap (λ (x : ℕ). drop x (at-loop .rest .now)) (sym (at-end-of .ensures)) ∙ sym (part.part-all (at-end-of .result) (at-loop .rest .now))) (spell.lists-few (at-loop .rest .now) (at-loop-test .taken) _ _ (at-end-of .ensures) (at-count-list .ensures) (at-loop .inv .1)), at-loop .inv .2 ∙ spell.prefix-passed (at-loop .rest .now) (at-loop-test .taken) _ _ (at-end-of .ensures) (at-count-list .ensures) (at-loop .inv .1) (at-start .args .p) (at-loop .left) (at-if1 .left) ∙ ap (λ (l : List ℕ). prefixIn (listsIn l) (at-start .args .p) (at-loop .left - at-start .args .p * at-count-list .result)) (ap (λ (x : ℕ). drop x (at-loop .rest .now)) (sym (at-end-of .ensures)) ∙ sym (part.part-all (at-end-of .result) (at-loop .rest .now))))
+    let at-start = c .before .before .before .before .before .before .before .before in (
+      omega (arith, part.part-le (at-end-of .result) (at-loop .rest .now)),
+      subst (λ (l : List ℕ). countIn (listsIn l) ≤ 256)
+          (ap (λ (x : ℕ). drop x (at-loop .rest .now)) (sym (at-end-of .ensures)) ∙ sym (part.part-all (at-end-of .result) (at-loop .rest .now)))
+          (spell.lists-few (at-loop .rest .now) (at-loop-test .taken) _ _ (at-end-of .ensures) (at-count-list .ensures) (at-loop .inv .1)),
+      at-loop .inv .2
+          ∙ spell.prefix-passed (at-loop .rest .now) (at-loop-test .taken) _ _ (at-end-of .ensures) (at-count-list .ensures) (at-loop .inv .1) (at-start .args .p) (at-loop .left) (at-if1 .left)
+          ∙ ap (λ (l : List ℕ). prefixIn (listsIn l) (at-start .args .p) (at-loop .left - at-start .args .p * at-count-list .result))
+          (ap (λ (x : ℕ). drop x (at-loop .rest .now)) (sym (at-end-of .ensures)) ∙ sym (part.part-all (at-end-of .result) (at-loop .rest .now))),
+    )
 
 returns-2 : tie.Need-returns-2 Inv-loop μ-loop
 returns-2 c =

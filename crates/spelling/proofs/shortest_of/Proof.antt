@@ -54,8 +54,15 @@ loop-holds : tie.Need-loop-holds Inv-loop μ-loop
 loop-holds c =
     let at-end-of = c .before .end-of in
     let at-if1 = c .before .before .if1 in
-    let at-start = c .before .before .before .before in
-    (part.part-le (at-end-of .result) (at-start .args .ws .now), omega (arith, (at-end-of .ensures), step.ends-le (at-start .args .ws .now)), law.lists-shortest (at-start .args .ws .now) (at-if1 .left) ∙ ap₂ (λ (l : List ℕ) (x : ℕ). shorter (listsIn l) (x / 4)) (ap (λ (x : ℕ). drop x (at-start .args .ws .now)) (sym (at-end-of .ensures)) ∙ sym (part.part-all (at-end-of .result) (at-start .args .ws .now))) (law.length-inside (at-start .args .ws .now) (at-if1 .left) ∙ ap (λ (x : ℕ). x - 4) (sym (at-end-of .ensures))))
+    let at-start = c .before .before .before .before in (
+      part.part-le (at-end-of .result) (at-start .args .ws .now),
+      omega (arith, (at-end-of .ensures), step.ends-le (at-start .args .ws .now)),
+      law.lists-shortest (at-start .args .ws .now)
+          (at-if1 .left)
+          ∙ ap₂ (λ (l : List ℕ) (x : ℕ). shorter (listsIn l) (x / 4))
+          (ap (λ (x : ℕ). drop x (at-start .args .ws .now)) (sym (at-end-of .ensures)) ∙ sym (part.part-all (at-end-of .result) (at-start .args .ws .now)))
+          (law.length-inside (at-start .args .ws .now) (at-if1 .left) ∙ ap (λ (x : ℕ). x - 4) (sym (at-end-of .ensures))),
+    )
 
 end-of-requires-2 : tie.Need-end-of-requires-2 Inv-loop μ-loop
 end-of-requires-2 c κs = search needs
@@ -102,8 +109,14 @@ loop-again c =
     let at-smaller = c .before .smaller in
     let at-end-of2 = c .before .before .end-of2 in
     let at-loop-test = c .before .before .before .loop-test in
-    let at-loop = c .before .before .before .before .loop in
-    (omega (arith, part.part-le (at-end-of2 .result) (at-loop .rest .now)), omega (arith, at-smaller .ensures), at-loop .inv .2 ∙ law.lists-shorter (at-loop .rest .now) (at-loop-test .taken) (at-loop .n) ∙ ap₂ (λ (l : List ℕ) (x : ℕ). shorter (listsIn l) x) (ap (λ (x : ℕ). drop x (at-loop .rest .now)) (sym (at-end-of2 .ensures)) ∙ sym (part.part-all (at-end-of2 .result) (at-loop .rest .now))) (ap (λ (x : ℕ). min (at-loop .n) (x / 4)) (law.length-inside (at-loop .rest .now) (at-loop-test .taken) ∙ ap (λ (x : ℕ). x - 4) (sym (at-end-of2 .ensures))) ∙ sym (at-smaller .ensures)))
+    let at-loop = c .before .before .before .before .loop in (
+      omega (arith, part.part-le (at-end-of2 .result) (at-loop .rest .now)),
+      omega (arith, at-smaller .ensures),
+      at-loop .inv .2
+          ∙ law.lists-shorter (at-loop .rest .now) (at-loop-test .taken) (at-loop .n)
+          ∙ ap₂ (λ (l : List ℕ) (x : ℕ). shorter (listsIn l) x) (ap (λ (x : ℕ). drop x (at-loop .rest .now)) (sym (at-end-of2 .ensures)) ∙ sym (part.part-all (at-end-of2 .result) (at-loop .rest .now)))
+          (ap (λ (x : ℕ). min (at-loop .n) (x / 4)) (law.length-inside (at-loop .rest .now) (at-loop-test .taken) ∙ ap (λ (x : ℕ). x - 4) (sym (at-end-of2 .ensures))) ∙ sym (at-smaller .ensures)),
+    )
 
 returns-2 : tie.Need-returns-2 Inv-loop μ-loop
 returns-2 c =

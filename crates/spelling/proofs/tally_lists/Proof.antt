@@ -95,8 +95,25 @@ loop-again c =
     let at-count-list = c .before .before .before .count-list in
     let at-end-of = c .before .before .before .before .before .end-of in
     let at-loop-test = c .before .before .before .before .before .before .loop-test in
-    let at-loop = c .before .before .before .before .before .before .before .loop in
-    (omega (arith, part.part-le (at-end-of .result) (at-loop .rest .now)), omega (arith, at-smaller .ensures), omega (arith, at-times .ensures), at-loop .inv .3 ∙ law.lists-count-more (at-loop .rest .now) (at-loop-test .taken) (at-loop .literals) ∙ ap₂ (λ (x : ℕ) (l : List ℕ). min 257 (x + countIn (listsIn l))) (sym (at-smaller .ensures ∙ ap (λ (y : ℕ). min 257 (at-loop .literals + y)) (at-count-list .ensures ∙ ap (λ (l : List ℕ). min 257 (count (flatIn l))) (ap (λ (x : ℕ). take (x - 4) (drop 4 (at-loop .rest .now))) (at-end-of .ensures))))) (ap (λ (x : ℕ). drop x (at-loop .rest .now)) (sym (at-end-of .ensures)) ∙ sym (part.part-all (at-end-of .result) (at-loop .rest .now))), at-loop .inv .4 ∙ law.lists-combinations-more (at-loop .rest .now) (at-loop-test .taken) (at-loop .combinations) ∙ ap₂ (λ (x : ℕ) (l : List ℕ). min 257 (x * combinationsIn (listsIn l))) (sym (at-times .ensures ∙ ap (λ (y : ℕ). min 257 (at-loop .combinations * y)) (at-count-list .ensures ∙ ap (λ (l : List ℕ). min 257 (count (flatIn l))) (ap (λ (x : ℕ). take (x - 4) (drop 4 (at-loop .rest .now))) (at-end-of .ensures))))) (ap (λ (x : ℕ). drop x (at-loop .rest .now)) (sym (at-end-of .ensures)) ∙ sym (part.part-all (at-end-of .result) (at-loop .rest .now))))
+    let at-loop = c .before .before .before .before .before .before .before .loop in (
+      omega (arith, part.part-le (at-end-of .result) (at-loop .rest .now)),
+      omega (arith, at-smaller .ensures),
+      omega (arith, at-times .ensures),
+      at-loop .inv .3
+          ∙ law.lists-count-more (at-loop .rest .now) (at-loop-test .taken) (at-loop .literals)
+          ∙ ap₂ (λ (x : ℕ) (l : List ℕ). min 257 (x + countIn (listsIn l)))
+          (sym (at-smaller .ensures
+          ∙ ap (λ (y : ℕ). min 257 (at-loop .literals + y))
+          (at-count-list .ensures ∙ ap (λ (l : List ℕ). min 257 (count (flatIn l))) (ap (λ (x : ℕ). take (x - 4) (drop 4 (at-loop .rest .now))) (at-end-of .ensures)))))
+          (ap (λ (x : ℕ). drop x (at-loop .rest .now)) (sym (at-end-of .ensures)) ∙ sym (part.part-all (at-end-of .result) (at-loop .rest .now))),
+      at-loop .inv .4
+          ∙ law.lists-combinations-more (at-loop .rest .now) (at-loop-test .taken) (at-loop .combinations)
+          ∙ ap₂ (λ (x : ℕ) (l : List ℕ). min 257 (x * combinationsIn (listsIn l)))
+          (sym (at-times .ensures
+          ∙ ap (λ (y : ℕ). min 257 (at-loop .combinations * y))
+          (at-count-list .ensures ∙ ap (λ (l : List ℕ). min 257 (count (flatIn l))) (ap (λ (x : ℕ). take (x - 4) (drop 4 (at-loop .rest .now))) (at-end-of .ensures)))))
+          (ap (λ (x : ℕ). drop x (at-loop .rest .now)) (sym (at-end-of .ensures)) ∙ sym (part.part-all (at-end-of .result) (at-loop .rest .now))),
+    )
 
 returns : tie.Need-returns Inv-loop μ-loop
 returns c =

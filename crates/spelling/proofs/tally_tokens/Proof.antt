@@ -77,8 +77,20 @@ loop-again c =
     let at-times = c .before .before .before .times in
     let at-tally-token = c .before .before .before .before .tally-token in
     let at-loop-test = c .before .before .before .before .before .loop-test in
-    let at-loop = c .before .before .before .before .before .before .loop in
-    (omega (arith, part.part-le (at-width-of .result) (at-loop .rest .now)), omega (arith, at-times .ensures), omega (arith, at-times2 .ensures), at-loop .inv .3 ∙ law.tokens-count-more (at-loop .rest .now) (at-loop-test .taken) (at-loop .literals) ∙ ap₂ (λ (x : ℕ) (l : List ℕ). min 257 (x * count (tokensIn l))) (sym (at-times .ensures ∙ ap (λ (y : ℕ). min 257 (at-loop .literals * y)) (at-tally-token .ensures .literals-are))) (ap (λ (x : ℕ). drop x (at-loop .rest .now)) (sym (at-width-of .ensures)) ∙ sym (part.part-all (at-width-of .result) (at-loop .rest .now))), at-loop .inv .4 ∙ law.tokens-combinations-more (at-loop .rest .now) (at-loop-test .taken) (at-loop .combinations) ∙ ap₂ (λ (x : ℕ) (l : List ℕ). min 257 (x * combinations· (tokensIn l))) (sym (at-times2 .ensures ∙ ap (λ (y : ℕ). min 257 (at-loop .combinations * y)) (at-tally-token .ensures .combinations-are))) (ap (λ (x : ℕ). drop x (at-loop .rest .now)) (sym (at-width-of .ensures)) ∙ sym (part.part-all (at-width-of .result) (at-loop .rest .now))))
+    let at-loop = c .before .before .before .before .before .before .loop in (
+      omega (arith, part.part-le (at-width-of .result) (at-loop .rest .now)),
+      omega (arith, at-times .ensures),
+      omega (arith, at-times2 .ensures),
+      at-loop .inv .3
+          ∙ law.tokens-count-more (at-loop .rest .now) (at-loop-test .taken) (at-loop .literals)
+          ∙ ap₂ (λ (x : ℕ) (l : List ℕ). min 257 (x * count (tokensIn l))) (sym (at-times .ensures ∙ ap (λ (y : ℕ). min 257 (at-loop .literals * y)) (at-tally-token .ensures .literals-are)))
+          (ap (λ (x : ℕ). drop x (at-loop .rest .now)) (sym (at-width-of .ensures)) ∙ sym (part.part-all (at-width-of .result) (at-loop .rest .now))),
+      at-loop .inv .4
+          ∙ law.tokens-combinations-more (at-loop .rest .now) (at-loop-test .taken) (at-loop .combinations)
+          ∙ ap₂ (λ (x : ℕ) (l : List ℕ). min 257 (x * combinations· (tokensIn l)))
+          (sym (at-times2 .ensures ∙ ap (λ (y : ℕ). min 257 (at-loop .combinations * y)) (at-tally-token .ensures .combinations-are)))
+          (ap (λ (x : ℕ). drop x (at-loop .rest .now)) (sym (at-width-of .ensures)) ∙ sym (part.part-all (at-width-of .result) (at-loop .rest .now))),
+    )
 
 returns : tie.Need-returns Inv-loop μ-loop
 returns c =

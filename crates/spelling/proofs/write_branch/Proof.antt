@@ -90,8 +90,18 @@ write-list-requires c κs =
     let at-end-of = c .before .before .before .before .before .end-of in
     let at-loop-test = c .before .before .before .before .before .before .loop-test in
     let at-loop = c .before .before .before .before .before .before .before .loop in
-    let at-start = c .before .before .before .before .before .before .before .before .before .before in
-    (spell.within-list (at-loop .rest .now) (at-loop-test .taken) _ _ (at-end-of .ensures) (at-count-list .ensures) (at-loop .inv .2) (at-start .args .p) (at-loop .left) (at-if1 .taken) .0, spell.within-list (at-loop .rest .now) (at-loop-test .taken) _ _ (at-end-of .ensures) (at-count-list .ensures) (at-loop .inv .2) (at-start .args .p) (at-loop .left) (at-if1 .taken) .1, subst (λ (d : List ℕ). length (literalAt (flatIn (take (at-end-of .result - 4) (drop 4 (at-loop .rest .now)))) (at-loop .left % at-count-list .result)) ≤ length d) (sym (at-loop .inv .1)) (subst (λ (l : List ℕ). length l ≤ length (at-start .args .dst .now)) (at-loop .inv .3 ∙ spell.piece-found (at-loop .rest .now) (at-loop-test .taken) _ _ (at-end-of .ensures) (at-count-list .ensures) (at-loop .inv .2) (at-start .args .p) (at-loop .left) (at-if1 .taken)) ((at-start .pre) .2)))
+    let at-start = c .before .before .before .before .before .before .before .before .before .before in (
+      spell.within-list (at-loop .rest .now) (at-loop-test .taken) _ _ (at-end-of .ensures) (at-count-list .ensures) (at-loop .inv .2) (at-start .args .p) (at-loop .left)
+          (at-if1 .taken) .0,
+      spell.within-list (at-loop .rest .now) (at-loop-test .taken) _ _ (at-end-of .ensures) (at-count-list .ensures) (at-loop .inv .2) (at-start .args .p) (at-loop .left)
+          (at-if1 .taken) .1,
+      subst (λ (d : List ℕ). length (literalAt (flatIn (take (at-end-of .result - 4) (drop 4 (at-loop .rest .now)))) (at-loop .left % at-count-list .result)) ≤ length d)
+          (sym (at-loop .inv .1))
+          (subst (λ (l : List ℕ). length l ≤ length (at-start .args .dst .now))
+          (at-loop .inv .3
+          ∙ spell.piece-found (at-loop .rest .now) (at-loop-test .taken) _ _ (at-end-of .ensures) (at-count-list .ensures) (at-loop .inv .2) (at-start .args .p) (at-loop .left) (at-if1 .taken))
+          ((at-start .pre) .2)),
+    )
 
 same-length : tie.Need-same-length Inv-loop μ-loop
 same-length c =
@@ -108,7 +118,11 @@ returns c =
     let at-loop-test = c .before .before .before .before .before .before .before .before .before .loop-test in
     let at-loop = c .before .before .before .before .before .before .before .before .before .before .loop in
     let at-start = c .before .before .before .before .before .before .before .before .before .before .before .before .before in
-    subst (λ (l : List ℕ). Written (at-write-list .result) l (at-start .args .dst .now) (at-write-list .last .1 .1 .0)) (sym (at-loop .inv .3 ∙ spell.piece-found (at-loop .rest .now) (at-loop-test .taken) _ _ (at-end-of .ensures) (at-count-list .ensures) (at-loop .inv .2) (at-start .args .p) (at-loop .left) (at-if1 .taken))) (subst (λ (d : List ℕ). Written (at-write-list .result) (literalAt (flatIn (take (at-end-of .result - 4) (drop 4 (at-loop .rest .now)))) (at-loop .left % at-count-list .result)) d (at-write-list .last .1 .1 .0)) (at-loop .inv .1) (at-write-list .ensures))
+    subst (λ (l : List ℕ). Written (at-write-list .result) l (at-start .args .dst .now) (at-write-list .last .1 .1 .0))
+    (sym (at-loop .inv .3
+    ∙ spell.piece-found (at-loop .rest .now) (at-loop-test .taken) _ _ (at-end-of .ensures) (at-count-list .ensures) (at-loop .inv .2) (at-start .args .p) (at-loop .left) (at-if1 .taken)))
+    (subst (λ (d : List ℕ). Written (at-write-list .result) (literalAt (flatIn (take (at-end-of .result - 4) (drop 4 (at-loop .rest .now)))) (at-loop .left % at-count-list .result)) d
+    (at-write-list .last .1 .1 .0)) (at-loop .inv .1) (at-write-list .ensures))
 
 mul-rest : tie.Need-mul-rest Inv-loop μ-loop
 mul-rest c =
@@ -145,8 +159,17 @@ loop-again c =
     let at-end-of = c .before .before .before .before .end-of in
     let at-loop-test = c .before .before .before .before .before .loop-test in
     let at-loop = c .before .before .before .before .before .before .loop in
-    let at-start = c .before .before .before .before .before .before .before .before .before in
-    (omega (arith, part.part-le (at-end-of .result) (at-loop .rest .now)), at-loop .inv .1, subst (λ (l : List ℕ). countIn (listsIn l) ≤ 256) (ap (λ (x : ℕ). drop x (at-loop .rest .now)) (sym (at-end-of .ensures)) ∙ sym (part.part-all (at-end-of .result) (at-loop .rest .now))) (spell.lists-few (at-loop .rest .now) (at-loop-test .taken) _ _ (at-end-of .ensures) (at-count-list .ensures) (at-loop .inv .2)), at-loop .inv .3 ∙ spell.piece-passed (at-loop .rest .now) (at-loop-test .taken) _ _ (at-end-of .ensures) (at-count-list .ensures) (at-loop .inv .2) (at-start .args .p) (at-loop .left) (at-if1 .left) ∙ ap (λ (l : List ℕ). pieceIn (listsIn l) (at-start .args .p) (at-loop .left - at-start .args .p * at-count-list .result)) (ap (λ (x : ℕ). drop x (at-loop .rest .now)) (sym (at-end-of .ensures)) ∙ sym (part.part-all (at-end-of .result) (at-loop .rest .now))))
+    let at-start = c .before .before .before .before .before .before .before .before .before in (
+      omega (arith, part.part-le (at-end-of .result) (at-loop .rest .now)),
+      at-loop .inv .1,
+      subst (λ (l : List ℕ). countIn (listsIn l) ≤ 256)
+          (ap (λ (x : ℕ). drop x (at-loop .rest .now)) (sym (at-end-of .ensures)) ∙ sym (part.part-all (at-end-of .result) (at-loop .rest .now)))
+          (spell.lists-few (at-loop .rest .now) (at-loop-test .taken) _ _ (at-end-of .ensures) (at-count-list .ensures) (at-loop .inv .2)),
+      at-loop .inv .3
+          ∙ spell.piece-passed (at-loop .rest .now) (at-loop-test .taken) _ _ (at-end-of .ensures) (at-count-list .ensures) (at-loop .inv .2) (at-start .args .p) (at-loop .left) (at-if1 .left)
+          ∙ ap (λ (l : List ℕ). pieceIn (listsIn l) (at-start .args .p) (at-loop .left - at-start .args .p * at-count-list .result))
+          (ap (λ (x : ℕ). drop x (at-loop .rest .now)) (sym (at-end-of .ensures)) ∙ sym (part.part-all (at-end-of .result) (at-loop .rest .now))),
+    )
 
 same-length-2 : tie.Need-same-length-2 Inv-loop μ-loop
 same-length-2 c =

@@ -83,7 +83,10 @@ slice-write-dst c =
     let at-loop-test = c .before .before .before .before .before .before .before .before .loop-test in
     let at-loop = c .before .before .before .before .before .before .before .before .before .loop in
     let at-start = c .before .before .before .before .before .before .before .before .before .before .before .before .before in
-    write.room-one (literalAt (flatIn (at-start .args .ws .now)) (at-start .args .k)) _ _ (at-loop .i) (at-start .args .dst .now) (at-loop .dst) (subst (λ (l : List ℕ). Halfway (literalAt (flatIn (at-start .args .ws .now)) (at-start .args .k)) l (at-loop .i) (at-start .args .dst .now) (at-loop .dst)) (spell.byte-first (at-loop .rest .now) (at-loop-test .taken) (at-taken-count .result) (at-loop .n) (at-taken-count .ensures .0) (at-loop .inv .0) (at-loop .inv .1) (at-loop .inv .2) (at-start .args .k)) (at-loop .inv .3)) ((at-start .pre) .2)
+    write.room-one (literalAt (flatIn (at-start .args .ws .now)) (at-start .args .k)) _ _ (at-loop .i) (at-start .args .dst .now) (at-loop .dst)
+    (subst (λ (l : List ℕ). Halfway (literalAt (flatIn (at-start .args .ws .now)) (at-start .args .k)) l (at-loop .i) (at-start .args .dst .now) (at-loop .dst))
+    (spell.byte-first (at-loop .rest .now) (at-loop-test .taken) (at-taken-count .result) (at-loop .n) (at-taken-count .ensures .0) (at-loop .inv .0) (at-loop .inv .1) (at-loop .inv .2)
+    (at-start .args .k)) (at-loop .inv .3)) ((at-start .pre) .2)
 
 add-i : tie.Need-add-i Inv-loop μ-loop
 add-i c =
@@ -91,7 +94,13 @@ add-i c =
     let at-loop-test = c .before .before .before .before .before .before .before .before .loop-test in
     let at-loop = c .before .before .before .before .before .before .before .before .before .loop in
     let at-start = c .before .before .before .before .before .before .before .before .before .before .before .before .before in
-    omega (arith, write.room-one (literalAt (flatIn (at-start .args .ws .now)) (at-start .args .k)) _ _ (at-loop .i) (at-start .args .dst .now) (at-loop .dst) (subst (λ (l : List ℕ). Halfway (literalAt (flatIn (at-start .args .ws .now)) (at-start .args .k)) l (at-loop .i) (at-start .args .dst .now) (at-loop .dst)) (spell.byte-first (at-loop .rest .now) (at-loop-test .taken) (at-taken-count .result) (at-loop .n) (at-taken-count .ensures .0) (at-loop .inv .0) (at-loop .inv .1) (at-loop .inv .2) (at-start .args .k)) (at-loop .inv .3)) ((at-start .pre) .2))
+    omega (
+      arith,
+      write.room-one (literalAt (flatIn (at-start .args .ws .now)) (at-start .args .k)) _ _ (at-loop .i) (at-start .args .dst .now) (at-loop .dst)
+          (subst (λ (l : List ℕ). Halfway (literalAt (flatIn (at-start .args .ws .now)) (at-start .args .k)) l (at-loop .i) (at-start .args .dst .now) (at-loop .dst))
+          (spell.byte-first (at-loop .rest .now) (at-loop-test .taken) (at-taken-count .result) (at-loop .n) (at-taken-count .ensures .0) (at-loop .inv .0) (at-loop .inv .1) (at-loop .inv .2)
+          (at-start .args .k)) (at-loop .inv .3)) ((at-start .pre) .2),
+    )
 
 sub-rest : tie.Need-sub-rest Inv-loop μ-loop
 sub-rest c = search needs
@@ -114,8 +123,33 @@ loop-again c =
     let at-taken-count = c .before .before .before .before .before .taken-count in
     let at-loop-test = c .before .before .before .before .before .before .before .before .before .loop-test in
     let at-loop = c .before .before .before .before .before .before .before .before .before .before .loop in
-    let at-start = c .before .before .before .before .before .before .before .before .before .before .before .before .before .before in
-    (spell.rest-is (at-loop .rest .now) (at-loop-test .taken) (at-taken-count .result) (at-loop .n) (at-taken-count .ensures .0) (at-loop .inv .0) (at-loop .inv .1) (at-loop .inv .2) ∙ ap (λ (l : List ℕ). count (flatIn l)) (sym (part.part-all 4 (at-loop .rest .now))), omega (arith, spell.rest-is (at-loop .rest .now) (at-loop-test .taken) (at-taken-count .result) (at-loop .n) (at-taken-count .ensures .0) (at-loop .inv .0) (at-loop .inv .1) (at-loop .inv .2), spell.rest-some (at-loop .rest .now) (at-loop-test .taken) (at-taken-count .result) (at-loop .n) (at-taken-count .ensures .0) (at-loop .inv .0) (at-loop .inv .1) (at-loop .inv .2)), omega (arith, spell.rest-is (at-loop .rest .now) (at-loop-test .taken) (at-taken-count .result) (at-loop .n) (at-taken-count .ensures .0) (at-loop .inv .0) (at-loop .inv .1) (at-loop .inv .2), spell.rest-few (at-loop .rest .now) (at-loop-test .taken) (at-taken-count .result) (at-loop .n) (at-taken-count .ensures .0) (at-loop .inv .0) (at-loop .inv .1) (at-loop .inv .2)), subst (λ (l : List ℕ). Halfway (literalAt (flatIn (at-start .args .ws .now)) (at-start .args .k)) (literalAt (flatIn l) (at-start .args .k)) (at-loop .i + 1) (at-start .args .dst .now) (set (at-loop .dst) (at-loop .i) (at-taken-at .result))) (sym (part.part-all 4 (at-loop .rest .now))) (subst (λ (x : ℕ). Halfway (literalAt (flatIn (at-start .args .ws .now)) (at-start .args .k)) (literalAt (flatIn (drop 4 (at-loop .rest .now))) (at-start .args .k)) (at-loop .i + 1) (at-start .args .dst .now) (set (at-loop .dst) (at-loop .i) x)) (sym (at-taken-at .ensures)) (write.one-more (literalAt (flatIn (at-start .args .ws .now)) (at-start .args .k)) _ _ (at-loop .i) (at-start .args .dst .now) (at-loop .dst) (subst (λ (l : List ℕ). Halfway (literalAt (flatIn (at-start .args .ws .now)) (at-start .args .k)) l (at-loop .i) (at-start .args .dst .now) (at-loop .dst)) (spell.byte-first (at-loop .rest .now) (at-loop-test .taken) (at-taken-count .result) (at-loop .n) (at-taken-count .ensures .0) (at-loop .inv .0) (at-loop .inv .1) (at-loop .inv .2) (at-start .args .k)) (at-loop .inv .3)) ((at-start .pre) .2))))
+    let at-start = c .before .before .before .before .before .before .before .before .before .before .before .before .before .before in (
+      spell.rest-is (at-loop .rest .now) (at-loop-test .taken) (at-taken-count .result) (at-loop .n) (at-taken-count .ensures .0) (at-loop .inv .0) (at-loop .inv .1) (at-loop .inv .2)
+          ∙ ap (λ (l : List ℕ). count (flatIn l)) (sym (part.part-all 4 (at-loop .rest .now))),
+      omega (
+        arith,
+        spell.rest-is (at-loop .rest .now) (at-loop-test .taken) (at-taken-count .result) (at-loop .n) (at-taken-count .ensures .0) (at-loop .inv .0) (at-loop .inv .1)
+            (at-loop .inv .2),
+        spell.rest-some (at-loop .rest .now) (at-loop-test .taken) (at-taken-count .result) (at-loop .n) (at-taken-count .ensures .0) (at-loop .inv .0) (at-loop .inv .1)
+            (at-loop .inv .2),
+      ),
+      omega (
+        arith,
+        spell.rest-is (at-loop .rest .now) (at-loop-test .taken) (at-taken-count .result) (at-loop .n) (at-taken-count .ensures .0) (at-loop .inv .0) (at-loop .inv .1)
+            (at-loop .inv .2),
+        spell.rest-few (at-loop .rest .now) (at-loop-test .taken) (at-taken-count .result) (at-loop .n) (at-taken-count .ensures .0) (at-loop .inv .0) (at-loop .inv .1)
+            (at-loop .inv .2),
+      ),
+      subst
+          (λ (l : List ℕ). Halfway (literalAt (flatIn (at-start .args .ws .now)) (at-start .args .k)) (literalAt (flatIn l) (at-start .args .k)) (at-loop .i + 1) (at-start .args .dst .now)
+          (set (at-loop .dst) (at-loop .i) (at-taken-at .result))) (sym (part.part-all 4 (at-loop .rest .now)))
+          (subst (λ (x : ℕ). Halfway (literalAt (flatIn (at-start .args .ws .now)) (at-start .args .k)) (literalAt (flatIn (drop 4 (at-loop .rest .now))) (at-start .args .k)) (at-loop .i + 1)
+          (at-start .args .dst .now) (set (at-loop .dst) (at-loop .i) x)) (sym (at-taken-at .ensures))
+          (write.one-more (literalAt (flatIn (at-start .args .ws .now)) (at-start .args .k)) _ _ (at-loop .i) (at-start .args .dst .now) (at-loop .dst)
+          (subst (λ (l : List ℕ). Halfway (literalAt (flatIn (at-start .args .ws .now)) (at-start .args .k)) l (at-loop .i) (at-start .args .dst .now) (at-loop .dst))
+          (spell.byte-first (at-loop .rest .now) (at-loop-test .taken) (at-taken-count .result) (at-loop .n) (at-taken-count .ensures .0) (at-loop .inv .0) (at-loop .inv .1) (at-loop .inv .2)
+          (at-start .args .k)) (at-loop .inv .3)) ((at-start .pre) .2))),
+    )
 
 same-length : tie.Need-same-length Inv-loop μ-loop
 same-length c =

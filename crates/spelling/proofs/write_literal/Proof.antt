@@ -44,14 +44,26 @@ sub-write-piece c =
     let at-loop-test = c .before .before .loop-test in
     let at-loop = c .before .before .before .loop in
     let at-start = c .before .before .before .before .before .before in
-    (write.room-piece (literalAt (tokensIn (at-start .args .ws .now)) (at-start .args .k)) (pieceOf (tokenIn (at-loop .rest .now)) (at-loop .p) (c .number-of .result)) (ending (tokensIn (drop (width (at-loop .rest .now)) (at-loop .rest .now))) (at-loop .p * countOf (tokenIn (at-loop .rest .now))) (at-start .args .k)) (at-loop .i) (at-start .args .dst .now) (at-loop .dst) (subst (λ (l : List ℕ). Halfway (literalAt (tokensIn (at-start .args .ws .now)) (at-start .args .k)) l (at-loop .i) (at-start .args .dst .now) (at-loop .dst)) (spell.ending-step (at-loop .rest .now) (at-loop-test .taken) (at-loop .p) (at-start .args .k) ∙ ap (λ (l : List ℕ). l ++ (ending (tokensIn (drop (width (at-loop .rest .now)) (at-loop .rest .now))) (at-loop .p * countOf (tokenIn (at-loop .rest .now))) (at-start .args .k))) (sym (c .number-of .ensures))) (at-loop .inv .2)) ((at-start .pre) .2)) .0
+    (write.room-piece (literalAt (tokensIn (at-start .args .ws .now)) (at-start .args .k)) (pieceOf (tokenIn (at-loop .rest .now)) (at-loop .p) (c .number-of .result))
+    (ending (tokensIn (drop (width (at-loop .rest .now)) (at-loop .rest .now))) (at-loop .p * countOf (tokenIn (at-loop .rest .now))) (at-start .args .k)) (at-loop .i) (at-start .args .dst .now)
+    (at-loop .dst)
+    (subst (λ (l : List ℕ). Halfway (literalAt (tokensIn (at-start .args .ws .now)) (at-start .args .k)) l (at-loop .i) (at-start .args .dst .now) (at-loop .dst))
+    (spell.ending-step (at-loop .rest .now) (at-loop-test .taken) (at-loop .p) (at-start .args .k)
+    ∙ ap (λ (l : List ℕ). l ++ (ending (tokensIn (drop (width (at-loop .rest .now)) (at-loop .rest .now))) (at-loop .p * countOf (tokenIn (at-loop .rest .now))) (at-start .args .k)))
+    (sym (c .number-of .ensures))) (at-loop .inv .2)) ((at-start .pre) .2)) .0
 
 part-write-piece-start : tie.Need-part-write-piece-start Inv-loop μ-loop
 part-write-piece-start c =
     let at-loop-test = c .before .before .loop-test in
     let at-loop = c .before .before .before .loop in
     let at-start = c .before .before .before .before .before .before in
-    (write.room-piece (literalAt (tokensIn (at-start .args .ws .now)) (at-start .args .k)) (pieceOf (tokenIn (at-loop .rest .now)) (at-loop .p) (c .number-of .result)) (ending (tokensIn (drop (width (at-loop .rest .now)) (at-loop .rest .now))) (at-loop .p * countOf (tokenIn (at-loop .rest .now))) (at-start .args .k)) (at-loop .i) (at-start .args .dst .now) (at-loop .dst) (subst (λ (l : List ℕ). Halfway (literalAt (tokensIn (at-start .args .ws .now)) (at-start .args .k)) l (at-loop .i) (at-start .args .dst .now) (at-loop .dst)) (spell.ending-step (at-loop .rest .now) (at-loop-test .taken) (at-loop .p) (at-start .args .k) ∙ ap (λ (l : List ℕ). l ++ (ending (tokensIn (drop (width (at-loop .rest .now)) (at-loop .rest .now))) (at-loop .p * countOf (tokenIn (at-loop .rest .now))) (at-start .args .k))) (sym (c .number-of .ensures))) (at-loop .inv .2)) ((at-start .pre) .2)) .0
+    (write.room-piece (literalAt (tokensIn (at-start .args .ws .now)) (at-start .args .k)) (pieceOf (tokenIn (at-loop .rest .now)) (at-loop .p) (c .number-of .result))
+    (ending (tokensIn (drop (width (at-loop .rest .now)) (at-loop .rest .now))) (at-loop .p * countOf (tokenIn (at-loop .rest .now))) (at-start .args .k)) (at-loop .i) (at-start .args .dst .now)
+    (at-loop .dst)
+    (subst (λ (l : List ℕ). Halfway (literalAt (tokensIn (at-start .args .ws .now)) (at-start .args .k)) l (at-loop .i) (at-start .args .dst .now) (at-loop .dst))
+    (spell.ending-step (at-loop .rest .now) (at-loop-test .taken) (at-loop .p) (at-start .args .k)
+    ∙ ap (λ (l : List ℕ). l ++ (ending (tokensIn (drop (width (at-loop .rest .now)) (at-loop .rest .now))) (at-loop .p * countOf (tokenIn (at-loop .rest .now))) (at-start .args .k)))
+    (sym (c .number-of .ensures))) (at-loop .inv .2)) ((at-start .pre) .2)) .0
 
 part-write-piece-end : tie.Need-part-write-piece-end Inv-loop μ-loop
 part-write-piece-end c = search needs
@@ -63,7 +75,22 @@ write-piece-requires c κs =
     let at-loop-test = c .before .before .before .loop-test in
     let at-loop = c .before .before .before .before .loop in
     let at-start = c .before .before .before .before .before .before .before in
-    record { entry = (at-loop-test .taken); prefixes = spell.prefixes-few (at-loop .rest .now) (at-loop-test .taken) (at-loop .p) (at-loop .inv .1) (at-tally-token .result .literals) (at-tally-token .ensures .literals-are); some = spell.token-some (at-loop .rest .now) (at-loop-test .taken) (at-loop .p) (at-loop .inv .1); few = spell.token-few (at-loop .rest .now) (at-loop-test .taken) (at-loop .p) (at-loop .inv .1) (at-tally-token .result .literals) (at-tally-token .ensures .literals-are); fits = (write.room-piece (literalAt (tokensIn (at-start .args .ws .now)) (at-start .args .k)) (pieceOf (tokenIn (at-loop .rest .now)) (at-loop .p) (at-number-of .result)) (ending (tokensIn (drop (width (at-loop .rest .now)) (at-loop .rest .now))) (at-loop .p * countOf (tokenIn (at-loop .rest .now))) (at-start .args .k)) (at-loop .i) (at-start .args .dst .now) (at-loop .dst) (subst (λ (l : List ℕ). Halfway (literalAt (tokensIn (at-start .args .ws .now)) (at-start .args .k)) l (at-loop .i) (at-start .args .dst .now) (at-loop .dst)) (spell.ending-step (at-loop .rest .now) (at-loop-test .taken) (at-loop .p) (at-start .args .k) ∙ ap (λ (l : List ℕ). l ++ (ending (tokensIn (drop (width (at-loop .rest .now)) (at-loop .rest .now))) (at-loop .p * countOf (tokenIn (at-loop .rest .now))) (at-start .args .k))) (sym (at-number-of .ensures))) (at-loop .inv .2)) ((at-start .pre) .2)) .1 }
+    record {
+      entry = (at-loop-test .taken);
+      prefixes = spell.prefixes-few (at-loop .rest .now) (at-loop-test .taken) (at-loop .p) (at-loop .inv .1) (at-tally-token .result .literals)
+          (at-tally-token .ensures .literals-are);
+      some = spell.token-some (at-loop .rest .now) (at-loop-test .taken) (at-loop .p) (at-loop .inv .1);
+      few = spell.token-few (at-loop .rest .now)
+          (at-loop-test .taken) (at-loop .p) (at-loop .inv .1) (at-tally-token .result .literals) (at-tally-token .ensures .literals-are);
+      fits =
+          (write.room-piece (literalAt (tokensIn (at-start .args .ws .now)) (at-start .args .k)) (pieceOf (tokenIn (at-loop .rest .now)) (at-loop .p) (at-number-of .result))
+          (ending (tokensIn (drop (width (at-loop .rest .now)) (at-loop .rest .now))) (at-loop .p * countOf (tokenIn (at-loop .rest .now))) (at-start .args .k)) (at-loop .i) (at-start .args .dst .now)
+          (at-loop .dst)
+          (subst (λ (l : List ℕ). Halfway (literalAt (tokensIn (at-start .args .ws .now)) (at-start .args .k)) l (at-loop .i) (at-start .args .dst .now) (at-loop .dst))
+          (spell.ending-step (at-loop .rest .now) (at-loop-test .taken) (at-loop .p) (at-start .args .k)
+          ∙ ap (λ (l : List ℕ). l ++ (ending (tokensIn (drop (width (at-loop .rest .now)) (at-loop .rest .now))) (at-loop .p * countOf (tokenIn (at-loop .rest .now))) (at-start .args .k)))
+          (sym (at-number-of .ensures))) (at-loop .inv .2)) ((at-start .pre) .2)) .1;
+    }
 
 add-i : tie.Need-add-i Inv-loop μ-loop
 add-i c =
@@ -72,7 +99,19 @@ add-i c =
     let at-loop-test = c .before .before .before .before .before .before .loop-test in
     let at-loop = c .before .before .before .before .before .before .before .loop in
     let at-start = c .before .before .before .before .before .before .before .before .before .before in
-    omega (arith, at-write-piece .ensures .long, write.piece-fits (literalAt (tokensIn (at-start .args .ws .now)) (at-start .args .k)) (pieceOf (tokenIn (at-loop .rest .now)) (at-loop .p) (at-number-of .result)) (ending (tokensIn (drop (width (at-loop .rest .now)) (at-loop .rest .now))) (at-loop .p * countOf (tokenIn (at-loop .rest .now))) (at-start .args .k)) (at-loop .i) (at-start .args .dst .now) (at-loop .dst) (subst (λ (l : List ℕ). Halfway (literalAt (tokensIn (at-start .args .ws .now)) (at-start .args .k)) l (at-loop .i) (at-start .args .dst .now) (at-loop .dst)) (spell.ending-step (at-loop .rest .now) (at-loop-test .taken) (at-loop .p) (at-start .args .k) ∙ ap (λ (l : List ℕ). l ++ (ending (tokensIn (drop (width (at-loop .rest .now)) (at-loop .rest .now))) (at-loop .p * countOf (tokenIn (at-loop .rest .now))) (at-start .args .k))) (sym (at-number-of .ensures))) (at-loop .inv .2)), ((at-start .pre) .2))
+    omega (
+      arith,
+      at-write-piece .ensures .long,
+      write.piece-fits (literalAt (tokensIn (at-start .args .ws .now)) (at-start .args .k))
+          (pieceOf (tokenIn (at-loop .rest .now)) (at-loop .p) (at-number-of .result))
+          (ending (tokensIn (drop (width (at-loop .rest .now)) (at-loop .rest .now))) (at-loop .p * countOf (tokenIn (at-loop .rest .now))) (at-start .args .k)) (at-loop .i) (at-start .args .dst .now)
+          (at-loop .dst)
+          (subst (λ (l : List ℕ). Halfway (literalAt (tokensIn (at-start .args .ws .now)) (at-start .args .k)) l (at-loop .i) (at-start .args .dst .now) (at-loop .dst))
+          (spell.ending-step (at-loop .rest .now) (at-loop-test .taken) (at-loop .p) (at-start .args .k)
+          ∙ ap (λ (l : List ℕ). l ++ (ending (tokensIn (drop (width (at-loop .rest .now)) (at-loop .rest .now))) (at-loop .p * countOf (tokenIn (at-loop .rest .now))) (at-start .args .k)))
+          (sym (at-number-of .ensures))) (at-loop .inv .2)),
+      ((at-start .pre) .2),
+    )
 
 mul-p : tie.Need-mul-p Inv-loop μ-loop
 mul-p c =
@@ -120,8 +159,28 @@ loop-again c =
     let at-tally-token = c .before .before .before .before .before .before .before .before .tally-token in
     let at-loop-test = c .before .before .before .before .before .before .before .before .before .loop-test in
     let at-loop = c .before .before .before .before .before .before .before .before .before .before .loop in
-    let at-start = c .before .before .before .before .before .before .before .before .before .before .before .before .before in
-    (omega (arith, part.part-le (at-width-of .result) (at-loop .rest .now)), subst (λ (l : List ℕ). Numerable (at-loop .p * at-tally-token .result .literals) (count (tokensIn l))) (ap (λ (x : ℕ). drop x (at-loop .rest .now)) (sym (at-width-of .ensures)) ∙ sym (part.part-all (at-width-of .result) (at-loop .rest .now))) (spell.after-numerable (at-loop .rest .now) (at-loop-test .taken) (at-loop .p) (at-loop .inv .1) (at-tally-token .result .literals) (at-tally-token .ensures .literals-are)), subst₂ (λ (l : List ℕ) (x : ℕ). Halfway (literalAt (tokensIn (at-start .args .ws .now)) (at-start .args .k)) (ending (tokensIn l) (at-loop .p * x) (at-start .args .k)) (at-loop .i + at-write-piece .result) (at-start .args .dst .now) (putMid (at-loop .i) (length (at-loop .dst) - at-loop .i) (at-loop .dst) (at-write-piece .last .1 .1 .1 .0))) (ap (λ (x : ℕ). drop x (at-loop .rest .now)) (sym (at-width-of .ensures)) ∙ sym (part.part-all (at-width-of .result) (at-loop .rest .now))) (sym (spell.token-exact (at-loop .rest .now) (at-loop-test .taken) (at-loop .p) (at-loop .inv .1) (at-tally-token .result .literals) (at-tally-token .ensures .literals-are))) (write.piece-more (literalAt (tokensIn (at-start .args .ws .now)) (at-start .args .k)) (pieceOf (tokenIn (at-loop .rest .now)) (at-loop .p) (at-number-of .result)) (ending (tokensIn (drop (width (at-loop .rest .now)) (at-loop .rest .now))) (at-loop .p * countOf (tokenIn (at-loop .rest .now))) (at-start .args .k)) (at-write-piece .result) (at-loop .i) (at-start .args .dst .now) (at-loop .dst) (at-write-piece .last .1 .1 .1 .0) (subst (λ (l : List ℕ). Halfway (literalAt (tokensIn (at-start .args .ws .now)) (at-start .args .k)) l (at-loop .i) (at-start .args .dst .now) (at-loop .dst)) (spell.ending-step (at-loop .rest .now) (at-loop-test .taken) (at-loop .p) (at-start .args .k) ∙ ap (λ (l : List ℕ). l ++ (ending (tokensIn (drop (width (at-loop .rest .now)) (at-loop .rest .now))) (at-loop .p * countOf (tokenIn (at-loop .rest .now))) (at-start .args .k))) (sym (at-number-of .ensures))) (at-loop .inv .2)) (at-write-piece .ensures)), subst (λ (l : List ℕ). at-start .args .k < at-loop .p * at-tally-token .result .literals * count (tokensIn l)) (ap (λ (x : ℕ). drop x (at-loop .rest .now)) (sym (at-width-of .ensures)) ∙ sym (part.part-all (at-width-of .result) (at-loop .rest .now))) (spell.after-below (at-loop .rest .now) (at-loop-test .taken) (at-loop .p) (at-loop .inv .1) (at-tally-token .result .literals) (at-tally-token .ensures .literals-are) (at-start .args .k) (at-loop .inv .3)))
+    let at-start = c .before .before .before .before .before .before .before .before .before .before .before .before .before in (
+      omega (arith, part.part-le (at-width-of .result) (at-loop .rest .now)),
+      subst (λ (l : List ℕ). Numerable (at-loop .p * at-tally-token .result .literals) (count (tokensIn l)))
+          (ap (λ (x : ℕ). drop x (at-loop .rest .now)) (sym (at-width-of .ensures)) ∙ sym (part.part-all (at-width-of .result) (at-loop .rest .now)))
+          (spell.after-numerable (at-loop .rest .now) (at-loop-test .taken) (at-loop .p) (at-loop .inv .1) (at-tally-token .result .literals) (at-tally-token .ensures .literals-are)),
+      subst₂
+          (λ (l : List ℕ) (x : ℕ). Halfway (literalAt (tokensIn (at-start .args .ws .now)) (at-start .args .k)) (ending (tokensIn l) (at-loop .p * x) (at-start .args .k))
+          (at-loop .i + at-write-piece .result) (at-start .args .dst .now) (putMid (at-loop .i) (length (at-loop .dst) - at-loop .i) (at-loop .dst) (at-write-piece .last .1 .1 .1 .0)))
+          (ap (λ (x : ℕ). drop x (at-loop .rest .now)) (sym (at-width-of .ensures)) ∙ sym (part.part-all (at-width-of .result) (at-loop .rest .now)))
+          (sym (spell.token-exact (at-loop .rest .now) (at-loop-test .taken) (at-loop .p) (at-loop .inv .1) (at-tally-token .result .literals) (at-tally-token .ensures .literals-are)))
+          (write.piece-more (literalAt (tokensIn (at-start .args .ws .now)) (at-start .args .k)) (pieceOf (tokenIn (at-loop .rest .now)) (at-loop .p) (at-number-of .result))
+          (ending (tokensIn (drop (width (at-loop .rest .now)) (at-loop .rest .now))) (at-loop .p * countOf (tokenIn (at-loop .rest .now))) (at-start .args .k)) (at-write-piece .result) (at-loop .i)
+          (at-start .args .dst .now) (at-loop .dst) (at-write-piece .last .1 .1 .1 .0)
+          (subst (λ (l : List ℕ). Halfway (literalAt (tokensIn (at-start .args .ws .now)) (at-start .args .k)) l (at-loop .i) (at-start .args .dst .now) (at-loop .dst))
+          (spell.ending-step (at-loop .rest .now) (at-loop-test .taken) (at-loop .p) (at-start .args .k)
+          ∙ ap (λ (l : List ℕ). l ++ (ending (tokensIn (drop (width (at-loop .rest .now)) (at-loop .rest .now))) (at-loop .p * countOf (tokenIn (at-loop .rest .now))) (at-start .args .k)))
+          (sym (at-number-of .ensures))) (at-loop .inv .2)) (at-write-piece .ensures)),
+      subst (λ (l : List ℕ). at-start .args .k < at-loop .p * at-tally-token .result .literals * count (tokensIn l))
+          (ap (λ (x : ℕ). drop x (at-loop .rest .now)) (sym (at-width-of .ensures)) ∙ sym (part.part-all (at-width-of .result) (at-loop .rest .now)))
+          (spell.after-below (at-loop .rest .now) (at-loop-test .taken) (at-loop .p) (at-loop .inv .1) (at-tally-token .result .literals) (at-tally-token .ensures .literals-are) (at-start .args .k)
+          (at-loop .inv .3)),
+    )
 
 same-length : tie.Need-same-length Inv-loop μ-loop
 same-length c =

@@ -41,8 +41,14 @@ write-branch-requires : tie.Need-write-branch-requires
 write-branch-requires c κs =
     let at-end-of = c .before .before .end-of in
     let at-if1 = c .before .before .before .if1 in
-    let at-start = c .before .before .before .before .before .before .before in
-    ((at-start .pre) .prefixes, spell.inside-few (at-start .args .ws .now) (at-if1 .taken) ((at-start .pre) .few) _ (at-end-of .ensures), subst (λ (l : List ℕ). length l ≤ length (at-start .args .dst .now)) (spell.piece-inside (at-start .args .ws .now) (at-if1 .taken) (at-start .args .p) (at-start .args .q) ∙ ap (λ (x : ℕ). pieceIn (listsIn (take (x - 4) (drop 4 (at-start .args .ws .now)))) (at-start .args .p) (at-start .args .q)) (sym (at-end-of .ensures))) ((at-start .pre) .fits))
+    let at-start = c .before .before .before .before .before .before .before in (
+      (at-start .pre) .prefixes,
+      spell.inside-few (at-start .args .ws .now) (at-if1 .taken) ((at-start .pre) .few) _ (at-end-of .ensures),
+      subst
+          (λ (l : List ℕ). length l ≤ length (at-start .args .dst .now))
+          (spell.piece-inside (at-start .args .ws .now) (at-if1 .taken) (at-start .args .p) (at-start .args .q)
+          ∙ ap (λ (x : ℕ). pieceIn (listsIn (take (x - 4) (drop 4 (at-start .args .ws .now)))) (at-start .args .p) (at-start .args .q)) (sym (at-end-of .ensures))) ((at-start .pre) .fits),
+    )
 
 same-length : tie.Need-same-length
 same-length c =
@@ -55,7 +61,9 @@ returns c =
     let at-end-of = c .before .before .before .before .before .end-of in
     let at-if1 = c .before .before .before .before .before .before .if1 in
     let at-start = c .before .before .before .before .before .before .before .before .before .before in
-    subst (λ (l : List ℕ). Written (at-write-branch .result) l (at-start .args .dst .now) (at-write-branch .last .1 .1 .1 .0)) (sym (spell.piece-inside (at-start .args .ws .now) (at-if1 .taken) (at-start .args .p) (at-start .args .q) ∙ ap (λ (x : ℕ). pieceIn (listsIn (take (x - 4) (drop 4 (at-start .args .ws .now)))) (at-start .args .p) (at-start .args .q)) (sym (at-end-of .ensures)))) (at-write-branch .ensures)
+    subst (λ (l : List ℕ). Written (at-write-branch .result) l (at-start .args .dst .now) (at-write-branch .last .1 .1 .1 .0))
+    (sym (spell.piece-inside (at-start .args .ws .now) (at-if1 .taken) (at-start .args .p) (at-start .args .q)
+    ∙ ap (λ (x : ℕ). pieceIn (listsIn (take (x - 4) (drop 4 (at-start .args .ws .now)))) (at-start .args .p) (at-start .args .q)) (sym (at-end-of .ensures)))) (at-write-branch .ensures)
 
 shared-slice-read-if2 : tie.Need-shared-slice-read-if2
 shared-slice-read-if2 c = search needs
@@ -80,7 +88,10 @@ returns-2 c =
     let at-if2 = c .before .if2 in
     let at-if1 = c .before .before .before .if1 in
     let at-start = c .before .before .before .before .before .before .before in
-    subst (λ (l : List ℕ). Written 1 l (at-start .args .dst .now) (set (at-start .args .dst .now) 0 (getD (at-start .args .ws .now) 1 0 % 256))) (sym (spell.byte-piece (at-start .args .ws .now) (at-if2 .taken) (at-start .args .p) (at-start .args .q))) (write.one-written (getD (at-start .args .ws .now) 1 0 % 256) (at-start .args .dst .now) (spell.entry-room (at-start .args .ws .now) (at-if1 .left) (at-start .args .p) (at-start .args .q) _ (at-start .pre .fits)))
+    subst (λ (l : List ℕ). Written 1 l (at-start .args .dst .now) (set (at-start .args .dst .now) 0 (getD (at-start .args .ws .now) 1 0 % 256)))
+    (sym (spell.byte-piece (at-start .args .ws .now) (at-if2 .taken) (at-start .args .p) (at-start .args .q)))
+    (write.one-written (getD (at-start .args .ws .now) 1 0 % 256) (at-start .args .dst .now)
+    (spell.entry-room (at-start .args .ws .now) (at-if1 .left) (at-start .args .p) (at-start .args .q) _ (at-start .pre .fits)))
 
 shared-slice-read-taken-count : tie.Need-shared-slice-read-taken-count
 shared-slice-read-taken-count c = search needs
@@ -131,7 +142,10 @@ returns-3 c =
     let at-taken-count = c .before .before .before .before .taken-count in
     let at-if1 = c .before .before .before .before .before .before .before .before .before .before .if1 in
     let at-start = c .before .before .before .before .before .before .before .before .before .before .before .before .before .before in
-    subst (λ (l : List ℕ). Written 1 l (at-start .args .dst .now) (set (at-start .args .dst .now) 0 (c .taken-at .result))) (sym (spell.piece-is-byte (at-start .args .ws .now) (at-if1 .left) (at-start .args .p) (at-start .args .q) _ _ (at-taken-count .ensures .0) (c .taken-at .ensures))) (write.one-written (c .taken-at .result) (at-start .args .dst .now) (spell.entry-room (at-start .args .ws .now) (at-if1 .left) (at-start .args .p) (at-start .args .q) _ ((at-start .pre) .fits)))
+    subst (λ (l : List ℕ). Written 1 l (at-start .args .dst .now) (set (at-start .args .dst .now) 0 (c .taken-at .result)))
+    (sym (spell.piece-is-byte (at-start .args .ws .now) (at-if1 .left) (at-start .args .p) (at-start .args .q) _ _ (at-taken-count .ensures .0) (c .taken-at .ensures)))
+    (write.one-written (c .taken-at .result) (at-start .args .dst .now)
+    (spell.entry-room (at-start .args .ws .now) (at-if1 .left) (at-start .args .p) (at-start .args .q) _ ((at-start .pre) .fits)))
 
 pub write-piece-spec : {M : Type 1} → statement M
 write-piece-spec =
