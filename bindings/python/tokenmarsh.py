@@ -155,8 +155,8 @@ def _result(*fields):
 
 
 _ReadResult = _result(("refusal", _u32), ("place", _u64), ("reached", _u64), ("words", _u64))
-_CompileResult = _result(("refusal", _u32), ("place", _u64), ("forward", _u64), ("reverse", _u64))
-_LiteralsResult = _result(("refusal", _u32), ("rank", _u32), ("place", _u64), ("count", _u64))
+_CompileResult = _result(("refusal", _u32), ("place", _u64), ("reached", _u64), ("forward", _u64), ("reverse", _u64))
+_LiteralsResult = _result(("refusal", _u32), ("rank", _u32), ("place", _u64), ("reached", _u64), ("count", _u64))
 _CheckResult = _result(("refusal", _u32), ("found", _u32), ("offset", _u64))
 _TailResult = _result(("offset", _u64), ("length", _u64))
 _MirrorResult = _result(("refusal", _u32), ("words", _u64))

@@ -17,6 +17,7 @@ pub struct ReadResult {
 pub struct CompileResult {
     pub refusal: u32,
     pub place: u64,
+    pub reached: u64,
     pub forward: u64,
     pub reverse: u64,
 }
@@ -27,6 +28,7 @@ pub struct LiteralsResult {
     pub refusal: u32,
     pub rank: u32,
     pub place: u64,
+    pub reached: u64,
     pub count: u64,
 }
 

@@ -48,6 +48,7 @@ pub extern "C" fn tm_read(text: &[u8], pool: &mut [u32]) -> ReadResult
 pub struct CompileResult {
     pub refusal: u32,
     pub place: u64,
+    pub reached: u64,
     pub forward: u64,
     pub reverse: u64,
 }
@@ -60,15 +61,21 @@ pub extern "C" fn tm_compile(text: &[u8], forward: &mut [u32], reverse: &mut [u3
 {
     let r = compiledoor::compile(text, forward, reverse);
     match r {
-        CompileAnswer::Compiled(f, b) => CompileResult {
+        CompileAnswer::Compiled {
+            reached,
+            forward: f,
+            reverse: b,
+        } => CompileResult {
             refusal: 0,
             place: 0,
+            reached: reached as u64,
             forward: f as u64,
             reverse: b as u64,
         },
         CompileAnswer::Refused(why, place) => CompileResult {
             refusal: why.number(),
             place: place as u64,
+            reached: 0,
             forward: 0,
             reverse: 0,
         },
@@ -80,6 +87,7 @@ pub struct LiteralsResult {
     pub refusal: u32,
     pub rank: u32,
     pub place: u64,
+    pub reached: u64,
     pub count: u64,
 }
 
@@ -91,16 +99,22 @@ pub extern "C" fn tm_literals(text: &[u8], bytes: &mut [u8], lengths: &mut [u16]
 {
     let r = literaldoor::literals(text, bytes, lengths);
     match r {
-        LiteralsAnswer::Picked { count, rank } => LiteralsResult {
+        LiteralsAnswer::Picked {
+            reached,
+            count,
+            rank,
+        } => LiteralsResult {
             refusal: 0,
             rank,
             place: 0,
+            reached: reached as u64,
             count: count as u64,
         },
         LiteralsAnswer::Refused(why, place) => LiteralsResult {
             refusal: why.number(),
             rank: 0,
             place: place as u64,
+            reached: 0,
             count: 0,
         },
     }
