@@ -43,6 +43,16 @@
 extern "C" {
 #endif
 
+/* The version that this header describes, and in one number. The structs change between versions. */
+#define TM_VERSION_MAJOR 0
+#define TM_VERSION_MINOR 2
+#define TM_VERSION_PATCH 0
+#define TM_VERSION (TM_VERSION_MAJOR * 65536u + TM_VERSION_MINOR * 256u + TM_VERSION_PATCH)
+
+/* The version of the library. A program that was compiled with one header and is linked or loaded with a library for which
+ * tm_version() != TM_VERSION must not go on: it would misread the structs that the other functions answer. */
+uint32_t tm_version(void);
+
 /* The longest text, and the words that each kind of pool must have. */
 #define TM_TEXT_LIMIT 4096
 #define TM_TOKEN_POOL 4096

@@ -359,6 +359,8 @@ int main(int argc, char **argv)
     size_t words = 0;
     unsigned long rounds = argc > 2 ? strtoul(argv[2], NULL, 10) : 10000;
 
+    if (tm_version() != TM_VERSION)
+        fault("tm_version");
     state = argc > 1 ? strtoull(argv[1], NULL, 10) * 2 + 1 : 1;
     nulls();
     every_length();

@@ -167,13 +167,14 @@ def _load():
     built = os.path.join(here, "..", "..", "target", "staticlib", "libtokenmarsh.so")
     named = os.environ.get("TOKENMARSH_SO")
     try:
-        lib = ctypes.CDLL(named if named else built if os.path.exists(built) else "libtokenmarsh.so.0")
+        lib = ctypes.CDLL(named if named else built if os.path.exists(built) else "libtokenmarsh.so.0.2")
     except OSError as error:
         raise ImportError(f"no libtokenmarsh.so: run make, or name it by TOKENMARSH_SO ({error})") from error
     text = [ctypes.c_char_p, _size]
     words = [ctypes.POINTER(_u32), _size]
     window = words + [ctypes.c_char_p, _size, _size, _size]
     for name, result, arguments in (
+        ("tm_version", _u32, []),
         ("tm_read", _ReadResult, text + words),
         ("tm_compile", _CompileResult, text + words + words),
         ("tm_literals", _LiteralsResult, text + [ctypes.POINTER(_u8), _size, ctypes.POINTER(_u16), _size]),

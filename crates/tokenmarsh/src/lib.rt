@@ -6,6 +6,7 @@ use mirror::MirrorAnswer;
 use readdoor::ReadAnswer;
 ghost use mathlib.Core.Path.{_≡_};
 ghost use mathlib.Core.Bool.{cond};
+ghost use Prim.Native.Nat.{_+_, _*_};
 ghost use Rattle.meaning.specs.Values.{Bytes};
 ghost use Rattle.meaning.specs.Words.{sound};
 ghost use Rattle.mirror.specs.MirrorDoor.{mirrorSays, mirrorLeaves};
@@ -14,6 +15,14 @@ ghost use Rattle.checkdoors.specs.Doors.{said, forwardSays, reverseSays};
 ghost use Rattle.literaldoor.specs.Door.{literalsSays, bytesLeft, lengthsLeft};
 ghost use Rattle.readdoor.specs.Door.{readSays, readLeaves};
 ghost use Rattle.tokenmarsh.specs.Results.{readTold, compileTold, literalsTold, mirrorTold, checkTold, tailTold};
+
+// major * 65536 + minor * 256 + patch, of 0.2.0: a caller compares it with its header's TM_VERSION, since the structs may differ between versions.
+#[no_mangle]
+pub extern "C" fn tm_version() -> u32
+    ensures { λ r. ⌜ r ≡ 0 * 65536 + 2 * 256 + 0 ⌝ }
+{
+    512
+}
 
 #[repr(C)]
 pub struct ReadResult {
