@@ -59,6 +59,10 @@ int main(int argc, char **argv)
         fprintf(stderr, "usage: example PATTERN < FILE\n");
         return 2;
     }
+    if (tm_version() != TM_VERSION) {
+        fprintf(stderr, "libtokenmarsh is of another version than tokenmarsh.h\n");
+        return 2;
+    }
     tm_compile_result c = tm_compile((const uint8_t *)argv[1], strlen(argv[1]), forward, TM_NODE_POOL, reverse, TM_NODE_POOL);
     if (c.refusal != 0) {
         fprintf(stderr, "refused %u at %llu\n", c.refusal, (unsigned long long)c.place);

@@ -140,6 +140,13 @@ static size_t around(size_t need)
     }
 }
 
+/* Where the reading of a text ends. */
+static uint64_t read_to(const uint8_t *t, size_t n)
+{
+    static uint32_t pool[TM_TOKEN_POOL];
+    return tm_read(t, n, pool, TM_TOKEN_POOL).reached;
+}
+
 /* Into a pool of so many words. */
 static void reading(const uint8_t *t, size_t n, size_t lent)
 {
@@ -153,7 +160,7 @@ static void reading(const uint8_t *t, size_t n, size_t lent)
     else {
         zero(pool, 4 * r.words, 4 * TM_TOKEN_POOL, "tm_read: words not zeroed");
         same(pool, 4 * TM_TOKEN_POOL, "tm_read: words beyond changed");
-        if (r.refusal == 0 && (r.words > 4092 || r.reached > n))
+        if (r.refusal == 0 && (r.words > 4092 || r.reached == 0 || r.reached > n))
             fault("tm_read: bounds");
     }
     if (r.refusal == 0 || r.refusal == 18 ? r.place != 0 : r.place > n)
@@ -187,6 +194,8 @@ static void compiling(const uint8_t *t, size_t n, size_t forward, size_t reverse
     }
     if (r.refusal == 0 || r.refusal > 11 ? r.place != 0 : r.place > n)
         fault("tm_compile: place");
+    if (r.refusal == 0 ? r.reached == 0 || r.reached > n || r.reached != read_to(t, n) : r.reached != 0)
+        fault("tm_compile: reached");
     if (r.refusal != 0 && (r.forward != 0 || r.reverse != 0))
         fault("tm_compile: a refusal has no words");
     back(f, "tm_compile: guard");
@@ -210,6 +219,8 @@ static uint32_t picking(const uint8_t *t, size_t n, size_t room, size_t count, s
         fault("tm_literals: bounds");
     if (r.refusal == 0 || r.refusal > 11 ? r.place != 0 : r.place > n)
         fault("tm_literals: place");
+    if (r.refusal == 0 ? r.reached == 0 || r.reached > n || r.reached != read_to(t, n) : r.reached != 0)
+        fault("tm_literals: reached");
     if (r.refusal != 0 && (r.rank != 0 || r.count != 0))
         fault("tm_literals: a refusal has no count");
     back(bytes, "tm_literals: guard");
@@ -284,8 +295,8 @@ static void mirroring(const uint32_t *program, size_t words, size_t lent)
     back(pool, "tm_mirror: guard");
 }
 
-/* Texts that compile, that read, that are refused at once and late, and that are too long. */
-static const char *const texts[] = {"{ 41 [0-2] ( 42 | 43 44 ) }", "{ 41 [2-] 42 }", "{ 01 02 ?3 04 }", "{ ( 41 | ?? ) }", "{ ?? }", "x", "{ 41 42 [0] 43 }", NULL};
+/* Texts that compile, that read, that end before the last brace, that are refused at once and late, and that are too long. */
+static const char *const texts[] = {"{ 41 [0-2] ( 42 | 43 44 ) }", "{ 41 [2-] 42 }", "{ 01 02 ?3 04 }", "{ ( 41 | ?? ) }", "{ ?? }", "{ 4D 5A } 90 00 }", "x", "{ 41 42 [0] 43 }", NULL};
 
 static void every_length(void)
 {
@@ -348,6 +359,8 @@ int main(int argc, char **argv)
     size_t words = 0;
     unsigned long rounds = argc > 2 ? strtoul(argv[2], NULL, 10) : 10000;
 
+    if (tm_version() != TM_VERSION)
+        fault("tm_version");
     state = argc > 1 ? strtoull(argv[1], NULL, 10) * 2 + 1 : 1;
     nulls();
     every_length();

@@ -155,8 +155,8 @@ def _result(*fields):
 
 
 _ReadResult = _result(("refusal", _u32), ("place", _u64), ("reached", _u64), ("words", _u64))
-_CompileResult = _result(("refusal", _u32), ("place", _u64), ("forward", _u64), ("reverse", _u64))
-_LiteralsResult = _result(("refusal", _u32), ("rank", _u32), ("place", _u64), ("count", _u64))
+_CompileResult = _result(("refusal", _u32), ("place", _u64), ("reached", _u64), ("forward", _u64), ("reverse", _u64))
+_LiteralsResult = _result(("refusal", _u32), ("rank", _u32), ("place", _u64), ("reached", _u64), ("count", _u64))
 _CheckResult = _result(("refusal", _u32), ("found", _u32), ("offset", _u64))
 _TailResult = _result(("offset", _u64), ("length", _u64))
 _MirrorResult = _result(("refusal", _u32), ("words", _u64))
@@ -167,13 +167,14 @@ def _load():
     built = os.path.join(here, "..", "..", "target", "staticlib", "libtokenmarsh.so")
     named = os.environ.get("TOKENMARSH_SO")
     try:
-        lib = ctypes.CDLL(named if named else built if os.path.exists(built) else "libtokenmarsh.so.0")
+        lib = ctypes.CDLL(named if named else built if os.path.exists(built) else "libtokenmarsh.so.0.2")
     except OSError as error:
         raise ImportError(f"no libtokenmarsh.so: run make, or name it by TOKENMARSH_SO ({error})") from error
     text = [ctypes.c_char_p, _size]
     words = [ctypes.POINTER(_u32), _size]
     window = words + [ctypes.c_char_p, _size, _size, _size]
     for name, result, arguments in (
+        ("tm_version", _u32, []),
         ("tm_read", _ReadResult, text + words),
         ("tm_compile", _CompileResult, text + words + words),
         ("tm_literals", _LiteralsResult, text + [ctypes.POINTER(_u8), _size, ctypes.POINTER(_u16), _size]),

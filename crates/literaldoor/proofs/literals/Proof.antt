@@ -53,7 +53,7 @@ same-length-2 c = search needs
 
 -- src/lib.rt:62:1
 returns : tie.Need-returns
-returns c = let g = into.got (c .before .before .before .before .before .before .before .before .before .before .before .before .before .before .before .before .before .before .args .text .now) _ (c .before .before .before .before .before .before .before .before .before .before .before .before .before .read .last .1 .0) (c .before .before .before .before .before .before .before .before .before .before .before .before .before .read .result) (c .before .before .before .before .before .before .before .before .before .before .before .before .before .read .ensures .0) (c .before .before .before .before .before .before .before .before .before .before .before .before .before .read .ensures .1) (le-refl 4096) (c .before .before .before .before .before .before .before .before .before .before .r .given .0 .0) (c .before .before .before .before .before .before .before .before .before .before .r .given .0 .1 .0) (c .before .before .before .before .before .before .before .before .before .before .r .given .1) in law.text-picked (c .before .before .before .before .before .before .before .before .before .before .before .before .before .before .before .before .before .before .args .text .now) _ (g .tokens) _ (said (c .before .before .before .before .pick-tokens .result)) (c .before .before .before .before .before .before .before .before .before .before .before .before .before .before .before .before .before .before .args .bytes .now) (c .before .before .before .before .before .before .before .before .before .before .before .before .before .before .before .before .before .before .args .lengths .now) (c .before .before .before .before .pick-tokens .last .1 .0) (c .before .before .before .before .pick-tokens .last .1 .1 .0) (g .outcome) (g .words) (c .before .before .before .before .pick-tokens .ensures)
+returns c = let g = into.got (c .before .before .before .before .before .before .before .before .before .before .before .before .before .before .before .before .before .before .args .text .now) _ (c .before .before .before .before .before .before .before .before .before .before .before .before .before .read .last .1 .0) (c .before .before .before .before .before .before .before .before .before .before .before .before .before .read .result) (c .before .before .before .before .before .before .before .before .before .before .before .before .before .read .ensures .0) (c .before .before .before .before .before .before .before .before .before .before .before .before .before .read .ensures .1) (le-refl 4096) (c .before .before .before .before .before .before .before .before .before .before .r .given .0 .0) (c .before .before .before .before .before .before .before .before .before .before .r .given .0 .1 .0) (c .before .before .before .before .before .before .before .before .before .before .r .given .1) in law.text-picked (c .before .before .before .before .before .before .before .before .before .before .before .before .before .before .before .before .before .before .args .text .now) _ (g .tokens) _ (said (c .before .before .before .before .pick-tokens .result)) (c .before .before .before .before .before .before .before .before .before .before .before .before .before .before .before .before .before .before .args .bytes .now) (c .before .before .before .before .before .before .before .before .before .before .before .before .before .before .before .before .before .before .args .lengths .now) (c .before .before .before .before .pick-tokens .last .1 .1 .0) (c .before .before .before .before .pick-tokens .last .1 .1 .1 .0) (g .outcome) (g .words) (c .before .before .before .before .pick-tokens .ensures)
 
 -- src/lib.rt:62:1
 returns-2 : tie.Need-returns-2
