@@ -1,7 +1,9 @@
-"""The doors from Python: `python3 -m unittest` in this folder."""
+"""The doors from Python: `python3 -m unittest` in this folder, after `make test` laid down the table of the header's layout."""
 import array
 import copy
+import ctypes
 import doctest
+import os
 import pickle
 import random
 import unittest
@@ -158,6 +160,21 @@ class Doors(unittest.TestCase):
 
     def test_examples(self):
         self.assertEqual(doctest.testmod(tokenmarsh, verbose=False).failed, 0)
+
+    def test_fields_stand_where_the_header_has_them(self):
+        here = os.path.dirname(os.path.abspath(__file__))
+        try:
+            with open(os.path.join(here, "..", "..", "target", "bindings", "layout.txt"), encoding="utf-8") as f:
+                table = f.read().splitlines()
+        except FileNotFoundError:
+            self.fail("the table that bindings/c/layout.c prints is laid down by `make test`")
+        ours = []
+        for name in ("Read", "Compile", "Literals", "Check", "Tail", "Mirror"):
+            struct, c_name = getattr(tokenmarsh, f"_{name}Result"), f"tm_{name.lower()}_result"
+            ours.append(f"{c_name} {ctypes.sizeof(struct)}")
+            for field, _ in struct._fields_:
+                ours.append(f"{c_name} {field} {getattr(struct, field).offset} {getattr(struct, field).size}")
+        self.assertEqual(ours, table)
 
 
 if __name__ == "__main__":
