@@ -93,6 +93,8 @@ class Doors(unittest.TestCase):
         self.assertEqual(friend.reverse.start(b"ba"), 1)
         self.assertEqual(friend.forward.mirror().start(b"ba"), 1)
         self.assertEqual(bytes(tokenmarsh.compile(b"{ 61 }").forward.tail(b"abc")), b"bc")
+        # where the tail starts is not the count of words
+        self.assertEqual(bytes(tokenmarsh.compile(b"{ 61 [0-2] 63 }").forward.tail(b"acde")), b"de")
 
     def test_windows(self):
         for check in (tokenmarsh.forward, tokenmarsh.reverse):
@@ -138,6 +140,9 @@ class Doors(unittest.TestCase):
         self.assertEqual((r.rank, len(r.literals), r.literals[0]), (70, 16, b"\x01\x02\x03\x04"))
         r = tokenmarsh.literals(b"{ ?1 (AA | BB CC) }")
         self.assertEqual((r.rank, len(r.literals), r.literals[16]), (30, 32, b"\x01\xBB\xCC"))
+        # more bytes than there can be literals
+        due = tuple(bytes((n, 0x41)) for n in range(200))
+        self.assertEqual(tokenmarsh.literals(b"{ (%s) }" % "|".join(one.hex() for one in due).encode()).literals, due)
         self.assertEqual(tokenmarsh.literals(b"{ ?? }"), ((), 0))
         self.refused(lambda: tokenmarsh.literals(b"{ (41|??) }"), Refusal.NOT_PLAIN)
         self.refused(lambda: tokenmarsh.literals(b"{ (" + b"41|" * 256 + b"41) }"), Refusal.TOO_MANY_LITERALS)
