@@ -2,13 +2,16 @@
 use mathlib.Core.Path.{_≡_, refl, sym, ap, _∙_}
 use mathlib.Core.Bool.{Bool, true, false, cond, _&&_}
 use mathlib.Core.Option.{Option, none, some}
-use mathlib.Core.List.{List, [], reverse}
-use Prim.Native.Nat.{ℕ, _+_, _-_, _≤_, _<_}
+use mathlib.Core.List.{List, [], _∷_, reverse}
+use Prim.Native.Nat.{ℕ, suc, _+_, _-_, _≤_, _<_}
 use native.Mathlib.Omega.{arith}
 use lib.Dec.{leb}
-use lib.ListN.{length, drop, length-drop, length-reverse}
+use lib.ListN.{length, drop, getD, length-drop, length-reverse}
 use lib.Seq.{length-take-le}
+use mir.Syntax.{w8}
+use mir.Val.{Fits}
 use borrow.Author.Tests.{le-leb, lt-leb, leb-true}
+use Rattle.meaning.specs.Values.{Bytes}
 use Rattle.meaning.specs.Choices.{short, long}
 use Rattle.meaning.specs.Rows.{forward, backward}
 use Rattle.meaning.specs.Words.{prog, sound, Sound}
@@ -17,7 +20,17 @@ use Rattle.nodes.proofs.WordHeads.{from, to-end}
 use Rattle.steps.specs.declared.Found.the-variants.{Left, Nothing}
 use Rattle.steps.specs.Steps.{answer}
 use Rattle.steps.proofs.Answers.{answer-some, answer-none, left-fits, left-part}
-use Rattle.checkdoors.specs.Doors.{found, noMatch, refused, window, refusal, endAt, startAt, forwardSays, reverseSays, leftOr, leftSays}
+use Rattle.checkdoors.specs.Doors.{found, noMatch, refused, window, refusal, endAt, startAt, forwardSays, reverseSays, leftOr, leftSays, leftFrom, leftAt, onward}
+
+-- what a slice of bytes holds is below 256, each by its type
+pub all-bytes : (hay : List ℕ) → ((i : ℕ) → Fits w8 (getD hay i 0)) → Bytes hay
+unfolding Bytes
+all-bytes [] h = tt
+all-bytes (b ∷ hay) h = (h 0 .fits, all-bytes hay (λ i. h (suc i)))
+
+-- a place of the same block, so many bytes on
+pub lies-on : (block o k n : ℕ) → k ≡ o + n → _≡_ {A = ℕ × ℕ} (block, k) (onward (block, o) n)
+lies-on block o k n e = ap (λ (x : ℕ). (block, x)) e
 
 -- the tests, in their order
 module _ (ws : List ℕ) (n s e : ℕ) where
@@ -79,6 +92,10 @@ module _ (ws hay : List ℕ) (s e : ℕ) where
   unfolding leftSays
   left-refused k h = rw (sym h)
 
+  pub left-at-refused : (k : ℕ) → some k ≡ refusal ws (length hay) s e → 0 ≡ leftAt ws hay s e
+  unfolding leftAt
+  left-at-refused k h = ap leftFrom (forward-refused k h)
+
   -- not refused
   module _ (h : none ≡ refusal ws (length hay) s e) where
     pub forward-checked : endAt e (forward (prog ws) (window hay s e)) ≡ forwardSays ws hay s e
@@ -97,6 +114,10 @@ module _ (ws hay : List ℕ) (s e : ℕ) where
       pub forward-none : noMatch ≡ forwardSays ws hay s e
       forward-none = sym (ap (endAt e) (answer-none (forward (prog ws) (window hay s e)) g)) ∙ forward-checked
 
+      pub left-at-none : 0 ≡ leftAt ws hay s e
+      unfolding leftAt
+      left-at-none = ap leftFrom forward-none
+
       pub left-none : [] ≡ leftSays ws hay s e
       left-none = sym (ap leftOr (answer-none (forward (prog ws) (window hay s e)) g)) ∙ left-checked
 
@@ -111,6 +132,16 @@ module _ (ws hay : List ℕ) (s e : ℕ) where
       forward-found =
           let q = answer-some (forward (prog ws) (window hay s e)) k g in
           sym (ap (endAt e) (q .1) ∙ ap (λ (n : ℕ). found (e - n)) (q .2)) ∙ forward-checked
+
+      -- counted from the window's start
+      pub left-at-found : s + (length (window hay s e) - k) ≡ leftAt ws hay s e
+      unfolding leftAt
+      left-at-found =
+          let f = fine ws (length hay) s e h in
+          let b = left-below in
+          let w = window-length ws hay s e f in
+          let m : s + (length (window hay s e) - k) ≡ e - k = omega (arith, f .ordered) in
+          m ∙ ap leftFrom forward-found
 
       pub left-found : from (length (window hay s e) - k) (window hay s e) ≡ leftSays ws hay s e
       left-found = to-end (length (window hay s e) - k) (window hay s e) ∙ sym (ap leftOr (left-part short (prog ws) (window hay s e) k g)) ∙ left-checked

@@ -9,6 +9,7 @@ use native.Mathlib.Omega.{arith}
 use borrow.Author.Tests.{le-leb}
 use lib.ListN.{length, take, drop, getD, length-append, length-take, length-drop, length-reverse}
 use lib.Seq.{ext-getD, getD-take, getD-drop, drop-drop}
+use denote.Ref.{RefT, ptr, now}
 use Rattle.base.proofs.RefusalLaws.{number-one}
 use Rattle.meaning.specs.Programs.{Span}
 use Rattle.meaning.specs.Choices.{short, long, Nowhere, FirstForward, FirstReverse}
@@ -20,7 +21,7 @@ use Rattle.steps.specs.Steps.{answer}
 use Rattle.steps.proofs.Answers.{left-fits, left-part}
 use Rattle.checkdoors.specs.declared.Answer.{Answer}
 use Rattle.checkdoors.specs.declared.Answer.the-variants.{At, NoMatch, Refused}
-use Rattle.checkdoors.specs.Doors.{found, noMatch, said, window, refusal, unless, endAt, startAt, forwardSays, reverseSays, leftOr, unlessEmpty, leftSays}
+use Rattle.checkdoors.specs.Doors.{found, noMatch, said, window, refusal, unless, endAt, startAt, forwardSays, reverseSays, leftOr, unlessEmpty, leftSays, leftFrom, leftAt, Answered, HandsBack}
 use Rattle.checkdoors.proofs.DoorLaws.{fine, window-length, passed, forward-checked, reverse-checked, left-checked}
 
 -- an answer is known by what it says
@@ -37,14 +38,15 @@ said-one (Refused x) (Refused y) e = ap Refused (number-one x y (cc))
 
 -- so each door's promise leaves one outcome; what is lent to it is only read
 module _ (ws hay : List ℕ) (s e : ℕ) where
-  pub forward-one : (r q : Answer) → said r ≡ forwardSays ws hay s e → said q ≡ forwardSays ws hay s e → r ≡ q
-  forward-one r q a b = said-one r q (a ∙ sym b)
+  pub forward-one : (r q : Answer) → Answered (forwardSays ws hay s e) hay r → Answered (forwardSays ws hay s e) hay q → r ≡ q
+  forward-one r q a b = said-one r q (a .says ∙ sym (b .says))
 
-  pub reverse-one : (r q : Answer) → said r ≡ reverseSays ws hay s e → said q ≡ reverseSays ws hay s e → r ≡ q
-  reverse-one r q a b = said-one r q (a ∙ sym b)
+  pub reverse-one : (r q : Answer) → Answered (reverseSays ws hay s e) hay r → Answered (reverseSays ws hay s e) hay q → r ≡ q
+  reverse-one r q a b = said-one r q (a .says ∙ sym (b .says))
 
-  pub left-one : (r q : List ℕ) → r ≡ leftSays ws hay s e → q ≡ leftSays ws hay s e → r ≡ q
-  left-one r q a b = a ∙ sym b
+-- the part that the second door hands back is one: there are no two with these bytes at this place
+pub left-one : (ws : List ℕ) (hay : RefT (List ℕ)) (s e : ℕ) (r q : RefT (List ℕ)) → HandsBack ws hay s e r → HandsBack ws hay s e q → (now r ≡ now q) × (ptr r ≡ ptr q)
+left-one ws hay s e r q a b = (a .left ∙ sym (b .left), a .lies ∙ sym (b .lies))
 
 -- bytes outside the window never sway an answer: two haystacks that hold the window and agree in it get the same
 module _ (ws hay hay' : List ℕ) (s e : ℕ) where
@@ -60,6 +62,10 @@ module _ (ws hay hay' : List ℕ) (s e : ℕ) where
     pub reverse-window : reverseSays ws hay s e ≡ reverseSays ws hay' s e
     unfolding reverseSays
     reverse-window = ap₂ (λ (x : Option ℕ) (y : List ℕ). unless x (startAt s (backward (prog ws) y))) (same-refusal h g) w
+
+    pub left-at-window : leftAt ws hay s e ≡ leftAt ws hay' s e
+    unfolding leftAt
+    left-at-window = ap leftFrom forward-window
 
     pub left-window : leftSays ws hay s e ≡ leftSays ws hay' s e
     unfolding leftSays
@@ -89,6 +95,10 @@ module _ (ws hay hay' : List ℕ) (s e : ℕ) where
     pub reverse-inside : reverseSays ws hay s e ≡ reverseSays ws hay' s e
     unfolding reverseSays
     reverse-inside = ap₂ (λ (n : ℕ) (y : List ℕ). unless (refusal ws n s e) (startAt s (backward (prog ws) y))) l same-window
+
+    pub left-at-inside : leftAt ws hay s e ≡ leftAt ws hay' s e
+    unfolding leftAt
+    left-at-inside = ap leftFrom forward-inside
 
     pub left-inside : leftSays ws hay s e ≡ leftSays ws hay' s e
     unfolding leftSays

@@ -1,11 +1,14 @@
 -- What the doors of the checks answer, in 01's words. Assumes nothing: these are definitions.
+use mathlib.Core.Path.{_≡_}
 use mathlib.Core.Bool.{cond, _&&_}
 use mathlib.Core.Option.{Option, none, some}
 use mathlib.Core.List.{List, []}
 use Prim.Native.Nat.{ℕ, _+_, _-_}
 use lib.Dec.{leb}
 use lib.ListN.{length, take, drop}
+use denote.Ref.{RefT, ptr, now}
 use Rattle.base.specs.Refusals.{numberOf}
+use Rattle.meaning.specs.Values.{Bytes}
 use Rattle.meaning.specs.Rows.{forward, backward}
 use Rattle.meaning.specs.Words.{prog, sound}
 use Rattle.checkdoors.specs.declared.Answer.{Answer}
@@ -69,3 +72,26 @@ unlessEmpty (some k) l = []
 
 unfoldable pub leftSays : List ℕ → List ℕ → ℕ → ℕ → List ℕ
 leftSays ws hay s e = unlessEmpty (refusal ws (length hay) s e) (leftOr (forward (prog ws) (window hay s e)))
+
+-- where in the haystack it begins: at the end that was found, else at the haystack's start
+abbrev pub leftFrom : Outcome → ℕ
+leftFrom (found n) = n
+leftFrom noMatch = 0
+leftFrom (refused k place) = 0
+
+unfoldable pub leftAt : List ℕ → List ℕ → ℕ → ℕ → ℕ
+leftAt ws hay s e = leftFrom (forwardSays ws hay s e)
+
+-- What the answer r of a check's door promises, where the outcome is o: it says o; and the haystack holds bytes, by its type.
+pub record Answered (o : Outcome) (hay : List ℕ) (r : Answer) : Type 0 where
+  pub says : said r ≡ o
+  pub bytes : Bytes hay
+
+-- the place n bytes on: a place is a block of memory and an offset in it
+abbrev pub onward : ℕ × ℕ → ℕ → ℕ × ℕ
+onward at n = (at .0, at .1 + n)
+
+-- What the second forward door promises of the part r of the haystack that it hands back: its bytes, and where it lies.
+pub record HandsBack (ws : List ℕ) (hay : RefT (List ℕ)) (s e : ℕ) (r : RefT (List ℕ)) : Type 0 where
+  pub left : now r ≡ leftSays ws (now hay) s e
+  pub lies : ptr r ≡ onward (ptr hay) (leftAt ws (now hay) s e)

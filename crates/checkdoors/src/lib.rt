@@ -4,7 +4,7 @@ use base::Refusal;
 use sound::is_sound;
 use steps::Found;
 ghost use mathlib.Core.Path.{_≡_};
-ghost use Rattle.checkdoors.specs.Doors.{said, refusal, whyNot, forwardSays, reverseSays, leftSays};
+ghost use Rattle.checkdoors.specs.Doors.{refusal, whyNot, forwardSays, reverseSays, Answered, HandsBack};
 
 // Found at an offset of the haystack, no match, or refused.
 pub enum Answer {
@@ -40,7 +40,7 @@ fn admit(words: &[u32], len: usize, start: usize, end: usize) -> Admitted
 
 // The forward check of the window from start to end: the end of the first choice that fits at its start.
 pub fn forward(words: &[u32], hay: &[u8], start: usize, end: usize) -> Answer
-    ensures { λ r. ⌜ said r ≡ forwardSays (now (words .entry)) (now (hay .entry)) start end ⌝ }
+    ensures { λ r. ⌜ Answered (forwardSays (now (words .entry)) (now (hay .entry)) start end) (now (hay .entry)) r ⌝ }
 {
     let test = admit(words, hay.len(), start, end);
     if let Admitted::No(why) = test {
@@ -55,7 +55,7 @@ pub fn forward(words: &[u32], hay: &[u8], start: usize, end: usize) -> Answer
 
 // The reverse check of the window from start to end: the start of the first choice that fits at its end.
 pub fn reverse(words: &[u32], hay: &[u8], start: usize, end: usize) -> Answer
-    ensures { λ r. ⌜ said r ≡ reverseSays (now (words .entry)) (now (hay .entry)) start end ⌝ }
+    ensures { λ r. ⌜ Answered (reverseSays (now (words .entry)) (now (hay .entry)) start end) (now (hay .entry)) r ⌝ }
 {
     let test = admit(words, hay.len(), start, end);
     if let Admitted::No(why) = test {
@@ -70,15 +70,15 @@ pub fn reverse(words: &[u32], hay: &[u8], start: usize, end: usize) -> Answer
 
 // The second forward door: what the match leaves of the window, as the caller's own bytes.
 pub fn left_forward<'n, 'h>(words: &'n [u32], hay: &'h [u8], start: usize, end: usize) -> &'h [u8]
-    ensures { λ r. ⌜ now r ≡ leftSays (now (words .entry)) (now (hay .entry)) start end ⌝ }
+    ensures { λ r. ⌜ HandsBack (now (words .entry)) (hay .entry) start end r ⌝ }
 {
     let test = admit(words, hay.len(), start, end);
     if let Admitted::No(_) = test {
-        return &hay[0..0];
+        return &hay[0..0]; // refused
     }
     let window = &hay[start..end];
     let Found::Left(left) = forward::check(words, window) else {
-        return &hay[0..0];
+        return &hay[0..0]; // no match
     };
     let used = window.len() - left;
     &window[used..]

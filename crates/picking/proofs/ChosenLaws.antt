@@ -143,12 +143,12 @@ pub chosen-open : (ts : Tokens) (n : ℕ) (us : Tokens) → choice ts ≡ chosen
 unfolding Holds
 chosen-open ts n us e = subst (Holds (Taken ts)) e (choice-taken ts) .2
 
-plain-left : (ts us : Tokens) → plain (ts ⊕ us) ≡ true → plain ts ≡ true
+pub plain-left : (ts us : Tokens) → plain (ts ⊕ us) ≡ true → plain ts ≡ true
 unfolding plain _⊕_
 plain-left nothing us h = refl
 plain-left (t then ts) us h = and-both (and-left (plainInside t) _ h) (plain-left ts us (and-right (plainInside t) _ h))
 
-plain-right : (ts us : Tokens) → plain (ts ⊕ us) ≡ true → plain us ≡ true
+pub plain-right : (ts us : Tokens) → plain (ts ⊕ us) ≡ true → plain us ≡ true
 unfolding plain _⊕_
 plain-right nothing us h = h
 plain-right (t then ts) us h = plain-right ts us (and-right (plainInside t) _ h)
@@ -185,7 +185,7 @@ open-one (NotMaskedByte v all) o h = sym o
 open-one (Jump from to) o h = sym o
 open-one (Alternatives ls) o h = lists-listable ls h
 
-open-listable : (ts : Tokens) → Open ts → plain ts ≡ true → listable ts ≡ true
+pub open-listable : (ts : Tokens) → Open ts → plain ts ≡ true → listable ts ≡ true
 unfolding Open plain listable
 open-listable nothing o h = refl
 open-listable (t then ts) o h = and-both (open-one t (o .0) (and-left (plainInside t) _ h)) (open-listable ts (o .1) (and-right (plainInside t) _ h))

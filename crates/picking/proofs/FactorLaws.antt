@@ -54,12 +54,12 @@ unfolding Filled _⊕_
 filled-right nothing us h = h
 filled-right (t then ts) us h = tt
 
-open-left : (ts us : Tokens) → Open (ts ⊕ us) → Open ts
+pub open-left : (ts us : Tokens) → Open (ts ⊕ us) → Open ts
 unfolding Open _⊕_
 open-left nothing us h = tt
 open-left (t then ts) us h = (h .0, open-left ts us (h .1))
 
-open-right : (ts us : Tokens) → Open (ts ⊕ us) → Open us
+pub open-right : (ts us : Tokens) → Open (ts ⊕ us) → Open us
 unfolding Open _⊕_
 open-right nothing us h = h
 open-right (t then ts) us h = open-right ts us (h .1)
@@ -106,7 +106,7 @@ filled-every asked (nothing ∷ ss) h = filled-every asked ss (h .1)
 filled-every asked ((t then s) ∷ ss) h = (h .0, filled-every asked ss (h .1))
 
 -- what holds of each segment holds of each run
-runs-every : (asked : Tokens → Type 0) (ts : Tokens) → Every asked (segments ts) → Every asked (runs ts)
+pub runs-every : (asked : Tokens → Type 0) (ts : Tokens) → Every asked (segments ts) → Every asked (runs ts)
 unfolding runs firstLast Every
 runs-every asked ts h = filled-every asked (firstLast (segments ts)) (go (segments ts) h)
   where
@@ -176,7 +176,7 @@ only-prior p r = go (isLiteral p)
 
 module _ (run : Tokens) where
   -- something of the run, not nothing
-  abbrev Inside : Tokens → Type 0
+  abbrev pub Inside : Tokens → Type 0
   Inside us = Factor us run × Filled us
 
   parts-inside : (a : Tokens) (ps : List Tokens) → run ≡ a ⊕ joined ps → Every Filled ps → Every Inside ps
@@ -213,15 +213,22 @@ module _ (run : Tokens) where
       every-append (λ s. Inside (widened s)) (longer ps prior p _) _ (longer-inside a ps prior p _ e (f .0))
       (slices-inside (a ⊕ (prior ⊕ r .0)) ps (literalOnly p) (e ∙ ap (λ (x : Tokens). a ⊕ (prior ⊕ x)) (r .1) ∙ three a prior (r .0) (literalOnly p ⊕ joined ps)) (f .1))
 
-  -- what is chosen in a run stands in it, and is not nothing
-  pub run-inside : Holds (λ us. Factor us run × Filled us) (inRun run)
+  -- each part of a run stands in it, and is not nothing
+  pub run-parts : Every Inside (parts run)
   unfolding _⊕_
+  run-parts = parts-inside nothing (parts run) (sym (joined-parts run)) (parts-filled run)
+
+  -- so does each slice with the literal parts on either side
+  pub run-slices : Every (λ s. Inside (widened s)) (slices (parts run) nothing)
+  unfolding _⊕_
+  run-slices = slices-inside nothing (parts run) nothing (sym (joined-parts run)) (parts-filled run)
+
+  -- and so does what is chosen in it
+  pub run-inside : Holds Inside (inRun run)
   run-inside =
-      let e = sym (joined-parts run) in
-      let f = parts-filled run in
       run-holds Inside run
-      (every-map Inside (Literally Inside) (λ p h k. h) (parts run) (parts-inside nothing (parts run) e f))
-      (every-map (λ s. Inside (widened s)) (Widely Inside) (λ s h n k. h) (slices (parts run) nothing) (slices-inside nothing (parts run) nothing e f))
+      (every-map Inside (Literally Inside) (λ p h k. h) (parts run) run-parts)
+      (every-map (λ s. Inside (widened s)) (Widely Inside) (λ s h n k. h) (slices (parts run) nothing) run-slices)
 
 -- tokens that stand in others, are not nothing, and of which none closes a run
 abbrev pub Taken : Tokens → Tokens → Type 0

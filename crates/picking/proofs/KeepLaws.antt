@@ -1,8 +1,9 @@
 -- What holds of every strong literal part and of every widened slice that has a rank holds of what is chosen. Assumes nothing.
-use mathlib.Core.Path.{_≡_, refl}
+use mathlib.Core.Path.{_≡_, refl, sym, subst}
 use mathlib.Core.Bool.{Bool, true, false, cond, _&&_}
+use mathlib.Core.Logic.{⊎-elim}
 use mathlib.Core.Option.{some}
-use mathlib.Core.List.{List, [], _∷_, _++_}
+use mathlib.Core.List.{List, [], _∷_, _++_, List·Memᴰ, List·Memᴰ·not-nil, List·Memᴰ·cases-cons}
 use Prim.Native.Nat.{ℕ}
 use lib.Dec.{leb, ltb}
 use Rattle.meaning.specs.Tokens.{Tokens, nothing}
@@ -14,6 +15,11 @@ use Rattle.picking.specs.Choice.{Ranked, ranked, skipped, excessive, Cho
 unfoldable pub Every : {A : Type 0} → (A → Type 0) → List A → Type 0
 Every asked [] = Unit {0}
 Every asked (x ∷ xs) = asked x × Every asked xs
+
+pub every-at : {A : Type 0} (asked : A → Type 0) {x : A} (xs : List A) → Every asked xs → List·Memᴰ x xs → asked x
+unfolding Every
+every-at asked [] h m = absurd (List·Memᴰ·not-nil m)
+every-at asked (y ∷ ys) h m = ⊎-elim (λ e. subst asked (sym e) (h .0)) (λ k. every-at asked ys (h .1) k) (List·Memᴰ·cases-cons m)
 
 pub every-append : {A : Type 0} (asked : A → Type 0) (xs ys : List A) → Every asked xs → Every asked ys → Every asked (xs ++ ys)
 unfolding Every

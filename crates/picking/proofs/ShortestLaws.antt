@@ -15,13 +15,13 @@ use Rattle.meaning.specs.Values.{Bytes, SpelledOne, Spelled, SpelledFirst, Spel
 use Rattle.meaning.proofs.ValueLaws.{bytes-join}
 use Rattle.meaning.proofs.SoundLaws.{and-left, and-right, and-both, false-true}
 use Rattle.picking.specs.Literals.{isPlain, literals, listableOf, listable, listableIn, lengthOf, lengthIn, shortest, shorter}
-use Rattle.picking.specs.Runs.{closes, plainInside, plain, atFront, segmented, segments, filledOnes, firstLast, runs, parts, slices}
-use Rattle.picking.specs.Choice.{lowest, least, unranked, chosen, best, strong, aloneOr, inRun, between, among, choice}
+use Rattle.picking.specs.Runs.{closes, plainInside, plain, atFront, segmented, segments, runs}
+use Rattle.picking.specs.Choice.{lowest, least, chosen, inRun}
 use Rattle.picking.proofs.MatchLaws.{literals-are-spans}
 use Rattle.picking.proofs.LengthLaws.{literal-lengths}
-use Rattle.picking.proofs.KeepLaws.{Every, every-map}
-use Rattle.picking.proofs.FactorLaws.{Open}
-use Rattle.picking.proofs.ChosenLaws.{chosen-factor, chosen-listable}
+use Rattle.picking.proofs.KeepLaws.{Every, every-map, Holds}
+use Rattle.picking.proofs.FactorLaws.{Factor, Open, open-left, open-right, runs-every, Inside, run-inside}
+use Rattle.picking.proofs.ChosenLaws.{plain-left, plain-right, open-listable}
 
 -- ---- some literal has that length
 
@@ -197,9 +197,19 @@ unfolding Spelled _⊕_
 spelled-right nothing us h = h
 spelled-right (t then ts) us h = spelled-right ts us (h .1)
 
--- a segment of plain tokens that a text spells
-abbrev Able : Tokens → Type 0
+-- tokens of which none closes a run, with plain alternatives, as a text spells them
+abbrev pub Able : Tokens → Type 0
 Able s = Open s × (plain s ≡ true) × Spelled s
+
+pub able-left : (ts us : Tokens) → Able (ts ⊕ us) → Able ts
+able-left ts us (o, p, w) = (open-left ts us o, plain-left ts us p, spelled-left ts us w)
+
+pub able-right : (ts us : Tokens) → Able (ts ⊕ us) → Able us
+able-right ts us (o, p, w) = (open-right ts us o, plain-right ts us p, spelled-right ts us w)
+
+-- and so are those that stand in them
+pub able-within : (us ts : Tokens) → Factor us ts → Able ts → Able us
+able-within us ts (a, b, e) h = able-left us b (able-right a (us ⊕ b) (subst Able e h))
 
 able-on : (b : Bool) (t : Token) (ss : List Tokens) → closes t ≡ b → plainInside t ≡ true → SpelledOne t → Every Able ss → Every Able (segmented b t ss)
 unfolding segmented atFront Every Open plain Spelled
@@ -212,22 +222,16 @@ unfolding segments Every Open plain Spelled
 segments-able nothing p w = ((tt, refl, tt), tt)
 segments-able (t then ts) p w = able-on (closes t) t (segments ts) refl (and-left (plainInside t) _ p) (w .0) (segments-able ts (and-right (plainInside t) _ p) (w .1))
 
--- tokens of which none closes a run are their one segment
-open-segment : (s : Tokens) → Open s → segments s ≡ s ∷ []
-unfolding segments segmented atFront Open
-open-segment nothing o = refl
-open-segment (t then s) o = ap₂ (λ (b : Bool) (ss : List Tokens). segmented b t ss) (o .0) (open-segment s (o .1))
+pub runs-able : (ts : Tokens) → plain ts ≡ true → Spelled ts → Every Able (runs ts)
+runs-able ts p w = runs-every Able ts (segments-able ts p w)
 
-open-choice : (s : Tokens) → Open s → choice s ≡ inRun s
-unfolding choice runs firstLast filledOnes among between inRun parts slices strong best aloneOr
-open-choice nothing o = ap (λ (ss : List Tokens). among unranked (filledOnes (firstLast ss))) (open-segment nothing o)
-open-choice (t then s) o = ap (λ (ss : List Tokens). among unranked (filledOnes (firstLast ss))) (open-segment (t then s) o)
+-- and so is what is chosen in one
+pub chosen-able : (run : Tokens) → Able run → (n : ℕ) (us : Tokens) → inRun run ≡ chosen n us → Able us
+unfolding Holds
+chosen-able run h n us e = able-within us run (subst (Holds (Inside run)) e (run-inside run) .0) h
 
 able-told : (s : Tokens) → Able s → (n : ℕ) (us : Tokens) → inRun s ≡ chosen n us → least length (literals us) ≡ lengthIn us
-able-told s (o, p, w) n us e =
-    let c : choice s ≡ chosen n us = open-choice s o ∙ e in
-    let (a, b, f) = chosen-factor s n us c in
-    shortest-is us (chosen-listable s n us c p) (spelled-left us b (spelled-right a (us ⊕ b) (subst Spelled f w)))
+able-told s h n us e = let (o, p, w) = chosen-able s h n us e in shortest-is us (open-listable us o p) w
 
 -- what is chosen in any segment has a shortest literal that is as long as its tokens tell
 pub segments-told : (ts : Tokens) → plain ts ≡ true → Spelled ts

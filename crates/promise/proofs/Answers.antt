@@ -1,4 +1,4 @@
--- Sound words whose program has exactly a pattern's spans: what the doors answer with them. Assumes nothing.
+-- Sound words whose program has exactly some spans: what the doors answer with them. Assumes nothing.
 use mathlib.Core.Path.{_≡_, refl, sym, ap, _∙_, subst}
 use mathlib.Core.Bool.{true}
 use mathlib.Core.Logic.{_↔_}
@@ -7,7 +7,6 @@ use mathlib.Core.List.{List, _++_, reverse, reverse-append, reverse-reverse}
 use Prim.Native.Nat.{ℕ, _+_, _-_, _≤_}
 use native.Mathlib.Omega.{arith}
 use lib.ListN.{length}
-use Rattle.meaning.specs.Tokens.{Tokens, Spans}
 use Rattle.meaning.specs.Values.{Bytes}
 use Rattle.meaning.specs.Programs.{Prog, Span}
 use Rattle.meaning.specs.Choices.{FirstForward, FirstReverse}
@@ -19,7 +18,7 @@ use Rattle.checkdoors.specs.Doors.{Outcome, found, noMatch, refused, window, re
 use Rattle.checkdoors.proofs.DoorLaws.{passed, forward-checked, reverse-checked}
 use Rattle.checkdoors.proofs.Theorems.{forward-finds, finds-forward, forward-misses, reverse-finds, finds-reverse, reverse-misses}
 use Rattle.promise.specs.NodeWords.{SoundWords}
-use Rattle.promise.specs.Pattern.{SpanAt, FirstEnd, FirstStart, AnswersForward, AnswersReverse}
+use Rattle.promise.specs.Pattern.{SpanAt, FirstEnd, FirstStart, AnswersForward, AnswersReverse, ForwardDoor, ReverseDoor}
 use Rattle.promise.proofs.NodeWords.{sound-listed, program-listed}
 use Rattle.promise.proofs.Cuts.{part-length, part-bytes, parts, cut}
 
@@ -84,7 +83,7 @@ module _ (ws hay : List ℕ) (s e : ℕ) (h : sound ws ≡ true) (d : s ≤ e) (
       let m : s + length (window hay s n) ≡ n = omega (arith, k) in
       finds-reverse ws hay s e h d l (window hay s n) f ∙ ap found m
 
-module _ (ts : Tokens) (ws hay : List ℕ) (s e : ℕ) (h : sound ws ≡ true) (y : Bytes hay) (d : s ≤ e) (l : e ≤ length hay) where
+module _ (spans : List ℕ → Type 0) (ws hay : List ℕ) (s e : ℕ) (h : sound ws ≡ true) (y : Bytes hay) (d : s ≤ e) (l : e ≤ length hay) where
   words : SoundWords ws
   words = sound-listed ws .0 h
 
@@ -92,8 +91,8 @@ module _ (ts : Tokens) (ws hay : List ℕ) (s e : ℕ) (h : sound ws ≡ true) (
   same : prog ws ≡ words .program
   same = program-listed (words .nodes)
 
-  module _ (exact : (x : List ℕ) → Bytes x → Spans ts x ↔ Span (prog ws) x) where
-    span-of : (n : ℕ) → FirstEnd (prog ws) hay s e n → SpanAt ts hay s n
+  module _ (exact : (x : List ℕ) → Bytes x → spans x ↔ Span (prog ws) x) where
+    span-of : (n : ℕ) → FirstEnd (prog ws) hay s e n → SpanAt spans hay s n
     span-of n (a, b, f) =
         let c = cut hay (f .fits .0) (window hay n e) s e d l (f .fits .1) in
         let k = part-length hay n e b l in
@@ -101,17 +100,17 @@ module _ (ts : Tokens) (ws hay : List ℕ) (s e : ℕ) (h : sound ws ≡ true) (
         let x : f .fits .0 ≡ window hay s n = c .front ∙ ap (window hay s) m in
         (a, omega arith, exact (window hay s n) (part-bytes hay s n y) .1 (subst (Span (prog ws)) x (fits-span (prog ws) (f .choice) (f .fits .0) (f .fits .2))))
 
-    misses-span : forwardSays ws hay s e ≡ noMatch → (b : ℕ) → b ≤ e → SpanAt ts hay s b → ⊥
+    misses-span : forwardSays ws hay s e ≡ noMatch → (b : ℕ) → b ≤ e → SpanAt spans hay s b → ⊥
     misses-span g b i (j, k, q) =
         let (c, f) = span-fits (prog ws) (window hay s b) (exact (window hay s b) (part-bytes hay s b y) .0 q) in
         forward-misses ws hay s e h d l .0 g c (window hay b e) (window hay s b, parts hay s b e j i, f)
 
-    pub answers-forward : AnswersForward ts ws hay s e
+    answers-forward : AnswersForward spans ws hay s e (forwardSays ws hay s e)
     answers-forward = record {
       words-sound = words;
       finds = (
         λ (n, g). let f = to-first ws hay s e h d l n g in (n, f .1, span-of n f),
-        λ (b, i, q). found-or (SpanAt ts hay s b) (forwardSays ws hay s e) (fine ws hay s e h d l) (λ g. misses-span g b i) q,
+        λ (b, i, q). found-or (SpanAt spans hay s b) (forwardSays ws hay s e) (fine ws hay s e h d l) (λ g. misses-span g b i) q,
       );
       finds-span = λ n g. let f = to-first ws hay s e h d l n g in (f .1, span-of n f);
       finds-first = λ n. (
@@ -123,8 +122,8 @@ module _ (ts : Tokens) (ws hay : List ℕ) (s e : ℕ) (h : sound ws ≡ true) (
     }
 
   -- the same from the window's end; the reverse program has the spans read from their other side
-  module _ (exact : (x : List ℕ) → Bytes x → Spans ts x ↔ Span (prog ws) (reverse x)) where
-    span-to : (n : ℕ) → FirstStart (prog ws) hay s e n → SpanAt ts hay n e
+  module _ (exact : (x : List ℕ) → Bytes x → spans x ↔ Span (prog ws) (reverse x)) where
+    span-to : (n : ℕ) → FirstStart (prog ws) hay s e n → SpanAt spans hay n e
     span-to n (a, b, f) =
         let c = cut hay (window hay s n) (reverse (f .fits .0)) s e d l (turned ws hay s e h d l (window hay s n) (f .fits .0) (f .fits .1)) in
         let i : n ≤ length hay = omega arith in
@@ -134,17 +133,17 @@ module _ (ts : Tokens) (ws hay : List ℕ) (s e : ℕ) (h : sound ws ≡ true) (
         let z : f .fits .0 ≡ reverse (window hay n e) = sym (reverse-reverse (f .fits .0)) ∙ ap reverse x in
         (b, l, exact (window hay n e) (part-bytes hay n e y) .1 (subst (Span (prog ws)) z (fits-span (prog ws) (f .choice) (f .fits .0) (f .fits .2))))
 
-    misses-start : reverseSays ws hay s e ≡ noMatch → (a : ℕ) → s ≤ a → SpanAt ts hay a e → ⊥
+    misses-start : reverseSays ws hay s e ≡ noMatch → (a : ℕ) → s ≤ a → SpanAt spans hay a e → ⊥
     misses-start g a i (j, k, q) =
         let (c, f) = span-fits (prog ws) (reverse (window hay a e)) (exact (window hay a e) (part-bytes hay a e y) .0 q) in
         reverse-misses ws hay s e h d l .0 g c (reverse (window hay s a)) (reverse (window hay a e), ap reverse (parts hay s a e i j) ∙ reverse-append (window hay s a) (window hay a e), f)
 
-    pub answers-reverse : AnswersReverse ts ws hay s e
+    answers-reverse : AnswersReverse spans ws hay s e (reverseSays ws hay s e)
     answers-reverse = record {
       words-sound = words;
       finds = (
         λ (n, g). let f = to-start ws hay s e h d l n g in (n, f .0, span-to n f),
-        λ (a, i, q). found-or (SpanAt ts hay a e) (reverseSays ws hay s e) (back-fine ws hay s e h d l) (λ g. misses-start g a i) q,
+        λ (a, i, q). found-or (SpanAt spans hay a e) (reverseSays ws hay s e) (back-fine ws hay s e h d l) (λ g. misses-start g a i) q,
       );
       finds-span = λ n g. let f = to-start ws hay s e h d l n g in (f .0, span-to n f);
       finds-first = λ n. (
@@ -154,3 +153,11 @@ module _ (ts : Tokens) (ws hay : List ℕ) (s e : ℕ) (h : sound ws ≡ true) (
       misses = (misses-start, λ g. missed-or (reverseSays ws hay s e) (back-fine ws hay s e h d l) (λ n f. let x = to-start ws hay s e h d l n f in g n (x .0) (span-to n x)));
       never-refuses = (back-fine ws hay s e h d l);
     }
+
+-- so whatever the doors answer, by their promises
+module _ (spans : List ℕ → Type 0) (ws : List ℕ) (h : sound ws ≡ true) where
+  pub forward-door : ((x : List ℕ) → Bytes x → spans x ↔ Span (prog ws) x) → ForwardDoor spans ws
+  forward-door exact hay s e r d l a = subst (AnswersForward spans ws hay s e) (sym (a .says)) (answers-forward spans ws hay s e h (a .bytes) d l exact)
+
+  pub reverse-door : ((x : List ℕ) → Bytes x → spans x ↔ Span (prog ws) (reverse x)) → ReverseDoor spans ws
+  reverse-door exact hay s e r d l a = subst (AnswersReverse spans ws hay s e) (sym (a .says)) (answers-reverse spans ws hay s e h (a .bytes) d l exact)

@@ -1,5 +1,5 @@
 -- The doors of the checks have the listed outcomes, and no others. Assumes nothing.
-use mathlib.Core.Path.{_≡_, refl, sym, subst}
+use mathlib.Core.Path.{_≡_, refl, sym, ap, subst}
 use mathlib.Core.Bool.{Bool, true, false}
 use mathlib.Core.Logic.{_⊎_, inl, inr}
 use mathlib.Core.Option.{some}
@@ -14,7 +14,7 @@ use Rattle.meaning.specs.Choices.{Nowhere}
 use Rattle.meaning.specs.Words.{sound}
 use Rattle.meaning.proofs.WordSpans.{sound-length}
 use Rattle.checkdoors.specs.Doors as doors
-use Rattle.checkdoors.specs.Doors.{window, refusal, forwardSays, reverseSays, leftSays}
+use Rattle.checkdoors.specs.Doors.{window, refusal, forwardSays, reverseSays, leftSays, leftFrom, leftAt}
 use Rattle.checkdoors.proofs.DoorLaws as law
 use Rattle.checkdoors.proofs.Theorems.{forward-misses, reverse-misses, left-tail, left-nothing}
 use Rattle.promise.specs.NodeWords.{Nodes}
@@ -124,31 +124,41 @@ module _ (ws hay : List ℕ) (s e : ℕ) where
   no-found : (n : ℕ) (o : doors.Outcome) → o ≡ doors.noMatch → doors.found n ≡ o → ⊥
   no-found n o h g = let z : _≡_ {A = ℕ} 0 1 = cc in omega arith
 
-  pub lefts : Left ws hay s e (leftSays ws hay s e)
+  -- where it begins, by the outcome
+  begins : (o : doors.Outcome) → forwardSays ws hay s e ≡ o → leftFrom o ≡ leftAt ws hay s e
+  unfolding leftAt
+  begins o g = sym (ap leftFrom g)
+
+  left-so : {n m : ℕ} {v u : List ℕ} → n ≡ m → v ≡ u → Left ws hay s e n v → Left ws hay s e m u
+  left-so {m = m} {v = v} a b l = subst (Left ws hay s e m) b (subst (λ (k : ℕ). Left ws hay s e k v) a l)
+
+  pub lefts : Left ws hay s e (leftAt ws hay s e) (leftSays ws hay s e)
   lefts = go asked
     where
-      answer : Asked ws hay s e → (o : doors.Outcome) → forwardSays ws hay s e ≡ o → Left ws hay s e (leftSays ws hay s e)
-      answer a (doors.found n) g = subst (Left ws hay s e) (sym (left-tail ws hay s e (a .tested) (a .ordered) (a .inside) n g)) (said.tail (subst (Forward ws hay s e) g forwards))
-      answer a doors.noMatch g = subst (Left ws hay s e) (sym (left-nothing ws hay s e (a .tested) (a .ordered) (a .inside) g)) (said.nothing (λ n f. no-found n (forwardSays ws hay s e) g (forwards-one f)))
+      answer : Asked ws hay s e → (o : doors.Outcome) → forwardSays ws hay s e ≡ o → Left ws hay s e (leftAt ws hay s e) (leftSays ws hay s e)
+      answer a (doors.found n) g = left-so (begins (doors.found n) g) (sym (left-tail ws hay s e (a .tested) (a .ordered) (a .inside) n g)) (said.tail (subst (Forward ws hay s e) g forwards))
+      answer a doors.noMatch g = left-so (begins doors.noMatch g) (sym (left-nothing ws hay s e (a .tested) (a .ordered) (a .inside) g)) (said.nothing (λ n f. no-found n (forwardSays ws hay s e) g (forwards-one f)))
       answer a (doors.refused k p) g = absurd (fine ws hay s e (a .tested) (a .ordered) (a .inside) k p g)
 
-      go : Asked ws hay s e ⊎ Why ws hay s e → Left ws hay s e (leftSays ws hay s e)
+      go : Asked ws hay s e ⊎ Why ws hay s e → Left ws hay s e (leftAt ws hay s e) (leftSays ws hay s e)
       go (inl a) = answer a (forwardSays ws hay s e) refl
-      go (inr w) = subst (Left ws hay s e) (law.left-refused ws hay s e (w .number) (w .tells)) (said.nothing (λ n f. not-found (w .number) n (forwardSays ws hay s e) (law.forward-refused ws hay s e (w .number) (w .tells)) (forwards-one f)))
+      go (inr w) =
+          let r = law.forward-refused ws hay s e (w .number) (w .tells) in
+          left-so (begins (doors.refused (w .number) 0) (sym r)) (law.left-refused ws hay s e (w .number) (w .tells)) (said.nothing (λ n f. not-found (w .number) n (forwardSays ws hay s e) r (forwards-one f)))
 
-  pub lefts-one : {v : List ℕ} → Left ws hay s e v → v ≡ leftSays ws hay s e
-  lefts-one (said.tail {n = n} f) = go asked
+  pub lefts-one : {n : ℕ} {v : List ℕ} → Left ws hay s e n v → (n ≡ leftAt ws hay s e) × (v ≡ leftSays ws hay s e)
+  lefts-one (said.tail {n = n} f) = (begins (doors.found n) (sym (forwards-one f)), go asked)
     where
       go : Asked ws hay s e ⊎ Why ws hay s e → window hay n e ≡ leftSays ws hay s e
       go (inl a) = sym (left-tail ws hay s e (a .tested) (a .ordered) (a .inside) n (sym (forwards-one f)))
       go (inr w) = absurd (not-found (w .number) n (forwardSays ws hay s e) (law.forward-refused ws hay s e (w .number) (w .tells)) (forwards-one f))
   lefts-one (said.nothing c) = go asked
     where
-      answer : Asked ws hay s e → (o : doors.Outcome) → forwardSays ws hay s e ≡ o → [] ≡ leftSays ws hay s e
+      answer : Asked ws hay s e → (o : doors.Outcome) → forwardSays ws hay s e ≡ o → (0 ≡ leftAt ws hay s e) × ([] ≡ leftSays ws hay s e)
       answer a (doors.found n) g = absurd (c n (subst (Forward ws hay s e) g forwards))
-      answer a doors.noMatch g = sym (left-nothing ws hay s e (a .tested) (a .ordered) (a .inside) g)
+      answer a doors.noMatch g = (begins doors.noMatch g, sym (left-nothing ws hay s e (a .tested) (a .ordered) (a .inside) g))
       answer a (doors.refused k p) g = absurd (fine ws hay s e (a .tested) (a .ordered) (a .inside) k p g)
 
-      go : Asked ws hay s e ⊎ Why ws hay s e → [] ≡ leftSays ws hay s e
+      go : Asked ws hay s e ⊎ Why ws hay s e → (0 ≡ leftAt ws hay s e) × ([] ≡ leftSays ws hay s e)
       go (inl a) = answer a (forwardSays ws hay s e) refl
-      go (inr w) = law.left-refused ws hay s e (w .number) (w .tells)
+      go (inr w) = (begins (doors.refused (w .number) 0) (sym (law.forward-refused ws hay s e (w .number) (w .tells))), law.left-refused ws hay s e (w .number) (w .tells))

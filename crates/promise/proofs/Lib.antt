@@ -7,10 +7,12 @@ pub mod Literals
 pub mod Lengths
 pub mod Best
 pub mod Winners
+pub mod Parts
 pub mod Outcomes
 pub mod Picks
 pub mod Cuts
 pub mod Answers
 pub mod Checks
 pub mod Pattern
+pub mod Programs
 pub mod Lines

@@ -18,6 +18,8 @@ use Rattle.picking.specs.Runs.{isAlternatives, plainInside}
 use Rattle.picking.specs.Choice.{lowest, least, byteOf, bytesOf}
 use Rattle.promise.specs.Literals.{Plain, Rising, Members, Least}
 use Rattle.promise.specs.Literals as said
+use Rattle.promise.specs.Parts.{OnlyBytes}
+use Rattle.promise.specs.Parts as part
 
 -- what a token is
 pub is-byte : (t : Token) → (isByte t ≡ true) ↔ ((v : ℕ) × (t ≡ Byte v))
@@ -90,19 +92,13 @@ is-plain t = (go t, back)
     back (said.not-half {v = v} {m = m} h) = open-mask m h (λ (k : Mask). isPlain (NotMaskedByte v k) ≡ true) refl refl
 
 -- the bytes of a list of bytes are its one literal
-abbrev pub OnlyBytes : Tokens → Type 0
-OnlyBytes nothing = Unit {0}
-OnlyBytes (t then ts) = ((v : ℕ) × (t ≡ Byte v)) × OnlyBytes ts
-
-spelt-bytes : (ts : Tokens) (p : List ℕ) → OnlyBytes ts → spelt ts (p ∷ []) ≡ (p ++ bytesOf ts) ∷ []
+spelt-bytes : {ts : Tokens} (p : List ℕ) → OnlyBytes ts → spelt ts (p ∷ []) ≡ (p ++ bytesOf ts) ∷ []
 unfolding spelt _⊗_ before singles taken bytesOf byteOf
-spelt-bytes nothing p h = ap (λ (x : List ℕ). x ∷ []) (sym (append-nil p))
-spelt-bytes (t then ts) p ((v, e), h) =
-    subst (λ (x : Token). spelt (x then ts) (p ∷ []) ≡ (p ++ bytesOf (x then ts)) ∷ []) (sym e)
-    (spelt-bytes ts (p ++ (v ∷ [])) h ∙ ap (λ (x : List ℕ). x ∷ []) (append-assoc p (v ∷ []) (bytesOf ts)))
+spelt-bytes p part.none = ap (λ (x : List ℕ). x ∷ []) (sym (append-nil p))
+spelt-bytes p (part.more {v = v} {ts = ts} h) = spelt-bytes (p ++ (v ∷ [])) h ∙ ap (λ (x : List ℕ). x ∷ []) (append-assoc p (v ∷ []) (bytesOf ts))
 
-pub bytes-literal : (ts : Tokens) → OnlyBytes ts → literals ts ≡ bytesOf ts ∷ []
-bytes-literal ts h = spelt-bytes ts [] h
+pub bytes-literal : {ts : Tokens} → OnlyBytes ts → literals ts ≡ bytesOf ts ∷ []
+bytes-literal h = spelt-bytes [] h
 
 -- the least of a measure, by computing
 module _ (f : List ℕ → ℕ) where
@@ -159,6 +155,11 @@ lowest-fold f (l ∷ ls) n = lowest-fold f ls (min n (f l))
 pub least-is : (f : List ℕ → ℕ) (l : List ℕ) (ls : List (List ℕ)) → Least f (l ∷ ls) (least f (l ∷ ls))
 unfolding least
 least-is f l ls = subst (Least f (l ∷ ls)) (lowest-fold f ls (f l)) (fold-least f l ls)
+
+-- there are some where one is among them
+pub some-least : (f : List ℕ → ℕ) {l : List ℕ} (ls : List (List ℕ)) → List·Memᴰ l ls → Least f ls (least f ls)
+some-least f [] m = absurd (List·Memᴰ·not-nil m)
+some-least f (l ∷ ls) m = least-is f l ls
 
 -- the bytes that a class takes rise
 above : ℕ → List ℕ → Type 0

@@ -2,20 +2,19 @@
 use mathlib.Core.Path.{_≡_, refl, sym, ap, _∙_, subst}
 use mathlib.Core.Bool.{Bool, true, false, cond}
 use mathlib.Core.List.{List, _++_}
-use Prim.Native.Nat.{ℕ, _-_, _≤_}
+use Prim.Native.Nat.{ℕ, _-_}
 use lib.ListN.{length, take, drop, replicate}
 use lib.Seq.{take-at}
 use Rattle.base.specs.Pools.{filled}
-use Rattle.meaning.specs.Tokens.{Tokens}
-use Rattle.meaning.specs.Values.{Bytes}
+use Rattle.meaning.specs.Tokens.{Tokens, Spans}
 use Rattle.reading.specs.Lists.{Outcome, accepted, rejected, reading}
 use Rattle.reading.proofs.PieceLaws.{never}
 use Rattle.grammar.proofs.Derivable.{accepted-derived}
 use Rattle.compiling.specs.Compile.{Compiled, compiled, refused, compile}
 use Rattle.compiledoor.specs.Door.{gives, refuses, room, compiledSays, outcomeSays, compiledForward, compiledReverse, outcomeForward, outcomeReverse, compileSays, forwardLeaves, reverseLeaves}
 use Rattle.compiledoor.proofs.Promises as promised
-use Rattle.promise.specs.Pattern.{ReadAs, AnswersForward, AnswersReverse}
-use Rattle.promise.proofs.Answers.{answers-forward, answers-reverse}
+use Rattle.promise.specs.Pattern.{ReadAs, ForwardDoor, ReverseDoor}
+use Rattle.promise.proofs.Answers.{forward-door, reverse-door}
 
 -- what a text that compiles is read as and compiled to, and that the pools hold these words in front
 record Compiles (t p q : List ℕ) (n m : ℕ) : Type 0 where
@@ -65,18 +64,20 @@ module _ (t p q : List ℕ) (n m : ℕ) where
           let z : refuses 18 0 ≡ gives n m = sym (ap (λ (b : Bool). cond b (outcomeSays (reading t)) (refuses 18 0)) h) ∙ g in
           never (cc)
 
-  -- The text t compiles to n forward and m reverse words, which the pools then hold in front; hay is any bytes, and s to e a window of it.
-  module _ (g : compileSays t p q ≡ gives n m) (hay : List ℕ) (y : Bytes hay) (s e : ℕ) (d : s ≤ e) (l : e ≤ length hay) where
-    -- Then t is a pattern, and the forward door, asked with the forward words, answers for its pattern;
-    pub pattern-forward : (ts : Tokens) × ReadAs t ts × AnswersForward ts (take n (forwardLeaves t p q)) hay s e
+  -- The text t compiles to n forward and m reverse words, which the pools then hold in front.
+  module _ (g : compileSays t p q ≡ gives n m) where
+    -- Then t is a pattern, and the forward door, asked with the forward words about any window of any haystack, answers for its spans;
+    pub pattern-forward : (ts : Tokens) × ReadAs t ts × ForwardDoor (Spans ts) (take n (forwardLeaves t p q))
     pattern-forward =
         let c = compiles g in
-        let f = answers-forward (c .tokens) (c .forward) hay s e (promised.forward-sound t (c .reached) (c .tokens) (c .forward) (c .reverse) (c .read) (c .done)) y d l (promised.forward-exact t (c .reached) (c .tokens) (c .forward) (c .reverse) (c .read) (c .done)) in
-        (c .tokens, (c .reached, accepted-derived t (c .reached) (c .tokens) (c .read)), subst (λ (ws : List ℕ). AnswersForward (c .tokens) ws hay s e) (sym (c .forward-words)) f)
+        let h = promised.forward-sound t (c .reached) (c .tokens) (c .forward) (c .reverse) (c .read) (c .done) in
+        let exact = promised.forward-exact t (c .reached) (c .tokens) (c .forward) (c .reverse) (c .read) (c .done) in
+        (c .tokens, (c .reached, accepted-derived t (c .reached) (c .tokens) (c .read)), subst (ForwardDoor (Spans (c .tokens))) (sym (c .forward-words)) (forward-door (Spans (c .tokens)) (c .forward) h exact))
 
     -- and the reverse door, asked with the reverse words, likewise.
-    pub pattern-reverse : (ts : Tokens) × ReadAs t ts × AnswersReverse ts (take m (reverseLeaves t p q)) hay s e
+    pub pattern-reverse : (ts : Tokens) × ReadAs t ts × ReverseDoor (Spans ts) (take m (reverseLeaves t p q))
     pattern-reverse =
         let c = compiles g in
-        let r = answers-reverse (c .tokens) (c .reverse) hay s e (promised.reverse-sound t (c .reached) (c .tokens) (c .forward) (c .reverse) (c .read) (c .done)) y d l (promised.reverse-exact t (c .reached) (c .tokens) (c .forward) (c .reverse) (c .read) (c .done)) in
-        (c .tokens, (c .reached, accepted-derived t (c .reached) (c .tokens) (c .read)), subst (λ (ws : List ℕ). AnswersReverse (c .tokens) ws hay s e) (sym (c .reverse-words)) r)
+        let h = promised.reverse-sound t (c .reached) (c .tokens) (c .forward) (c .reverse) (c .read) (c .done) in
+        let exact = promised.reverse-exact t (c .reached) (c .tokens) (c .forward) (c .reverse) (c .read) (c .done) in
+        (c .tokens, (c .reached, accepted-derived t (c .reached) (c .tokens) (c .read)), subst (ReverseDoor (Spans (c .tokens))) (sym (c .reverse-words)) (reverse-door (Spans (c .tokens)) (c .reverse) h exact))

@@ -3,7 +3,7 @@ use mathlib.Core.Path.{_≡_, refl, sym, ap, ap₂, _∙_, subst}
 use mathlib.Core.Bool.{Bool, true, false, cond, _&&_, _||_}
 use mathlib.Core.Logic.{_⊎_, inl, inr, ⊎-elim, _↔_}
 use mathlib.Core.Option.{Option, none, some}
-use mathlib.Core.List.{List, [], _∷_, _++_, map, List·Memᴰ, List·Memᴰ·head, List·Memᴰ·tail, List·Memᴰ·not-nil, List·Memᴰ·cases-cons}
+use mathlib.Core.List.{List, [], _∷_, _++_, map, List·Memᴰ, List·Memᴰ·head, List·Memᴰ·tail, List·Memᴰ·not-nil, List·Memᴰ·cases-cons, Memᴰ·append-right}
 use Prim.Native.Nat.{ℕ, _≤_, _<_}
 use native.Mathlib.Omega.{arith}
 use lib.Dec.{eqb, leb, ltb}
@@ -297,3 +297,15 @@ choice-wins ts c = (to, back)
     back : Wins ts c → among unranked (runs ts) ≡ c
     back (said.a-run {cs = cs} h b) =
         among-next (runs ts) unranked ∙ ap (best-from beats unranked) (each-told WinsRun inRun (λ r d k. run-told r k) h) ∙ best-is Better LengthOver beats better-ordered cs c .1 b
+
+-- what wins between runs wins in one of them
+winner-among : {rs : List Tokens} {cs : List Choice} {c : Choice} → Each WinsRun rs cs → List·Memᴰ c cs → (run : Tokens) × List·Memᴰ run rs × WinsRun run c
+winner-among said.end m = absurd (List·Memᴰ·not-nil m)
+winner-among (said.next {x = r} h k) m = ⊎-elim
+    (λ e. (r, List·Memᴰ·head refl, subst (WinsRun r) (sym e) h))
+    (λ q. let (run, i, w) = winner-among k q in (run, List·Memᴰ·tail i, w))
+    (List·Memᴰ·cases-cons m)
+
+pub winner-run : {ts : Tokens} {n : ℕ} {us : Tokens} → Wins ts (chosen n us) → (run : Tokens) × List·Memᴰ run (runs ts) × WinsRun run (chosen n us)
+winner-run {n = n} {us = us} (said.a-run h (said.first f b)) =
+    winner-among h (subst (List·Memᴰ (chosen n us)) (sym (b .stands)) (Memᴰ·append-right (b .earlier) (List·Memᴰ·head refl)))

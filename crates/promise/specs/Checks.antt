@@ -21,10 +21,10 @@ pub data Forward (ws hay : List ℕ) (s e : ℕ) : doors.Outcome → Type 0 wher
   found : {p : Prog} {n : ℕ} → e ≤ length hay → length ws ≤ 512 → Nodes ws p → FirstEnd p hay s e n → Forward ws hay s e (doors.found n)
   missed : {p : Prog} → s ≤ e → e ≤ length hay → length ws ≤ 512 → Nodes ws p → Nowhere p (window hay s e) → Forward ws hay s e doors.noMatch
 
--- the second forward door: what is left of the window
-pub data Left (ws hay : List ℕ) (s e : ℕ) : List ℕ → Type 0 where
-  tail : {n : ℕ} → Forward ws hay s e (doors.found n) → Left ws hay s e (window hay n e)
-  nothing : ((n : ℕ) → Forward ws hay s e (doors.found n) → ⊥) → Left ws hay s e []
+-- the second forward door: the offset in the haystack at which what is left of the window begins, and its bytes
+pub data Left (ws hay : List ℕ) (s e : ℕ) : ℕ → List ℕ → Type 0 where
+  tail : {n : ℕ} → Forward ws hay s e (doors.found n) → Left ws hay s e n (window hay n e)
+  nothing : ((n : ℕ) → Forward ws hay s e (doors.found n) → ⊥) → Left ws hay s e 0 []
 
 -- the reverse check: where the first choice starts, read from the window's end
 pub data Reverse (ws hay : List ℕ) (s e : ℕ) : doors.Outcome → Type 0 where

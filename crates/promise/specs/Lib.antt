@@ -2,9 +2,11 @@ pub mod NodeWords
 pub mod Adding
 pub mod Cases
 pub mod Literals
+pub mod Parts
 pub mod Winners
 pub mod Outcomes
 pub mod Picks
 pub mod Pattern
+pub mod Programs
 pub mod Checks
 pub mod Lines

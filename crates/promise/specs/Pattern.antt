@@ -4,20 +4,21 @@ use mathlib.Core.Logic.{_↔_}
 use mathlib.Core.List.{List}
 use Prim.Native.Nat.{ℕ, _≤_}
 use lib.ListN.{length}
-use Rattle.meaning.specs.Tokens.{Tokens, Spans}
+use Rattle.meaning.specs.Tokens.{Tokens}
 use Rattle.meaning.specs.Programs.{Prog}
 use Rattle.meaning.specs.Choices.{FirstForward, FirstReverse}
 use Rattle.grammar.specs.Grammar.{Derives}
-use Rattle.checkdoors.specs.Doors.{found, noMatch, refused, window, forwardSays, reverseSays}
+use Rattle.checkdoors.specs.declared.Answer.{Answer}
+use Rattle.checkdoors.specs.Doors.{Outcome, found, noMatch, refused, said, window, forwardSays, reverseSays, Answered}
 use Rattle.promise.specs.NodeWords.{SoundWords}
 
 -- the text t is a pattern, with the tokens ts
 abbrev pub ReadAs : List ℕ → Tokens → Type 0
 ReadAs t ts = (reached : ℕ) × Derives t reached ts
 
--- the bytes of the haystack from a to b are a span of the pattern
-abbrev pub SpanAt : Tokens → List ℕ → ℕ → ℕ → Type 0
-SpanAt ts hay a b = (a ≤ b) × (b ≤ length hay) × Spans ts (window hay a b)
+-- the bytes of the haystack from a to b are one of some spans
+abbrev pub SpanAt : (List ℕ → Type 0) → List ℕ → ℕ → ℕ → Type 0
+SpanAt spans hay a b = (a ≤ b) × (b ≤ length hay) × spans (window hay a b)
 
 -- in the window from s to e, the first choice of a program ends at n: it leaves what lies from there to the window's end
 abbrev pub FirstEnd : Prog → List ℕ → ℕ → ℕ → ℕ → Type 0
@@ -27,24 +28,31 @@ FirstEnd p hay s e n = (s ≤ n) × (n ≤ e) × FirstForward p (window hay s e)
 abbrev pub FirstStart : Prog → List ℕ → ℕ → ℕ → ℕ → Type 0
 FirstStart p hay s e n = (s ≤ n) × (n ≤ e) × FirstReverse p (window hay s e) (window hay s n)
 
--- the forward door, asked with the words ws about the window from s to e, answers for the pattern
-pub record AnswersForward (ts : Tokens) (ws hay : List ℕ) (s e : ℕ) : Type 0 where
+-- Asked with the words ws about the window from s to e, the forward door gave the outcome o: so it answers for some spans, as those of a pattern.
+pub record AnswersForward (spans : List ℕ → Type 0) (ws hay : List ℕ) (s e : ℕ) (o : Outcome) : Type 0 where
   pub words-sound : SoundWords ws
-  -- it finds some end exactly if a span of the pattern starts at s and ends in the window
-  pub finds : ((n : ℕ) × (forwardSays ws hay s e ≡ found n)) ↔ ((b : ℕ) × (b ≤ e) × SpanAt ts hay s b)
-  -- what it finds is the end of a span of the pattern
-  pub finds-span : (n : ℕ) → forwardSays ws hay s e ≡ found n → (n ≤ e) × SpanAt ts hay s n
+  -- it finds some end exactly if a span starts at s and ends in the window
+  pub finds : ((n : ℕ) × (o ≡ found n)) ↔ ((b : ℕ) × (b ≤ e) × SpanAt spans hay s b)
+  -- what it finds is the end of a span
+  pub finds-span : (n : ℕ) → o ≡ found n → (n ≤ e) × SpanAt spans hay s n
   -- and the end of the first choice, which it always finds
-  pub finds-first : (n : ℕ) → (forwardSays ws hay s e ≡ found n) ↔ FirstEnd (words-sound .program) hay s e n
-  -- it says no match exactly if no span of the pattern starts at s and ends in the window
-  pub misses : (forwardSays ws hay s e ≡ noMatch) ↔ ((b : ℕ) → b ≤ e → SpanAt ts hay s b → ⊥)
-  pub never-refuses : (k p : ℕ) → forwardSays ws hay s e ≡ refused k p → ⊥
+  pub finds-first : (n : ℕ) → (o ≡ found n) ↔ FirstEnd (words-sound .program) hay s e n
+  -- it says no match exactly if no span starts at s and ends in the window
+  pub misses : (o ≡ noMatch) ↔ ((b : ℕ) → b ≤ e → SpanAt spans hay s b → ⊥)
+  pub never-refuses : (k p : ℕ) → o ≡ refused k p → ⊥
 
 -- the reverse door likewise: the spans that end at e, and their starts
-pub record AnswersReverse (ts : Tokens) (ws hay : List ℕ) (s e : ℕ) : Type 0 where
+pub record AnswersReverse (spans : List ℕ → Type 0) (ws hay : List ℕ) (s e : ℕ) (o : Outcome) : Type 0 where
   pub words-sound : SoundWords ws
-  pub finds : ((n : ℕ) × (reverseSays ws hay s e ≡ found n)) ↔ ((a : ℕ) × (s ≤ a) × SpanAt ts hay a e)
-  pub finds-span : (n : ℕ) → reverseSays ws hay s e ≡ found n → (s ≤ n) × SpanAt ts hay n e
-  pub finds-first : (n : ℕ) → (reverseSays ws hay s e ≡ found n) ↔ FirstStart (words-sound .program) hay s e n
-  pub misses : (reverseSays ws hay s e ≡ noMatch) ↔ ((a : ℕ) → s ≤ a → SpanAt ts hay a e → ⊥)
-  pub never-refuses : (k p : ℕ) → reverseSays ws hay s e ≡ refused k p → ⊥
+  pub finds : ((n : ℕ) × (o ≡ found n)) ↔ ((a : ℕ) × (s ≤ a) × SpanAt spans hay a e)
+  pub finds-span : (n : ℕ) → o ≡ found n → (s ≤ n) × SpanAt spans hay n e
+  pub finds-first : (n : ℕ) → (o ≡ found n) ↔ FirstStart (words-sound .program) hay s e n
+  pub misses : (o ≡ noMatch) ↔ ((a : ℕ) → s ≤ a → SpanAt spans hay a e → ⊥)
+  pub never-refuses : (k p : ℕ) → o ≡ refused k p → ⊥
+
+-- Whatever the doors of the checks answer to the words ws about a window inside its haystack, they answer for some spans.
+abbrev pub ForwardDoor : (List ℕ → Type 0) → List ℕ → Type 0
+ForwardDoor spans ws = (hay : List ℕ) (s e : ℕ) (r : Answer) → s ≤ e → e ≤ length hay → Answered (forwardSays ws hay s e) hay r → AnswersForward spans ws hay s e (said r)
+
+abbrev pub ReverseDoor : (List ℕ → Type 0) → List ℕ → Type 0
+ReverseDoor spans ws = (hay : List ℕ) (s e : ℕ) (r : Answer) → s ≤ e → e ≤ length hay → Answered (reverseSays ws hay s e) hay r → AnswersReverse spans ws hay s e (said r)

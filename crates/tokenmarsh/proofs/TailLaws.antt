@@ -1,4 +1,4 @@
--- The part that tm_tail names holds what the second forward door hands back. Assumes nothing.
+-- The part that tm_tail names is the one that the second forward door hands back. Assumes nothing.
 use mathlib.Core.Path.{_≡_, refl, sym, ap, _∙_}
 use mathlib.Core.Option.{Option, none, some}
 use mathlib.Core.List.{List}
@@ -7,7 +7,7 @@ use native.Mathlib.Omega.{arith}
 use lib.ListN.{length}
 use Rattle.meaning.specs.Rows.{forward}
 use Rattle.meaning.specs.Words.{prog}
-use Rattle.checkdoors.specs.Doors.{Outcome, found, noMatch, refused, window, refusal, unless, endAt, forwardSays, leftSays}
+use Rattle.checkdoors.specs.Doors.{Outcome, found, noMatch, refused, window, refusal, unless, endAt, forwardSays, leftSays, leftFrom, leftAt}
 use Rattle.checkdoors.proofs.DoorLaws.{fine, forward-refused, left-refused}
 use Rattle.checkdoors.proofs.Theorems.{left-tail, left-nothing}
 use Rattle.tokenmarsh.specs.Results.{tailTold, bytesOf}
@@ -44,3 +44,13 @@ module _ (ws hay : List ℕ) (s e : ℕ) where
 
   pub tail-is-left : bytesOf (tailTold e (forwardSays ws hay s e)) hay ≡ leftSays ws hay s e
   tail-is-left = either (refusal ws (length hay) s e) refl
+
+-- and it begins where that part lies
+begins : (e : ℕ) (o : Outcome) → tailTold e o .offset ≡ leftFrom o
+begins e (found n) = refl
+begins e noMatch = refl
+begins e (refused n place) = refl
+
+pub tail-begins : (ws hay : List ℕ) (s e : ℕ) → tailTold e (forwardSays ws hay s e) .offset ≡ leftAt ws hay s e
+unfolding leftAt
+tail-begins ws hay s e = begins e (forwardSays ws hay s e)

@@ -6,6 +6,7 @@ use mirror::MirrorAnswer;
 use readdoor::ReadAnswer;
 ghost use mathlib.Core.Path.{_≡_};
 ghost use mathlib.Core.Bool.{cond};
+ghost use Rattle.meaning.specs.Values.{Bytes};
 ghost use Rattle.meaning.specs.Words.{sound};
 ghost use Rattle.mirror.specs.MirrorDoor.{mirrorSays, mirrorLeaves};
 ghost use Rattle.compiledoor.specs.Door.{compileSays, forwardLeaves, reverseLeaves};
@@ -172,7 +173,7 @@ pub extern "C" fn tm_forward(
     start: usize,
     end: usize,
 ) -> CheckResult
-    ensures { λ r. ⌜ r ≡ checkTold (forwardSays (now (program .entry)) (now (haystack .entry)) start end) ⌝ }
+    ensures { λ r. ⌜ (r ≡ checkTold (forwardSays (now (program .entry)) (now (haystack .entry)) start end)) × Bytes (now (haystack .entry)) ⌝ }
 {
     told(checkdoors::forward(program, haystack, start, end))
 }
@@ -184,7 +185,7 @@ pub extern "C" fn tm_reverse(
     start: usize,
     end: usize,
 ) -> CheckResult
-    ensures { λ r. ⌜ r ≡ checkTold (reverseSays (now (program .entry)) (now (haystack .entry)) start end) ⌝ }
+    ensures { λ r. ⌜ (r ≡ checkTold (reverseSays (now (program .entry)) (now (haystack .entry)) start end)) × Bytes (now (haystack .entry)) ⌝ }
 {
     told(checkdoors::reverse(program, haystack, start, end))
 }

@@ -1,5 +1,6 @@
 -- `checkdoors::left_forward` meets its contract. Assumes nothing.
 use mathlib.Core.Path.{sym, ap, _∙_}
+use native.Mathlib.Omega.{arith}
 use lib.ListN.{length}
 use Rattle.checkdoors.specs.Doors.{whyNot}
 use Rattle.checkdoors.proofs.DoorLaws as law
@@ -28,7 +29,8 @@ returns c =
     let H = c .before .before .before .before .before .before .args .hay .now in
     let S = c .before .before .before .before .before .before .args .start in
     let E = c .before .before .before .before .before .before .args .end in
-    law.left-refused W H S E _ (sym (ap whyNot (c .before .enum-told .given .1)) ∙ c .before .before .before .admit .ensures)
+    let why = sym (ap whyNot (c .before .enum-told .given .1)) ∙ c .before .before .before .admit .ensures in
+    record { left = law.left-refused W H S E _ why; lies = law.lies-on _ _ _ _ (let n = law.left-at-refused W H S E _ why in omega arith) }
 
 enum-told-2 : tie.Need-enum-told-2
 enum-told-2 c = search needs
@@ -95,7 +97,8 @@ returns-2 c =
     let S = c .before .before .before .before .before .before .before .before .before .before .args .start in
     let E = c .before .before .before .before .before .before .before .before .before .before .args .end in
     let ok = sym (ap whyNot (c .before .before .before .before .before .enum-told2 .given .1)) ∙ c .before .before .before .before .before .before .before .admit .ensures in
-    law.left-none W H S E ok (sym (c .before .enum-told3 .given .1) ∙ c .before .before .before .check .ensures)
+    let got = sym (c .before .enum-told3 .given .1) ∙ c .before .before .before .check .ensures in
+    record { left = law.left-none W H S E ok got; lies = law.lies-on _ _ _ _ (let n = law.left-at-none W H S E ok got in omega arith) }
 
 sub-used : tie.Need-sub-used
 sub-used c =
@@ -124,7 +127,7 @@ returns-3 c =
     let E = c .before .before .before .before .before .before .before .before .before .before .before .args .end in
     let ok = sym (ap whyNot (c .before .before .before .before .before .before .enum-told2 .given .1)) ∙ c .before .before .before .before .before .before .before .before .admit .ensures in
     let got = sym (c .before .before .left .given .1) ∙ c .before .before .before .before .check .ensures in
-    law.left-found W H S E ok _ got
+    record { left = law.left-found W H S E ok _ got; lies = law.lies-on _ _ _ _ (let n = law.left-at-found W H S E ok _ got in omega arith) }
 
 pub left-forward-spec : {M : Type 1} → statement M
 left-forward-spec =

@@ -20,7 +20,7 @@ returns c =
     let H = c .before .before .before .before .before .before .args .hay .now in
     let S = c .before .before .before .before .before .before .args .start in
     let E = c .before .before .before .before .before .before .args .end in
-    law.reverse-refused W H S E _ (sym (ap whyNot (c .before .test .given .1)) ∙ c .before .before .before .admit .ensures)
+    record { says = law.reverse-refused W H S E _ (sym (ap whyNot (c .before .test .given .1)) ∙ c .before .before .before .admit .ensures); bytes = law.all-bytes H (c .before .before .before .before .shared-slice-known2 .given) }
 
 enum-told : tie.Need-enum-told
 enum-told c = search needs
@@ -78,7 +78,7 @@ returns-2 c =
     let S = c .before .before .before .before .before .before .before .before .before .args .start in
     let E = c .before .before .before .before .before .before .before .before .before .args .end in
     let ok = sym (ap whyNot (c .before .before .before .before .enum-told .given .1)) ∙ c .before .before .before .before .before .before .admit .ensures in
-    law.reverse-none W H S E ok (sym (c .enum-told2 .given .1) ∙ c .before .before .check .ensures)
+    record { says = law.reverse-none W H S E ok (sym (c .enum-told2 .given .1) ∙ c .before .before .check .ensures); bytes = law.all-bytes H (c .before .before .before .before .before .before .before .shared-slice-known2 .given) }
 
 add-at : tie.Need-add-at
 add-at c =
@@ -98,7 +98,7 @@ returns-3 c =
     let E = c .before .before .before .before .before .before .before .before .before .before .args .end in
     let ok = sym (ap whyNot (c .before .before .before .before .before .enum-told .given .1)) ∙ c .before .before .before .before .before .before .before .admit .ensures in
     let got = sym (c .before .left .given .1) ∙ c .before .before .before .check .ensures in
-    law.reverse-found W H S E ok _ got
+    record { says = law.reverse-found W H S E ok _ got; bytes = law.all-bytes H (c .before .before .before .before .before .before .before .before .shared-slice-known2 .given) }
 
 pub reverse-spec : {M : Type 1} → statement M
 reverse-spec =
