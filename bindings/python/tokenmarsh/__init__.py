@@ -164,7 +164,7 @@ _MirrorResult = _result(("refusal", _u32), ("words", _u64))
 
 def _load():
     here = os.path.dirname(os.path.abspath(__file__))
-    built = os.path.join(here, "..", "..", "target", "staticlib", "libtokenmarsh.so")
+    built = os.path.join(here, "..", "..", "..", "target", "staticlib", "libtokenmarsh.so")
     named = os.environ.get("TOKENMARSH_SO")
     try:
         lib = ctypes.CDLL(named if named else built if os.path.exists(built) else "libtokenmarsh.so.0")
