@@ -3,6 +3,7 @@
 //!     cargo run --example list '{ 4D 5A [0-64] 50 45 }' FILE
 
 use std::ffi::OsString;
+use std::os::unix::ffi::OsStrExt;
 use std::path::Path;
 use std::{env, fs, process::ExitCode};
 
@@ -10,11 +11,14 @@ use tokenmarsh::Pattern;
 
 fn main() -> ExitCode {
     let args: Vec<OsString> = env::args_os().collect();
-    let [_, text, file] = args.as_slice() else {
-        eprintln!("usage: list PATTERN FILE");
-        return ExitCode::from(2);
+    let (text, file) = match args.as_slice() {
+        [_, text, file] => (text, file),
+        _ => {
+            eprintln!("usage: list PATTERN FILE");
+            return ExitCode::from(2);
+        }
     };
-    let pattern = match Pattern::compile(text.as_encoded_bytes()) {
+    let pattern = match Pattern::compile(text.as_bytes()) {
         Ok(pattern) => pattern,
         Err(refused) => {
             eprintln!("{refused}");
