@@ -1,4 +1,4 @@
-"""The package as a project: its hints and its version."""
+"""The package as a project: its hints, its version, and what it says where the library is not to be had."""
 import importlib.util
 import inspect
 import os
@@ -9,6 +9,7 @@ import tempfile
 import typing
 import unittest
 
+import _ctypes
 import tokenmarsh
 
 HERE = os.path.dirname(os.path.abspath(__file__))
@@ -53,6 +54,25 @@ class Package(unittest.TestCase):
     def test_one_version(self):
         self.assertEqual(tokenmarsh.__version__, found("Makefile", r"^VERSION = (.*)$"))
         self.assertEqual(tokenmarsh.__version__, found("bindings/rust/Cargo.toml", r'^version = "(.*)"$'))
+
+    def imported(self, path, cwd=HERE):
+        env = dict(os.environ, TOKENMARSH_SO=path, PYTHONPATH=HERE)
+        done = subprocess.run([sys.executable, "-c", "import tokenmarsh; print(tokenmarsh._lib._name)"], cwd=cwd, env=env, capture_output=True, text=True)
+        return done.returncode, (done.stdout or done.stderr).rstrip().split("\n")[-1]
+
+    def test_a_wrong_library_is_an_import_error_that_names_the_file(self):
+        with tempfile.TemporaryDirectory() as folder:
+            text = os.path.join(folder, "a text.so")
+            with open(text, "w", encoding="utf-8") as f:
+                f.write("no library\n" * 100)
+            # none there, none at all, a folder, and a library, but another one
+            for path in (os.path.join(folder, "none"), text, folder, _ctypes.__file__):
+                status, said = self.imported(path)
+                self.assertEqual((status, said.split(",")[0]), (1, f"ImportError: no tokenmarsh library in {path}"))
+
+    def test_the_library_may_be_named_from_here(self):
+        built = os.path.join(TOP, "target", "staticlib")
+        self.assertEqual(self.imported("libtokenmarsh.so", built), (0, os.path.join(built, "libtokenmarsh.so")))
 
 
 if __name__ == "__main__":

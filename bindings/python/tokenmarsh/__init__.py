@@ -171,13 +171,21 @@ _MirrorResult = _result(("refusal", _u32), ("words", _u64))
 
 
 def _load() -> ctypes.CDLL:
-    here = os.path.dirname(os.path.abspath(__file__))
-    built = os.path.join(here, "..", "..", "..", "target", "staticlib", "libtokenmarsh.so")
     named = os.environ.get("TOKENMARSH_SO")
+    # The repository's own build, or PREFIX/lib as `make install` lays it out, three folders above this one; else where the system looks.
+    above = os.path.abspath(os.path.join(os.path.dirname(__file__), "..", "..", ".."))
+    near = [os.path.join(above, "target", "staticlib", "libtokenmarsh.so"), os.path.join(above, "libtokenmarsh.so.0")]
+    # A name without a folder is a file here, and not one where the system looks.
+    path = os.path.abspath(named) if named else next(filter(os.path.exists, near), "libtokenmarsh.so.0")
     try:
-        lib = ctypes.CDLL(named if named else built if os.path.exists(built) else "libtokenmarsh.so.0")
-    except OSError as error:
-        raise ImportError(f"no libtokenmarsh.so: run make, or name it by TOKENMARSH_SO ({error})") from error
+        return _declared(ctypes.CDLL(path))
+    except (OSError, AttributeError) as error:
+        why = "which TOKENMARSH_SO names" if named else "run make, or name the file by TOKENMARSH_SO"
+        raise ImportError(f"no tokenmarsh library in {path}, {why}: {error}", name=__name__, path=path) from error
+
+
+def _declared(lib: ctypes.CDLL) -> ctypes.CDLL:
+    """The library, its functions declared. An AttributeError if it lacks one, and so is another library."""
     text = [ctypes.c_char_p, _size]
     words = [ctypes.POINTER(_u32), _size]
     window = words + [ctypes.c_char_p, _size, _size, _size]
