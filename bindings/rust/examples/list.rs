@@ -5,6 +5,7 @@
 use std::ffi::OsString;
 use std::fmt::Display;
 use std::io::{self, BufWriter, ErrorKind, Write};
+use std::os::unix::ffi::OsStrExt;
 use std::path::Path;
 use std::{env, fs, process::ExitCode};
 
@@ -29,10 +30,11 @@ fn list(pattern: &Pattern, bytes: &[u8]) -> io::Result<()> {
 
 fn main() -> ExitCode {
     let args: Vec<OsString> = env::args_os().collect();
-    let [_, text, file] = args.as_slice() else {
-        return fail(2, "usage: list PATTERN FILE");
+    let (text, file) = match args.as_slice() {
+        [_, text, file] => (text, file),
+        _ => return fail(2, "usage: list PATTERN FILE"),
     };
-    let pattern = match Pattern::compile(text.as_encoded_bytes()) {
+    let pattern = match Pattern::compile(text.as_bytes()) {
         Ok(pattern) => pattern,
         Err(refused) => return fail(1, refused),
     };

@@ -54,7 +54,7 @@ pub struct MirrorResult {
     pub words: u64,
 }
 
-unsafe extern "C" {
+extern "C" {
     pub fn tm_version() -> u32;
     pub fn tm_read(text: *const u8, text_len: usize, pool: *mut u32, pool_len: usize) -> ReadResult;
     pub fn tm_compile(
