@@ -43,6 +43,16 @@
 extern "C" {
 #endif
 
+/* The version that this header describes, and in one number. The structs change between versions. */
+#define TM_VERSION_MAJOR 0
+#define TM_VERSION_MINOR 2
+#define TM_VERSION_PATCH 0
+#define TM_VERSION (TM_VERSION_MAJOR * 65536u + TM_VERSION_MINOR * 256u + TM_VERSION_PATCH)
+
+/* The version of the library. A program that was compiled with one header and is linked or loaded with a library for which
+ * tm_version() != TM_VERSION must not go on: it would misread the structs that the other functions answer. */
+uint32_t tm_version(void);
+
 /* The longest text, and the words that each kind of pool must have. */
 #define TM_TEXT_LIMIT 4096
 #define TM_TOKEN_POOL 4096
@@ -66,7 +76,7 @@ typedef struct {
  *                     0 for ?X, 1 for X?, 2 for ??    6  list mark      the list's direct tokens, the entries within it
  * [n] is [n-n], and a missing from is 0; [1] and [1-1] are entered as ??. A list mark begins each list within alternatives, and is no token; the
  * outer list has none.
- * Anything after the closing brace and its blanks is ignored.
+ * Anything after the closing brace and its blanks is ignored: it begins at `reached`, which is text_len if nothing follows.
  * Refused: 18 if pool_len is below 4,096, and then nothing changes; else 1 to 11, and then the first 4,096 words are 0.
  * Success: the used words, 0 in the rest of the first 4,096. Words beyond those stay. */
 tm_read_result tm_read(const uint8_t *text, size_t text_len, uint32_t *pool, size_t pool_len);
@@ -74,6 +84,7 @@ tm_read_result tm_read(const uint8_t *text, size_t text_len, uint32_t *pool, siz
 typedef struct {
     uint32_t refusal;
     uint64_t place;
+    uint64_t reached; /* the offset after the closing brace and its blanks */
     uint64_t forward; /* how many words each program has */
     uint64_t reverse;
 } tm_compile_result;
@@ -85,19 +96,22 @@ typedef struct {
  *    2  not a mask     first: value, second: mask    6  alternation    first + 256 * second: so many words follow, which are branches
  *    3  jump           first: so many of any bytes   7  branch         first: so many words follow that are in it
  * A mask fits the bytes whose bits under the mask equal the value, its negation all others.
+ * Anything after the closing brace and its blanks is ignored: it begins at `reached`, which is text_len if nothing follows.
  * Refused: 18 if either pool is below 512 words, and then nothing changes; else 1 to 11, 12, 14, 13, and then the first 512 words of
  * both pools are 0. Success: the used words, 0 in the rest of the first 512. Words beyond those stay. */
 tm_compile_result tm_compile(const uint8_t *text, size_t text_len, uint32_t *forward, size_t forward_len, uint32_t *reverse, size_t reverse_len);
 
 typedef struct {
     uint32_t refusal;
-    uint32_t rank;  /* how good the literals are for a search, 0 to 80 */
+    uint32_t rank; /* how good the literals are for a search, 0 to 80 */
     uint64_t place;
-    uint64_t count; /* how many literals; none may be picked, and then the rank is 0 */
+    uint64_t reached; /* the offset after the closing brace and its blanks */
+    uint64_t count;   /* how many literals; none may be picked, and then the rank is 0 */
 } tm_literals_result;
 
 /* Picks the literals to search for: if there are any, every match of the pattern holds one of them. `bytes` gets their bytes, one literal after
  * another, and `lengths` the length of each.
+ * Anything after the closing brace and its blanks is ignored: it begins at `reached`, which is text_len if nothing follows.
  * Refused: 1 to 11; then 19, 17; then 18 if either buffer is too short for all of them; and then nothing is written to either.
  * Success: the first `count` lengths, and as many bytes as they sum up to, are written. The rest of both buffers stays. */
 tm_literals_result tm_literals(const uint8_t *text, size_t text_len, uint8_t *bytes, size_t bytes_len, uint16_t *lengths, size_t lengths_len);

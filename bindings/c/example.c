@@ -2,6 +2,7 @@
  *
  *     cc example.c $(pkg-config --cflags --libs tokenmarsh) -o example && ./example '{ 61 [0-2] 63 }' < FILE
  */
+#include <errno.h>
 #include <stdio.h>
 #include <stdlib.h>
 #include <string.h>
@@ -28,12 +29,38 @@ static uint8_t *whole(size_t *n)
     return bytes;
 }
 
+/* A line for each match, all of them written: 0, or -1 and errno says why. */
+static int list(const uint32_t *forward, size_t nodes, const uint8_t *bytes, size_t n)
+{
+    for (size_t start = 0; start < n; start++) {
+        tm_check_result r = tm_forward(forward, nodes, bytes, n, start, n);
+        if (r.found && printf("%zu %llu\n", start, (unsigned long long)r.offset) < 0)
+            return -1;
+    }
+    /* What is still in the buffer is lost only now, and some devices tell of a loss only at the end. */
+    return fclose(stdout) == 0 ? 0 : -1;
+}
+
+/* The status for matches that are lost. A reader that goes away has had enough, and is told nothing: there the signal SIGPIPE ends a program,
+ * of which a shell says 141; where that signal is ignored, the same is said here. */
+static int lost(void)
+{
+    if (errno == EPIPE)
+        return 141;
+    perror("standard output cannot be written");
+    return 1;
+}
+
 int main(int argc, char **argv)
 {
     static uint32_t forward[TM_NODE_POOL], reverse[TM_NODE_POOL];
 
     if (argc != 2) {
         fprintf(stderr, "usage: example PATTERN < FILE\n");
+        return 2;
+    }
+    if (tm_version() != TM_VERSION) {
+        fprintf(stderr, "libtokenmarsh is of another version than tokenmarsh.h\n");
         return 2;
     }
     tm_compile_result c = tm_compile((const uint8_t *)argv[1], strlen(argv[1]), forward, TM_NODE_POOL, reverse, TM_NODE_POOL);
@@ -47,11 +74,7 @@ int main(int argc, char **argv)
         fprintf(stderr, "standard input cannot be read\n");
         return 1;
     }
-    for (size_t start = 0; start < n; start++) {
-        tm_check_result r = tm_forward(forward, c.forward, bytes, n, start, n);
-        if (r.found)
-            printf("%zu %llu\n", start, (unsigned long long)r.offset);
-    }
+    int status = list(forward, c.forward, bytes, n) == 0 ? 0 : lost();
     free(bytes);
-    return 0;
+    return status;
 }

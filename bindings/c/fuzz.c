@@ -1,6 +1,6 @@
-/* Calls every door with buffers between guards: of every length from none to one past its need, and of lengths around it on random and damaged
- * inputs. Nothing outside a lent buffer may change, and every answer must be one that the header names. Prints the count of calls by answer;
- * exits 1 at the first fault.
+/* Calls every door for answers that are known in full, and then with buffers between guards: of every length from none to one past its need, and of
+ * lengths around it on random and damaged inputs. Nothing outside a lent buffer may change, and every answer must be one that the header names.
+ * Prints the count of calls by answer; exits 1 at the first fault.
  *
  *     fuzz SEED ROUNDS
  */
@@ -140,6 +140,13 @@ static size_t around(size_t need)
     }
 }
 
+/* Where the reading of a text ends. */
+static uint64_t read_to(const uint8_t *t, size_t n)
+{
+    static uint32_t pool[TM_TOKEN_POOL];
+    return tm_read(t, n, pool, TM_TOKEN_POOL).reached;
+}
+
 /* Into a pool of so many words. */
 static void reading(const uint8_t *t, size_t n, size_t lent)
 {
@@ -153,7 +160,7 @@ static void reading(const uint8_t *t, size_t n, size_t lent)
     else {
         zero(pool, 4 * r.words, 4 * TM_TOKEN_POOL, "tm_read: words not zeroed");
         same(pool, 4 * TM_TOKEN_POOL, "tm_read: words beyond changed");
-        if (r.refusal == 0 && (r.words > 4092 || r.reached > n))
+        if (r.refusal == 0 && (r.words > 4092 || r.reached == 0 || r.reached > n))
             fault("tm_read: bounds");
     }
     if (r.refusal == 0 || r.refusal == 18 ? r.place != 0 : r.place > n)
@@ -187,6 +194,8 @@ static void compiling(const uint8_t *t, size_t n, size_t forward, size_t reverse
     }
     if (r.refusal == 0 || r.refusal > 11 ? r.place != 0 : r.place > n)
         fault("tm_compile: place");
+    if (r.refusal == 0 ? r.reached == 0 || r.reached > n || r.reached != read_to(t, n) : r.reached != 0)
+        fault("tm_compile: reached");
     if (r.refusal != 0 && (r.forward != 0 || r.reverse != 0))
         fault("tm_compile: a refusal has no words");
     back(f, "tm_compile: guard");
@@ -210,6 +219,8 @@ static uint32_t picking(const uint8_t *t, size_t n, size_t room, size_t count, s
         fault("tm_literals: bounds");
     if (r.refusal == 0 || r.refusal > 11 ? r.place != 0 : r.place > n)
         fault("tm_literals: place");
+    if (r.refusal == 0 ? r.reached == 0 || r.reached > n || r.reached != read_to(t, n) : r.reached != 0)
+        fault("tm_literals: reached");
     if (r.refusal != 0 && (r.rank != 0 || r.count != 0))
         fault("tm_literals: a refusal has no count");
     back(bytes, "tm_literals: guard");
@@ -284,8 +295,8 @@ static void mirroring(const uint32_t *program, size_t words, size_t lent)
     back(pool, "tm_mirror: guard");
 }
 
-/* Texts that compile, that read, that are refused at once and late, and that are too long. */
-static const char *const texts[] = {"{ 41 [0-2] ( 42 | 43 44 ) }", "{ 41 [2-] 42 }", "{ 01 02 ?3 04 }", "{ ( 41 | ?? ) }", "{ ?? }", "x", "{ 41 42 [0] 43 }", NULL};
+/* Texts that compile, that read, that end before the last brace, that are refused at once and late, and that are too long. */
+static const char *const texts[] = {"{ 41 [0-2] ( 42 | 43 44 ) }", "{ 41 [2-] 42 }", "{ 01 02 ?3 04 }", "{ ( 41 | ?? ) }", "{ ?? }", "{ 4D 5A } 90 00 }", "x", "{ 41 42 [0] 43 }", NULL};
 
 static void every_length(void)
 {
@@ -341,6 +352,80 @@ static void nulls(void)
         fault("tm_mirror, tm_sound: null");
 }
 
+/* The pool holds the words due, and 0 after them. */
+static void holds(const uint32_t *pool, size_t pool_len, const uint32_t *due, size_t words, const char *door)
+{
+    for (size_t i = 0; i < pool_len; i++)
+        if (pool[i] != (i < words ? due[i] : 0))
+            fault(door);
+}
+
+/* Answers that are known in full. The library is proved by the names of its fields and parameters, and would be proved as well with two of them in
+ * each other's place (bindings/c/swaps tries them all): so no number here could pass for another of its answer or call, nor a buffer for another.
+ * Only the two counts of tm_compile are equal, and they are for every text. */
+static void known(void)
+{
+    static const char tokens[] = "{ AB ~?c [4-] ( 01 | 2? [1] ) 03 } zz", nodes[] = "{ 41 [0-2] ( 42 | 43 44 ) }", picks[] = "{ 01 02 ?3 04 }", empty[] = "{ AB [0] CD }";
+    static const uint32_t entries[] = {0, 0xAB, 0, 0, 3, 0xC, 0, 0, 4, 4, 0, 0, 5, 2, 5, 0, 6, 1, 1, 0, 0, 1, 0, 0, 6, 2, 2, 0, 2, 2, 1, 0, 2, 0, 2, 0, 0, 3, 0, 0};
+    static const uint32_t ahead[] = {0x4100, 0x20004, 0x506, 0x107, 0x4200, 0x207, 0x4300, 0x4400}, behind[] = {0x506, 0x107, 0x4200, 0x207, 0x4400, 0x4300, 0x20004, 0x4100};
+    static const uint32_t branch = 7, gap[] = {0x6100, 0x20004, 0x6300}, gap_behind[] = {0x6300, 0x20004, 0x6100};
+    static const uint8_t hay[] = {'x', 'x', 'a', 'b', 'c', 'x', 'a', 'c', 'y', 'y'};
+    static uint32_t pool[TM_TOKEN_POOL], other[TM_NODE_POOL + 1];
+    static uint8_t bytes[TM_LITERAL_BYTES];
+    static uint16_t lengths[TM_LITERALS];
+
+    tm_read_result r = tm_read((const uint8_t *)tokens, sizeof tokens - 1, pool, TM_TOKEN_POOL);
+    if (r.refusal != 0 || r.place != 0 || r.reached != 35 || r.words != 40)
+        fault("tm_read: a known answer");
+    holds(pool, TM_TOKEN_POOL, entries, 40, "tm_read: known words");
+    r = tm_read((const uint8_t *)empty, sizeof empty - 1, pool, TM_TOKEN_POOL);
+    if (r.refusal != 4 || r.place != 5 || r.reached != 0 || r.words != 0)
+        fault("tm_read: a known refusal");
+
+    tm_compile_result c = tm_compile((const uint8_t *)nodes, sizeof nodes - 1, pool, TM_NODE_POOL, other, TM_NODE_POOL + 1);
+    if (c.refusal != 0 || c.place != 0 || c.reached != 27 || c.forward != 8 || c.reverse != 8)
+        fault("tm_compile: a known answer");
+    holds(pool, TM_NODE_POOL, ahead, 8, "tm_compile: known forward words");
+    holds(other, TM_NODE_POOL, behind, 8, "tm_compile: known reverse words");
+    c = tm_compile((const uint8_t *)empty, sizeof empty - 1, pool, TM_NODE_POOL, other, TM_NODE_POOL + 1);
+    if (c.refusal != 4 || c.place != 5 || c.reached != 0 || c.forward != 0 || c.reverse != 0)
+        fault("tm_compile: a known refusal");
+
+    tm_literals_result l = tm_literals((const uint8_t *)picks, sizeof picks - 1, bytes, TM_LITERAL_BYTES, lengths, TM_LITERALS);
+    if (l.refusal != 0 || l.rank != 70 || l.place != 0 || l.reached != 15 || l.count != 16)
+        fault("tm_literals: a known answer");
+    for (size_t i = 0; i < 16; i++) {
+        const uint8_t due[] = {0x01, 0x02, (uint8_t)(16 * i + 3), 0x04};
+        if (lengths[i] != sizeof due || memcmp(bytes + 4 * i, due, sizeof due) != 0)
+            fault("tm_literals: known literals");
+    }
+    l = tm_literals((const uint8_t *)empty, sizeof empty - 1, bytes, TM_LITERAL_BYTES, lengths, TM_LITERALS);
+    if (l.refusal != 4 || l.rank != 0 || l.place != 5 || l.reached != 0 || l.count != 0)
+        fault("tm_literals: a known refusal");
+
+    tm_check_result f = tm_forward(gap, 3, hay, sizeof hay, 2, 8), b = tm_reverse(gap_behind, 3, hay, sizeof hay, 2, 8);
+    if (f.refusal != 0 || f.found != 1 || f.offset != 5)
+        fault("tm_forward: a known answer");
+    if (b.refusal != 0 || b.found != 1 || b.offset != 6)
+        fault("tm_reverse: a known answer");
+    f = tm_forward(gap, 3, hay, sizeof hay, 8, 2), b = tm_reverse(gap_behind, 3, hay, sizeof hay, 8, 2);
+    if (f.refusal != 16 || f.found != 0 || f.offset != 0 || b.refusal != 16 || b.found != 0 || b.offset != 0)
+        fault("tm_forward, tm_reverse: a known refusal");
+    tm_tail_result tail = tm_tail(gap, 3, hay, sizeof hay, 2, 8);
+    if (tail.offset != 5 || tail.length != 3)
+        fault("tm_tail: a known answer");
+
+    tm_mirror_result m = tm_mirror(ahead, 8, pool, TM_NODE_POOL);
+    if (m.refusal != 0 || m.words != 8)
+        fault("tm_mirror: a known answer");
+    holds(pool, TM_NODE_POOL, behind, 8, "tm_mirror: known words");
+    m = tm_mirror(&branch, 1, pool, TM_NODE_POOL);
+    if (m.refusal != 15 || m.words != 0)
+        fault("tm_mirror: a known refusal");
+    if (tm_sound(ahead, 8) != 1 || tm_sound(&branch, 1) != 0)
+        fault("tm_sound: a known answer");
+}
+
 int main(int argc, char **argv)
 {
     static uint8_t t[8192];
@@ -348,7 +433,10 @@ int main(int argc, char **argv)
     size_t words = 0;
     unsigned long rounds = argc > 2 ? strtoul(argv[2], NULL, 10) : 10000;
 
+    if (tm_version() != TM_VERSION)
+        fault("tm_version");
     state = argc > 1 ? strtoull(argv[1], NULL, 10) * 2 + 1 : 1;
+    known();
     nulls();
     every_length();
     for (unsigned long i = 0; i < rounds; i++) {
@@ -366,7 +454,7 @@ int main(int argc, char **argv)
         somewhere(spoilt, below(50) ? words : 600);
         mirroring(spoilt, below(50) ? words : 600, around(TM_NODE_POOL));
     }
-    printf("every length, and %lu rounds; calls by answer:", rounds);
+    printf("known answers, every length, and %lu rounds; calls by answer:", rounds);
     for (int k = 0; k < 20; k++)
         if (answers[k])
             printf(" %d: %" PRIu64, k, answers[k]);

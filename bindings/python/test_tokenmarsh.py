@@ -1,7 +1,9 @@
-"""The doors from Python: `python3 -m unittest` in this folder."""
+"""The doors from Python: `python3 -m unittest` in this folder, after `make test` laid down the table of the header's layout."""
 import array
 import copy
+import ctypes
 import doctest
+import os
 import pickle
 import random
 import unittest
@@ -91,6 +93,8 @@ class Doors(unittest.TestCase):
         self.assertEqual(friend.reverse.start(b"ba"), 1)
         self.assertEqual(friend.forward.mirror().start(b"ba"), 1)
         self.assertEqual(bytes(tokenmarsh.compile(b"{ 61 }").forward.tail(b"abc")), b"bc")
+        # where the tail starts is not the count of words
+        self.assertEqual(bytes(tokenmarsh.compile(b"{ 61 [0-2] 63 }").forward.tail(b"acde")), b"de")
 
     def test_windows(self):
         for check in (tokenmarsh.forward, tokenmarsh.reverse):
@@ -136,6 +140,9 @@ class Doors(unittest.TestCase):
         self.assertEqual((r.rank, len(r.literals), r.literals[0]), (70, 16, b"\x01\x02\x03\x04"))
         r = tokenmarsh.literals(b"{ ?1 (AA | BB CC) }")
         self.assertEqual((r.rank, len(r.literals), r.literals[16]), (30, 32, b"\x01\xBB\xCC"))
+        # more bytes than there can be literals
+        due = tuple(bytes((n, 0x41)) for n in range(200))
+        self.assertEqual(tokenmarsh.literals(b"{ (%s) }" % "|".join(one.hex() for one in due).encode()).literals, due)
         self.assertEqual(tokenmarsh.literals(b"{ ?? }"), ((), 0))
         self.refused(lambda: tokenmarsh.literals(b"{ (41|??) }"), Refusal.NOT_PLAIN)
         self.refused(lambda: tokenmarsh.literals(b"{ (" + b"41|" * 256 + b"41) }"), Refusal.TOO_MANY_LITERALS)
@@ -158,6 +165,21 @@ class Doors(unittest.TestCase):
 
     def test_examples(self):
         self.assertEqual(doctest.testmod(tokenmarsh, verbose=False).failed, 0)
+
+    def test_fields_stand_where_the_header_has_them(self):
+        here = os.path.dirname(os.path.abspath(__file__))
+        try:
+            with open(os.path.join(here, "..", "..", "target", "bindings", "layout.txt"), encoding="utf-8") as f:
+                table = f.read().splitlines()
+        except FileNotFoundError:
+            self.fail("the table that bindings/c/layout.c prints is laid down by `make test`")
+        ours = []
+        for name in ("Read", "Compile", "Literals", "Check", "Tail", "Mirror"):
+            struct, c_name = getattr(tokenmarsh, f"_{name}Result"), f"tm_{name.lower()}_result"
+            ours.append(f"{c_name} {ctypes.sizeof(struct)}")
+            for field, _ in struct._fields_:
+                ours.append(f"{c_name} {field} {getattr(struct, field).offset} {getattr(struct, field).size}")
+        self.assertEqual(ours, table)
 
 
 if __name__ == "__main__":

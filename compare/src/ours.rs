@@ -75,6 +75,16 @@ mod doors {
         })
     }
 
+    /// Of a door that reads: its `reached` is where reading ends, and 0 beside a refusal.
+    #[cfg(tm_read)]
+    fn reading_ends(text: &[u8], refused: u32, reached: u64) {
+        let mut p = pool(4096);
+        // As above.
+        let r = unsafe { tm_read(text.as_ptr(), text.len(), p.as_mut_ptr(), p.len()) };
+        let due = if refused == 0 { r.reached } else { 0 };
+        assert_eq!(reached, due, "every door that reads tells how far");
+    }
+
     /// As the C function, with slices.
     #[cfg(tm_compile)]
     fn call_compile(text: &[u8], f: &mut [u32], r: &mut [u32]) -> raw::CompileResult {
@@ -90,6 +100,8 @@ mod doors {
         let forward = used(&f, 512, got.forward as usize);
         let reverse = used(&r, 512, got.reverse as usize);
         assert!(got.refusal == 0 || got.forward + got.reverse == 0, "a refusal uses no words");
+        #[cfg(tm_read)]
+        reading_ends(text, got.refusal, got.reached);
         Some(match got.refusal {
             0 => Ok(Compiled { forward, reverse }),
             n => refusal(n, got.place),
@@ -152,21 +164,22 @@ mod doors {
         })
     }
 
-    /// The answer, the place, the number of literals and their rank.
+    /// As the C function, with slices.
     #[cfg(tm_literals)]
-    fn call_literals(text: &[u8], b: &mut [u8], l: &mut [u16]) -> (u32, u64, usize, u32) {
+    fn call_literals(text: &[u8], b: &mut [u8], l: &mut [u16]) -> raw::LiteralsResult {
         let (nb, nl) = (b.len(), l.len());
         let (b, l) = (b.as_mut_ptr(), l.as_mut_ptr());
         // As above.
-        let r = unsafe { tm_literals(text.as_ptr(), text.len(), b, nb, l, nl) };
-        (r.refusal, r.place, r.count as usize, r.rank)
+        unsafe { tm_literals(text.as_ptr(), text.len(), b, nb, l, nl) }
     }
 
     #[cfg(tm_literals)]
     pub fn literals(text: &[u8]) -> Option<Answer<Picked>> {
         let (mut b, mut l) = (UNWRITTEN.to_vec(), vec![0xA5A5u16; 256 + MARGIN]);
-        let (number, place, count, rank) = call_literals(text, &mut b, &mut l);
-        let lengths = &l[..if number == 0 { count } else { 0 }];
+        let got = call_literals(text, &mut b, &mut l);
+        let lengths = &l[..if got.refusal == 0 { got.count as usize } else { 0 }];
+        #[cfg(tm_read)]
+        reading_ends(text, got.refusal, got.reached);
         let total: usize = lengths.iter().map(|n| usize::from(*n)).sum();
         assert!(b[total..] == UNWRITTEN[total..], "bytes that are not written must stay");
         assert!(l[lengths.len()..].iter().all(|x| *x == 0xA5A5), "other lengths must stay");
@@ -175,9 +188,9 @@ mod doors {
             at += usize::from(*n);
             b[at - usize::from(*n)..at].to_vec()
         });
-        Some(match number {
-            0 => Ok(Picked { rank, literals: cut.collect() }),
-            _ => refusal(number, place),
+        Some(match got.refusal {
+            0 => Ok(Picked { rank: got.rank, literals: cut.collect() }),
+            n => refusal(n, got.place),
         })
     }
 
@@ -260,19 +273,20 @@ mod doors {
         for (text, bytes, lengths) in texts {
             for (nb, nl) in [(bytes, lengths), (bytes - 1, lengths), (bytes, lengths - 1), (0, 0)] {
                 let (mut b, mut l) = (vec![0xA5u8; nb], vec![0xA5A5u16; nl]);
-                let (number, place, count, _) = call_literals(text, &mut b, &mut l);
+                let got = call_literals(text, &mut b, &mut l);
                 let what = format!("literals, {nb} bytes and {nl} lengths");
                 let same = b.iter().all(|x| *x == 0xA5) && l.iter().all(|x| *x == 0xA5A5);
                 if (nb, nl) != (bytes, lengths) {
-                    short(what, number, place, same, wrong);
-                } else if number != 0 || count != lengths {
+                    short(what, got.refusal, got.place, same, wrong);
+                } else if got.refusal != 0 || got.count as usize != lengths {
+                    let (number, count) = (got.refusal, got.count);
                     wrong.push(format!("{what}: answer {number}, {count} literals"));
                 }
             }
         }
         // Where another refusal is due, the room does not matter.
         for (text, due) in [(&b"{ (41|??) }"[..], 19), (&b"{ 4 }"[..], 2)] {
-            let number = call_literals(text, &mut [], &mut []).0;
+            let number = call_literals(text, &mut [], &mut []).refusal;
             if number != due {
                 wrong.push(format!("literals without room: answer {number}, due {due}"));
             }

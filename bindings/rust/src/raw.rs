@@ -17,6 +17,7 @@ pub struct ReadResult {
 pub struct CompileResult {
     pub refusal: u32,
     pub place: u64,
+    pub reached: u64,
     pub forward: u64,
     pub reverse: u64,
 }
@@ -27,6 +28,7 @@ pub struct LiteralsResult {
     pub refusal: u32,
     pub rank: u32,
     pub place: u64,
+    pub reached: u64,
     pub count: u64,
 }
 
@@ -52,7 +54,8 @@ pub struct MirrorResult {
     pub words: u64,
 }
 
-unsafe extern "C" {
+extern "C" {
+    pub fn tm_version() -> u32;
     pub fn tm_read(text: *const u8, text_len: usize, pool: *mut u32, pool_len: usize) -> ReadResult;
     pub fn tm_compile(
         text: *const u8,

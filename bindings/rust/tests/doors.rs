@@ -90,6 +90,8 @@ fn the_tail_is_the_callers_own() {
     let tail = pattern.forward.tail(window);
     assert_eq!(tail, b"de");
     assert!(window.as_ptr_range().contains(&tail.as_ptr()));
+    // Where it starts is not the count of words.
+    assert_eq!(pattern.forward.tail(b"acde"), b"de");
     assert_eq!(pattern.forward.tail(b"xyz"), b"");
 }
 
@@ -156,6 +158,10 @@ fn literals_are_those_of_the_samples() {
     assert_eq!((picked.rank, picked.literals.len()), (30, 32));
     assert!(picked.literals[..16].iter().all(|l| l.len() == 2 && l[1] == 0xAA));
     assert_eq!(literals(b"{ (AA|BB) }").unwrap().literals, [[0xAA], [0xBB]]);
+    // More bytes than there can be literals.
+    let branches: Vec<String> = (0..200).map(|n| format!("{n:02X} 41")).collect();
+    let picked = literals(format!("{{ ({}) }}", branches.join("|")).as_bytes()).unwrap();
+    assert_eq!(picked.literals, (0..200).map(|n| vec![n, 0x41]).collect::<Vec<_>>());
     // A match may hold nothing worth a search.
     assert_eq!(literals(b"{ ?? }").unwrap().literals, Vec::<Vec<u8>>::new());
 }

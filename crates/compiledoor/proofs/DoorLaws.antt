@@ -52,15 +52,15 @@ module _ (t p q : List ℕ) (r : ReadAnswer) (a : read.said r ≡ read.readSays 
   got-refused c y f = into.got-refused t p q r a b l c y f
 
 -- compiled
-made-text : (c : Compiled) (m : Made) (p p′ q q′ : List ℕ) → Makes c m p p′ q q′ → (madeSays m ≡ compiledSays c) × (p′ ≡ compiledForward c p) × (q′ ≡ compiledReverse c q)
+made-text : (e : ℕ) (c : Compiled) (m : Made) (p p′ q q′ : List ℕ) → Makes c m p p′ q q′ → (madeSays e m ≡ compiledSays e c) × (p′ ≡ compiledForward c p) × (q′ ≡ compiledReverse c q)
 unfolding compiledSays compiledForward compiledReverse
-made-text (compiled f r) m p p′ q q′ (e, x, y) = (ap madeSays e, x, y)
-made-text (refused z) m p p′ q q′ (e, x, y) = (ap madeSays e, x, y)
+made-text e (compiled f r) m p p′ q q′ (h, x, y) = (ap (madeSays e) h, x, y)
+made-text e (refused z) m p p′ q q′ (h, x, y) = (ap (madeSays e) h, x, y)
 
-pub text-compiled : (t : List ℕ) (e : ℕ) (ts : Tokens) (m : Made) (s : Said) (p p′ q q′ : List ℕ) → reading t ≡ accepted e ts → s ≡ madeSays m → Makes (compile ts) m p p′ q q′ → TextMakes (reading t) s p p′ q q′
+pub text-compiled : (t : List ℕ) (e : ℕ) (ts : Tokens) (m : Made) (s : Said) (p p′ q q′ : List ℕ) → reading t ≡ accepted e ts → s ≡ madeSays e m → Makes (compile ts) m p p′ q q′ → TextMakes (reading t) s p p′ q q′
 unfolding outcomeSays outcomeForward outcomeReverse
 text-compiled t e ts m s p p′ q q′ g f h =
-    let k = made-text (compile ts) m p p′ q q′ h in
+    let k = made-text e (compile ts) m p p′ q q′ h in
     rw g (f ∙ k .0, k .1, k .2)
 
 pub text-refused : (t : List ℕ) (c : Refusal) (y : ℕ) (p p′ q q′ : List ℕ) → reading t ≡ rejected c y → p′ ≡ cleared 512 p → q′ ≡ cleared 512 q → TextMakes (reading t) (refuses (numberOf c) y) p p′ q q′

@@ -37,9 +37,9 @@ module _ (t : List ℕ) (e : ℕ) (ts : Tokens) (f r : List ℕ) (read : reading
 
 -- an answer is known by what it says
 said-one : (a b : CompileAnswer) → said a ≡ said b → a ≡ b
-said-one (Compiled f r) (Compiled g s) h = let x : f ≡ g = cc in let y : r ≡ s = cc in ap₂ Compiled x y
-said-one (Compiled f r) (Refused c x) h = never (cc)
-said-one (Refused c x) (Compiled g s) h = never (cc)
+said-one (Compiled e f r) (Compiled d g s) h = cc
+said-one (Compiled e f r) (Refused c x) h = never (cc)
+said-one (Refused c x) (Compiled d g s) h = never (cc)
 said-one (Refused c x) (Refused d y) h = let a : numberOf c ≡ numberOf d = cc in let b : x ≡ y = cc in ap₂ Refused (number-one c d a) b
 
 -- the door's promise leaves one answer and one content of each pool

@@ -14,26 +14,27 @@ use Rattle.compiler.specs.declared.Made.the-variants as made
 use Rattle.compiledoor.specs.declared.CompileAnswer.{CompileAnswer}
 use Rattle.compiledoor.specs.declared.CompileAnswer.the-variants as answer
 
--- 01's values: the words of each program; or the refusal's number and its place
+-- 01's values: the offset reached and the words of each program; or the refusal's number and its place
 pub data Said : Type 0 where
-  gives : ℕ → ℕ → Said
+  gives : ℕ → ℕ → ℕ → Said
   refuses : ℕ → ℕ → Said
 
 abbrev pub said : CompileAnswer → Said
-said (answer.Compiled f r) = gives f r
+said (answer.Compiled reached f r) = gives reached f r
 said (answer.Refused x place) = refuses (numberOf x) place
 
-abbrev pub madeSays : Made → Said
-madeSays (made.Programs f r) = gives f r
-madeSays (made.Refused x) = refuses (numberOf x) 0
+-- of what was made of a text that was read up to the offset reached
+abbrev pub madeSays : ℕ → Made → Said
+madeSays reached (made.Programs f r) = gives reached f r
+madeSays reached (made.Refused x) = refuses (numberOf x) 0
 
 -- a text's refusals have their places; 12, 14 and 13 have place 0
-unfoldable pub compiledSays : Compiled → Said
-compiledSays (compiled f r) = gives (length f) (length r)
-compiledSays (refused x) = refuses (numberOf x) 0
+unfoldable pub compiledSays : ℕ → Compiled → Said
+compiledSays reached (compiled f r) = gives reached (length f) (length r)
+compiledSays reached (refused x) = refuses (numberOf x) 0
 
 unfoldable pub outcomeSays : Outcome → Said
-outcomeSays (accepted end ts) = compiledSays (compile ts)
+outcomeSays (accepted end ts) = compiledSays end (compile ts)
 outcomeSays (rejected x place) = refuses (numberOf x) place
 
 -- success writes the used words and zeroes the rest of the 512; a refusal zeroes them

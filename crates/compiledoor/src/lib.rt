@@ -11,18 +11,26 @@ ghost use lib.ListN.{length};
 ghost use Rattle.reading.specs.Lists.{reading};
 ghost use Rattle.compiledoor.specs.Door.{said, madeSays, TextMakes, compileSays, forwardLeaves, reverseLeaves};
 
-// The words of each program, or a refusal and its place.
+// The offset reached, as in reading, and the words of each program; or a refusal and its place.
 pub enum CompileAnswer {
-    Compiled(usize, usize),
+    Compiled {
+        reached: usize,
+        forward: usize,
+        reverse: usize,
+    },
     Refused(Refusal, usize),
 }
 
 // Tokens that read well are refused at place 0.
-fn answer_of(made: Made) -> CompileAnswer
-    ensures { λ r. ⌜ said r ≡ madeSays made ⌝ }
+fn answer_of(reached: usize, made: Made) -> CompileAnswer
+    ensures { λ r. ⌜ said r ≡ madeSays reached made ⌝ }
 {
     match made {
-        Made::Programs(f, r) => CompileAnswer::Compiled(f, r),
+        Made::Programs(forward, reverse) => CompileAnswer::Compiled {
+            reached,
+            forward,
+            reverse,
+        },
         Made::Refused(code) => CompileAnswer::Refused(code, 0),
     }
 }
@@ -36,9 +44,9 @@ fn compile_text(text: &[u8], forward: &mut [u32], reverse: &mut [u32]) -> Compil
     let mut tokens = [0u32; 4096];
     let r = read(text, &mut tokens);
     match r {
-        ReadAnswer::Read { end: _, words } => {
+        ReadAnswer::Read { end, words } => {
             let made = compile_tokens(&tokens[0..words], forward, reverse);
-            answer_of(made)
+            answer_of(end, made)
         }
         ReadAnswer::Refused(code, place) => {
             clear(forward, reverse);

@@ -73,7 +73,11 @@ fn one(text: &[u8], forward: &mut [u32], reverse: &mut [u32]) {
     fill(reverse);
     let r = compiledoor::compile(text, forward, reverse);
     match r {
-        CompileAnswer::Compiled(n, m) => {
+        CompileAnswer::Compiled {
+            reached: _,
+            forward: n,
+            reverse: m,
+        } => {
             io::write_all(OUT, b"forward ");
             left(forward, n);
             io::write_all(OUT, b"reverse ");

@@ -46,15 +46,15 @@ pub record Made (o : Read) (n m : ℕ) (f r : List ℕ) : Type 0 where
   pub reverse-few : m ≤ 512
   pub lists : outcome o ≡ compiled (take n f) (take m r) (pickedOf o)
 
-pub says-made : (o : Read) (f r f' r' : List ℕ) (n m : ℕ) → length f' ≡ 512 → length r' ≡ 512 → made.gives n m ≡ made.outcomeSays o → f' ≡ made.outcomeForward o f → r' ≡ made.outcomeReverse o r → Made o n m f' r'
+pub says-made : (o : Read) (f r f' r' : List ℕ) (reached n m : ℕ) → length f' ≡ 512 → length r' ≡ 512 → made.gives reached n m ≡ made.outcomeSays o → f' ≡ made.outcomeForward o f → r' ≡ made.outcomeReverse o r → Made o n m f' r'
 unfolding made.outcomeSays made.outcomeForward made.outcomeReverse made.compiledSays made.compiledForward made.compiledReverse outcome pickedOf withPrograms
-says-made (rejected x place) f r f' r' n m lf lr e ef er = let z : _≡_ {A = ℕ} 0 1 = cc in absurd (omega arith)
-says-made (accepted end ts) f r f' r' n m lf lr e ef er = go (compile ts) refl
+says-made (rejected x place) f r f' r' reached n m lf lr e ef er = let z : _≡_ {A = ℕ} 0 1 = cc in absurd (omega arith)
+says-made (accepted end ts) f r f' r' reached n m lf lr e ef er = go (compile ts) refl
   where
     go : (c : Compiled) → compile ts ≡ c → Made (accepted end ts) n m f' r'
-    go (uncompiled x) h = let e' : made.gives n m ≡ made.compiledSays (uncompiled x) = rw h at e in let z : _≡_ {A = ℕ} 0 1 = cc in absurd (omega arith)
+    go (uncompiled x) h = let e' : made.gives reached n m ≡ made.compiledSays end (uncompiled x) = rw h at e in let z : _≡_ {A = ℕ} 0 1 = cc in absurd (omega arith)
     go (programs fw rv) h =
-        let e' : made.gives n m ≡ made.gives (length fw) (length rv) = rw h at e in
+        let e' : made.gives reached n m ≡ made.gives end (length fw) (length rv) = rw h at e in
         let ef' : f' ≡ filled 512 fw f = rw h at ef in
         let er' : r' ≡ filled 512 rv r = rw h at er in
         let hn : n ≡ length fw = cc in
@@ -70,8 +70,8 @@ says-refused (rejected x p) k place e = cc
 says-refused (accepted end ts) k place e = go (compile ts) refl
   where
     go : (c : Compiled) → compile ts ≡ c → withPrograms (compile ts) (withRoom (pick ts)) ≡ refused k place
-    go (uncompiled x) h = let e' : made.refuses k place ≡ made.compiledSays (uncompiled x) = rw h at e in rw h (cc)
-    go (programs fw rv) h = let e' : made.refuses k place ≡ made.compiledSays (programs fw rv) = rw h at e in let z : _≡_ {A = ℕ} 0 1 = cc in absurd (omega arith)
+    go (uncompiled x) h = let e' : made.refuses k place ≡ made.compiledSays end (uncompiled x) = rw h at e in rw h (cc)
+    go (programs fw rv) h = let e' : made.refuses k place ≡ made.compiledSays end (programs fw rv) = rw h at e in let z : _≡_ {A = ℕ} 0 1 = cc in absurd (omega arith)
 
 -- the literals are in the buffers
 pub record Taken (o : Read) (n rank : ℕ) (b l : List ℕ) : Type 0 where
@@ -93,15 +93,15 @@ module _ (b l : List ℕ) (lb : length b ≡ 32768) (ll : length l ≡ 256) wher
       let tl : take n l' ≡ map length ls = ap (take n) el ∙ take-at (map length ls) (drop (length (map length ls)) l) n ml in
       ap₂ (λ (x y : List ℕ). cut x y) tl eb ∙ cut-flatten ls (drop (length (flatten ls)) b)
 
-  pub says-taken : (o : Read) (b' l' : List ℕ) (n rank : ℕ) → taken.gives n rank ≡ taken.outcomeSays o b l → b' ≡ taken.outcomeBytes o b l → l' ≡ taken.outcomeLengths o b l → Taken o n rank b' l'
+  pub says-taken : (o : Read) (b' l' : List ℕ) (reached n rank : ℕ) → taken.gives reached n rank ≡ taken.outcomeSays o b l → b' ≡ taken.outcomeBytes o b l → l' ≡ taken.outcomeLengths o b l → Taken o n rank b' l'
   unfolding taken.outcomeSays taken.outcomeBytes taken.outcomeLengths taken.pickedSays taken.pickedBytes taken.pickedLengths output.bytesLeft output.lengthsLeft pickedOf withRoom
-  says-taken (rejected x place) b' l' n rank e eb el = let z : _≡_ {A = ℕ} 0 1 = cc in absurd (omega arith)
-  says-taken (accepted end ts) b' l' n rank e eb el = go (pick ts) refl
+  says-taken (rejected x place) b' l' reached n rank e eb el = let z : _≡_ {A = ℕ} 0 1 = cc in absurd (omega arith)
+  says-taken (accepted end ts) b' l' reached n rank e eb el = go (pick ts) refl
     where
       fit : (r : ℕ) (ls : List (List ℕ)) (t : Bool) → output.fits ls b l ≡ t → pick ts ≡ chosen r ls → Taken (accepted end ts) n rank b' l'
-      fit r ls false f h = let e' : taken.gives n rank ≡ taken.refuses 18 0 = rw (h, f) at e in let z : _≡_ {A = ℕ} 0 1 = cc in absurd (omega arith)
+      fit r ls false f h = let e' : taken.gives reached n rank ≡ taken.refuses 18 0 = rw (h, f) at e in let z : _≡_ {A = ℕ} 0 1 = cc in absurd (omega arith)
       fit r ls true f h =
-          let e' : taken.gives n rank ≡ taken.gives (length ls) r = rw (h, f) at e in
+          let e' : taken.gives reached n rank ≡ taken.gives end (length ls) r = rw (h, f) at e in
           let hn : n ≡ length ls = cc in
           let hr : rank ≡ r = cc in
           let eb' : b' ≡ output.over (flatten ls) b = rw (h, f) at eb in
@@ -112,7 +112,7 @@ module _ (b l : List ℕ) (lb : length b ≡ 32768) (ll : length l ≡ 256) wher
           }
 
       go : (c : Choice) → pick ts ≡ c → Taken (accepted end ts) n rank b' l'
-      go (unchosen x) h = let e' : taken.gives n rank ≡ taken.pickedSays (unchosen x) b l = rw h at e in let z : _≡_ {A = ℕ} 0 1 = cc in absurd (omega arith)
+      go (unchosen x) h = let e' : taken.gives reached n rank ≡ taken.pickedSays end (unchosen x) b l = rw h at e in let z : _≡_ {A = ℕ} 0 1 = cc in absurd (omega arith)
       go (chosen r ls) h = fit r ls (output.fits ls b l) refl h
 
   pub says-untaken : (o : Read) (k place : ℕ) → taken.refuses k place ≡ taken.outcomeSays o b l → pickedOf o ≡ unpicked k
@@ -121,7 +121,7 @@ module _ (b l : List ℕ) (lb : length b ≡ 32768) (ll : length l ≡ 256) wher
   says-untaken (accepted end ts) k place e = go (pick ts) refl
     where
       fit : (r : ℕ) (ls : List (List ℕ)) (t : Bool) → output.fits ls b l ≡ t → pick ts ≡ chosen r ls → withRoom (pick ts) ≡ unpicked k
-      fit r ls true f h = let e' : taken.refuses k place ≡ taken.gives (length ls) r = rw (h, f) at e in let z : _≡_ {A = ℕ} 0 1 = cc in absurd (omega arith)
+      fit r ls true f h = let e' : taken.refuses k place ≡ taken.gives end (length ls) r = rw (h, f) at e in let z : _≡_ {A = ℕ} 0 1 = cc in absurd (omega arith)
       fit r ls false f h =
           let e' : taken.refuses k place ≡ taken.refuses 18 0 = rw (h, f) at e in
           let hk : k ≡ 18 = cc in
@@ -129,21 +129,21 @@ module _ (b l : List ℕ) (lb : length b ≡ 32768) (ll : length l ≡ 256) wher
           rw (h, g) (ap unpicked (sym hk))
 
       go : (c : Choice) → pick ts ≡ c → withRoom (pick ts) ≡ unpicked k
-      go (unchosen x) h = let e' : taken.refuses k place ≡ taken.pickedSays (unchosen x) b l = rw h at e in rw h (cc)
+      go (unchosen x) h = let e' : taken.refuses k place ≡ taken.pickedSays end (unchosen x) b l = rw h at e in rw h (cc)
       go (chosen r ls) h = fit r ls (output.fits ls b l) refl h
 
   -- at the door
-  pub taken-door : (t b' l' : List ℕ) (n rank : ℕ) (r : LiteralsAnswer) → r ≡ Picked' n rank → taken.said r ≡ taken.literalsSays t b l → b' ≡ taken.bytesLeft t b l → l' ≡ taken.lengthsLeft t b l → Taken (reading t) n rank b' l'
-  taken-door t b' l' n rank r h e eb el = says-taken (reading t) b' l' n rank (ap taken.said (sym h) ∙ e) eb el
+  pub taken-door : (t b' l' : List ℕ) (reached n rank : ℕ) (r : LiteralsAnswer) → r ≡ Picked' reached n rank → taken.said r ≡ taken.literalsSays t b l → b' ≡ taken.bytesLeft t b l → l' ≡ taken.lengthsLeft t b l → Taken (reading t) n rank b' l'
+  taken-door t b' l' reached n rank r h e eb el = says-taken (reading t) b' l' reached n rank (ap taken.said (sym h) ∙ e) eb el
 
   pub untaken-door : (t : List ℕ) (why : Refusal) (place : ℕ) (r : LiteralsAnswer) → r ≡ Untaken why place → taken.said r ≡ taken.literalsSays t b l → pickedOf (reading t) ≡ unpicked (numberOf why)
   untaken-door t why place r h e = says-untaken (reading t) (numberOf why) place (ap taken.said (sym h) ∙ e)
 
 -- at the compiling door, for pools of the lent sizes
-pub made-door : (t f r f' r' : List ℕ) (n m : ℕ) (a : CompileAnswer) → length f ≡ 512 → length r ≡ 512 → length f' ≡ 512 → length r' ≡ 512 → a ≡ Compiled' n m → made.said a ≡ made.compileSays t f r → f' ≡ made.forwardLeaves t f r → r' ≡ made.reverseLeaves t f r → Made (reading t) n m f' r'
+pub made-door : (t f r f' r' : List ℕ) (reached n m : ℕ) (a : CompileAnswer) → length f ≡ 512 → length r ≡ 512 → length f' ≡ 512 → length r' ≡ 512 → a ≡ Compiled' reached n m → made.said a ≡ made.compileSays t f r → f' ≡ made.forwardLeaves t f r → r' ≡ made.reverseLeaves t f r → Made (reading t) n m f' r'
 unfolding made.compileSays made.forwardLeaves made.reverseLeaves
-made-door t f r f' r' n m a lf lr lf' lr' h e ef er =
-    says-made (reading t) f r f' r' n m lf' lr' (ap made.said (sym h) ∙ (rw (lf, lr) at e)) (rw (lf, lr) at ef) (rw (lf, lr) at er)
+made-door t f r f' r' reached n m a lf lr lf' lr' h e ef er =
+    says-made (reading t) f r f' r' reached n m lf' lr' (ap made.said (sym h) ∙ (rw (lf, lr) at e)) (rw (lf, lr) at ef) (rw (lf, lr) at er)
 
 pub refused-door : (t f r : List ℕ) (why : Refusal) (place : ℕ) (a : CompileAnswer) → length f ≡ 512 → length r ≡ 512 → a ≡ Unmade why place → made.said a ≡ made.compileSays t f r → outcome (reading t) ≡ refused (numberOf why) place
 unfolding made.compileSays

@@ -20,9 +20,11 @@ fn put_picked(text: &[u8], out: &mut [u8], at: usize) -> usize
     let mut lens = [0u16; 256];
     let got = literaldoor::literals(text, &mut bytes, &mut lens);
     match got {
-        LiteralsAnswer::Picked { count, rank } => {
-            printing::put_literals(out, at, rank as usize, &lens[0..count], &bytes)
-        }
+        LiteralsAnswer::Picked {
+            reached: _,
+            count,
+            rank,
+        } => printing::put_literals(out, at, rank as usize, &lens[0..count], &bytes),
         LiteralsAnswer::Refused(why, _) => {
             printing::put_literals_refused(out, at, why.number() as usize)
         }
@@ -37,7 +39,11 @@ fn put_listing(text: &[u8], out: &mut [u8]) -> usize
     let mut reverse = [0u32; 512];
     let got = compiledoor::compile(text, &mut forward, &mut reverse);
     match got {
-        CompileAnswer::Compiled(n, m) => {
+        CompileAnswer::Compiled {
+            reached: _,
+            forward: n,
+            reverse: m,
+        } => {
             let k = printing::put_programs(out, &forward[0..n], &reverse[0..m]);
             put_picked(text, out, k)
         }

@@ -31,49 +31,49 @@ use Rattle.literaldoor.specs.Door.{Said, gives, refuses, pickedSays, pic
 
 -- ---- what was written
 
-module _ (ls : List (List ℕ)) (rank : ℕ) (w : Wrote) (b l b′ l′ : List ℕ) (g : output.Generated ls w b l b′ l′) where
-  pub all-written : (n : ℕ) → w ≡ All n → Picks (picked rank ls) (gives n rank) b l b′ l′
+module _ (e : ℕ) (ls : List (List ℕ)) (rank : ℕ) (w : Wrote) (b l b′ l′ : List ℕ) (g : output.Generated ls w b l b′ l′) where
+  pub all-written : (n : ℕ) → w ≡ All n → Picks e (picked rank ls) (gives e n rank) b l b′ l′
   unfolding pickedSays pickedBytes pickedLengths
-  all-written n e =
-      let a = wrote-all ls w b l b′ l′ g n e in
-      (ap (λ (x : ℕ). gives x rank) (a .number) ∙ sym (ap (λ (t : Bool). cond t (gives (length ls) rank) (refuses 18 0)) (a .fitting)), g .bytes-are, g .lengths-are)
+  all-written n h =
+      let a = wrote-all ls w b l b′ l′ g n h in
+      (ap (λ (x : ℕ). gives e x rank) (a .number) ∙ sym (ap (λ (t : Bool). cond t (gives e (length ls) rank) (refuses 18 0)) (a .fitting)), g .bytes-are, g .lengths-are)
 
-  pub none-written : w ≡ NoRoom → Picks (picked rank ls) (refuses 18 0) b l b′ l′
+  pub none-written : w ≡ NoRoom → Picks e (picked rank ls) (refuses 18 0) b l b′ l′
   unfolding pickedSays pickedBytes pickedLengths
-  none-written e =
-      let a = wrote-none ls w b l b′ l′ g e in
-      (sym (ap (λ (t : Bool). cond t (gives (length ls) rank) (refuses 18 0)) (a .short)), g .bytes-are, g .lengths-are)
+  none-written h =
+      let a = wrote-none ls w b l b′ l′ g h in
+      (sym (ap (λ (t : Bool). cond t (gives e (length ls) rank) (refuses 18 0)) (a .short)), g .bytes-are, g .lengths-are)
 
 -- ---- what was chosen
 
-module _ (ws : List ℕ) (p : Pick) (b l : List ℕ) where
-  pub nothing-chosen : p ≡ Nothing → Picks (taking (choiceSays ws p)) (gives 0 0) b l b l
+module _ (e : ℕ) (ws : List ℕ) (p : Pick) (b l : List ℕ) where
+  pub nothing-chosen : p ≡ Nothing → Picks e (taking (choiceSays ws p)) (gives e 0 0) b l b l
   unfolding taking pickedSays pickedBytes pickedLengths flatten output.fits output.bytesLeft output.lengthsLeft
-  nothing-chosen e = subst (λ (x : Pick). Picks (taking (choiceSays ws x)) (gives 0 0) b l b l) (sym e) none-needed
+  nothing-chosen h = subst (λ (x : Pick). Picks e (taking (choiceSays ws x)) (gives e 0 0) b l b l) (sym h) none-needed
     where
       room : (leb 0 (length l) && leb 0 (length b)) ≡ true
       room = rw (le-leb 0 (length l) (let z : 0 ≤ length l = omega arith in z), le-leb 0 (length b) (let z : 0 ≤ length b = omega arith in z))
 
-      none-needed : Picks (picked 0 []) (gives 0 0) b l b l
+      none-needed : Picks e (picked 0 []) (gives e 0 0) b l b l
       none-needed = rw room (refl, refl, refl)
 
-  pub too-many : p ≡ TooMany → Picks (taking (choiceSays ws p)) (refuses 17 0) b l b l
+  pub too-many : p ≡ TooMany → Picks e (taking (choiceSays ws p)) (refuses 17 0) b l b l
   unfolding taking pickedSays pickedBytes pickedLengths
-  too-many e = subst (λ (x : Pick). Picks (taking (choiceSays ws x)) (refuses 17 0) b l b l) (sym e) (refl, refl, refl)
+  too-many h = subst (λ (x : Pick). Picks e (taking (choiceSays ws x)) (refuses 17 0) b l b l) (sym h) (refl, refl, refl)
 
-  pub words-chosen : (from to rank : ℕ) (s : Said) (b′ l′ : List ℕ) → p ≡ Taken from to rank → Picks (picked rank (literals (tokensIn (take (to - from) (drop from ws))))) s b l b′ l′ → Picks (taking (choiceSays ws p)) s b l b′ l′
+  pub words-chosen : (from to rank : ℕ) (s : Said) (b′ l′ : List ℕ) → p ≡ Taken from to rank → Picks e (picked rank (literals (tokensIn (take (to - from) (drop from ws))))) s b l b′ l′ → Picks e (taking (choiceSays ws p)) s b l b′ l′
   unfolding taking
-  words-chosen from to rank s b′ l′ e h = subst (λ (x : Pick). Picks (taking (choiceSays ws x)) s b l b′ l′) (sym e) h
+  words-chosen from to rank s b′ l′ f h = subst (λ (x : Pick). Picks e (taking (choiceSays ws x)) s b l b′ l′) (sym f) h
 
 -- ---- 19, or the choice
 
-pub not-plain : (ts : Tokens) (b l : List ℕ) → plain ts ≡ false → Picks (pick ts) (refuses 19 0) b l b l
+pub not-plain : (e : ℕ) (ts : Tokens) (b l : List ℕ) → plain ts ≡ false → Picks e (pick ts) (refuses 19 0) b l b l
 unfolding pick pickedSays pickedBytes pickedLengths
-not-plain ts b l e = rw e (refl, refl, refl)
+not-plain e ts b l h = rw h (refl, refl, refl)
 
-pub plain-chosen : (ts : Tokens) (c : Choice) (s : Said) (b l b′ l′ : List ℕ) → plain ts ≡ true → c ≡ choice ts → Picks (taking c) s b l b′ l′ → Picks (pick ts) s b l b′ l′
+pub plain-chosen : (e : ℕ) (ts : Tokens) (c : Choice) (s : Said) (b l b′ l′ : List ℕ) → plain ts ≡ true → c ≡ choice ts → Picks e (taking c) s b l b′ l′ → Picks e (pick ts) s b l b′ l′
 unfolding pick
-plain-chosen ts c s b l b′ l′ e f h = rw e (subst (λ (x : Choice). Picks (taking x) s b l b′ l′) f h)
+plain-chosen e ts c s b l b′ l′ p f h = rw p (subst (λ (x : Choice). Picks e (taking x) s b l b′ l′) f h)
 
 -- ---- the entries of a text are taken for its tokens
 
@@ -94,10 +94,10 @@ pub text-refused : (t : List ℕ) (c : Refusal) (y : ℕ) (b l : List ℕ) → r
 unfolding outcomeSays outcomeBytes outcomeLengths
 text-refused t c y b l g = rw g (refl, refl, refl)
 
-pub text-picked : (t : List ℕ) (e : ℕ) (ts : Tokens) (ws : List ℕ) (s : Said) (b l b′ l′ : List ℕ) → reading t ≡ accepted e ts → ws ≡ entries ts → Picks (pick (tokensIn ws)) s b l b′ l′ → Door t s b l b′ l′
+pub text-picked : (t : List ℕ) (e : ℕ) (ts : Tokens) (ws : List ℕ) (s : Said) (b l b′ l′ : List ℕ) → reading t ≡ accepted e ts → ws ≡ entries ts → Picks e (pick (tokensIn ws)) s b l b′ l′ → Door t s b l b′ l′
 unfolding outcomeSays outcomeBytes outcomeLengths
 text-picked t e ts ws s b l b′ l′ g w h =
-    rw g (subst (λ (x : Picked). Picks x s b l b′ l′) (ap (λ (x : List ℕ). pick (tokensIn x)) w ∙ pick-entries ts (accepted-spelled t e ts g)) h)
+    rw g (subst (λ (x : Picked). Picks e x s b l b′ l′) (ap (λ (x : List ℕ). pick (tokensIn x)) w ∙ pick-entries ts (accepted-spelled t e ts g)) h)
 
 pub entries-whole : (ts : Tokens) (ws : List ℕ) → ws ≡ entries ts → length (entries ts) ≤ 4092 → (length ws ≤ 4096) × Whole ws
 entries-whole ts ws w h = (let l = ap length w in omega arith, subst Whole (sym w) (whole-entries ts))

@@ -11,22 +11,22 @@ use Rattle.generator.specs.Output as output
 use Rattle.literaldoor.specs.declared.LiteralsAnswer.{LiteralsAnswer}
 use Rattle.literaldoor.specs.declared.LiteralsAnswer.the-variants as answer
 
--- 01's values: how many literals and their rank; or the refusal's number and its place
+-- 01's values: the offset reached, how many literals and their rank; or the refusal's number and its place
 pub data Said : Type 0 where
-  gives : ℕ → ℕ → Said
+  gives : ℕ → ℕ → ℕ → Said
   refuses : ℕ → ℕ → Said
 
 abbrev pub said : LiteralsAnswer → Said
-said (answer.Picked count rank) = gives count rank
+said (answer.Picked reached count rank) = gives reached count rank
 said (answer.Refused x place) = refuses (numberOf x) place
 
 -- a text's refusals have their places; 19, 17 and 18 have place 0, and 18 comes last
-unfoldable pub pickedSays : Picked → List ℕ → List ℕ → Said
-pickedSays (picked rank ls) b l = cond (output.fits ls b l) (gives (length ls) rank) (refuses 18 0)
-pickedSays (unpicked x) b l = refuses (numberOf x) 0
+unfoldable pub pickedSays : ℕ → Picked → List ℕ → List ℕ → Said
+pickedSays reached (picked rank ls) b l = cond (output.fits ls b l) (gives reached (length ls) rank) (refuses 18 0)
+pickedSays reached (unpicked x) b l = refuses (numberOf x) 0
 
 unfoldable pub outcomeSays : Outcome → List ℕ → List ℕ → Said
-outcomeSays (accepted end ts) b l = pickedSays (pick ts) b l
+outcomeSays (accepted end ts) b l = pickedSays end (pick ts) b l
 outcomeSays (rejected x place) b l = refuses (numberOf x) place
 
 -- the literals one after another, and the length of each; on a refusal nothing is written
@@ -56,6 +56,6 @@ bytesLeft t b l = outcomeBytes (reading t) b l
 abbrev pub lengthsLeft : List ℕ → List ℕ → List ℕ → List ℕ
 lengthsLeft t b l = outcomeLengths (reading t) b l
 
--- below the door: what is said of a pick, and the buffers that were b and l
-abbrev pub Picks : Picked → Said → List ℕ → List ℕ → List ℕ → List ℕ → Type 0
-Picks p s b l b′ l′ = (s ≡ pickedSays p b l) × (b′ ≡ pickedBytes p b l) × (l′ ≡ pickedLengths p b l)
+-- below the door: what is said of a pick from a text that was read up to the offset reached, and the buffers that were b and l
+abbrev pub Picks : ℕ → Picked → Said → List ℕ → List ℕ → List ℕ → List ℕ → Type 0
+Picks reached p s b l b′ l′ = (s ≡ pickedSays reached p b l) × (b′ ≡ pickedBytes p b l) × (l′ ≡ pickedLengths p b l)

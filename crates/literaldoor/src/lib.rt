@@ -18,46 +18,70 @@ ghost use Rattle.literals.specs.Whole.{Whole};
 ghost use Rattle.chooser.specs.Kept.{Kept, AllTold};
 ghost use Rattle.literaldoor.specs.Door.{said, literalsSays, bytesLeft, lengthsLeft, Picks};
 
-// How many literals and their rank, or a refusal and its place.
+// The offset reached, as in reading, how many literals and their rank; or a refusal and its place.
 pub enum LiteralsAnswer {
-    Picked { count: usize, rank: u32 },
+    Picked {
+        reached: usize,
+        count: usize,
+        rank: u32,
+    },
     Refused(Refusal, usize),
 }
 
-// All literals of the words that were taken; or none of them, for want of room.
-fn write_taken(ws: &[u32], rank: u32, bytes: &mut [u8], lengths: &mut [u16]) -> LiteralsAnswer
+// All literals of the words that were taken; or none of them, for want of room. The offset reached is handed down for the answer.
+fn write_taken(
+    ws: &[u32],
+    reached: usize,
+    rank: u32,
+    bytes: &mut [u8],
+    lengths: &mut [u16],
+) -> LiteralsAnswer
     requires { ⌜ (length (now ws) ≤ 4096) × (count (tokensIn (now ws)) ≤ 256) ⌝ }
-    ensures { λ r. ⌜ Picks (picked rank (literalsOf (tokensIn (now (ws .entry))))) (said r) (now (bytes .entry)) (now (lengths .entry)) (now (bytes .exit)) (now (lengths .exit)) ⌝ }
+    ensures { λ r. ⌜ Picks reached (picked rank (literalsOf (tokensIn (now (ws .entry))))) (said r) (now (bytes .entry)) (now (lengths .entry)) (now (bytes .exit)) (now (lengths .exit)) ⌝ }
 {
     let w = generator::write_all(ws, bytes, lengths);
     match w {
-        Wrote::All(count) => LiteralsAnswer::Picked { count, rank },
+        Wrote::All(count) => LiteralsAnswer::Picked {
+            reached,
+            count,
+            rank,
+        },
         Wrote::NoRoom => LiteralsAnswer::Refused(Refusal::NoRoom, 0),
     }
 }
 
 // Nothing chosen is no literal of rank 0: the literals of no words would be one, the empty one.
-fn write_choice(ws: &[u32], choice: Pick, bytes: &mut [u8], lengths: &mut [u16]) -> LiteralsAnswer
+fn write_choice(
+    ws: &[u32],
+    reached: usize,
+    choice: Pick,
+    bytes: &mut [u8],
+    lengths: &mut [u16],
+) -> LiteralsAnswer
     requires { ⌜ (length (now ws) ≤ 4096) × Kept (now ws) choice ⌝ }
-    ensures { λ r. ⌜ Picks (taking (choiceSays (now (ws .entry)) choice)) (said r) (now (bytes .entry)) (now (lengths .entry)) (now (bytes .exit)) (now (lengths .exit)) ⌝ }
+    ensures { λ r. ⌜ Picks reached (taking (choiceSays (now (ws .entry)) choice)) (said r) (now (bytes .entry)) (now (lengths .entry)) (now (bytes .exit)) (now (lengths .exit)) ⌝ }
 {
     match choice {
-        Pick::Nothing => LiteralsAnswer::Picked { count: 0, rank: 0 },
-        Pick::Taken(from, to, rank) => write_taken(&ws[from..to], rank, bytes, lengths),
+        Pick::Nothing => LiteralsAnswer::Picked {
+            reached,
+            count: 0,
+            rank: 0,
+        },
+        Pick::Taken(from, to, rank) => write_taken(&ws[from..to], reached, rank, bytes, lengths),
         Pick::TooMany => LiteralsAnswer::Refused(Refusal::TooManyLiterals, 0),
     }
 }
 
 // 19, then 17, then 18.
-fn pick_tokens(ws: &[u32], bytes: &mut [u8], lengths: &mut [u16]) -> LiteralsAnswer
+fn pick_tokens(ws: &[u32], reached: usize, bytes: &mut [u8], lengths: &mut [u16]) -> LiteralsAnswer
     requires { ⌜ (length (now ws) ≤ 4096) × Whole (now ws) × (plain (tokensIn (now ws)) ≡ true → AllTold (segments (tokensIn (now ws)))) ⌝ }
-    ensures { λ r. ⌜ Picks (pick (tokensIn (now (ws .entry)))) (said r) (now (bytes .entry)) (now (lengths .entry)) (now (bytes .exit)) (now (lengths .exit)) ⌝ }
+    ensures { λ r. ⌜ Picks reached (pick (tokensIn (now (ws .entry)))) (said r) (now (bytes .entry)) (now (lengths .entry)) (now (bytes .exit)) (now (lengths .exit)) ⌝ }
 {
     if !spelling::is_plain(ws) {
         return LiteralsAnswer::Refused(Refusal::NotPlain, 0);
     }
     let choice = chooser::choose(ws);
-    write_choice(ws, choice, bytes, lengths)
+    write_choice(ws, reached, choice, bytes, lengths)
 }
 
 // Picks the literals of a text. The tokens are read into 4,096 words of the stack.
@@ -69,7 +93,7 @@ pub fn literals(text: &[u8], bytes: &mut [u8], lengths: &mut [u16]) -> LiteralsA
     let mut tokens = [0u32; 4096];
     let r = readdoor::read(text, &mut tokens);
     match r {
-        ReadAnswer::Read { end: _, words } => pick_tokens(&tokens[0..words], bytes, lengths),
+        ReadAnswer::Read { end, words } => pick_tokens(&tokens[0..words], end, bytes, lengths),
         ReadAnswer::Refused(code, place) => LiteralsAnswer::Refused(code, place),
     }
 }

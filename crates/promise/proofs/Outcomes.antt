@@ -76,7 +76,7 @@ pub compiles : (t p q : List ℕ) → Compiles t p q (compiledoor.compileSays t 
 unfolding compiledoor.compileSays compiledoor.forwardLeaves compiledoor.reverseLeaves compiledoor.outcomeSays compiledoor.outcomeForward compiledoor.outcomeReverse compiledoor.compiledSays compiledoor.compiledForward compiledoor.compiledReverse
 compiles t p q = go (compiledoor.room p q) refl (text.reading t) refl
   where
-    made : (e : ℕ) (ts : _) → text.reading t ≡ text.accepted e ts → 512 ≤ length p → 512 ≤ length q → (c : tokens.Compiled) → tokens.compile ts ≡ c → Compiles t p q (compiledoor.compiledSays c) (compiledoor.compiledForward c p) (compiledoor.compiledReverse c q)
+    made : (e : ℕ) (ts : _) → text.reading t ≡ text.accepted e ts → 512 ≤ length p → 512 ≤ length q → (c : tokens.Compiled) → tokens.compile ts ≡ c → Compiles t p q (compiledoor.compiledSays e c) (compiledoor.compiledForward c p) (compiledoor.compiledReverse c q)
     made e ts g h i (tokens.compiled f r) j = said.Compiles.compiled h i (accepted-derived t e ts g) (makes ts (accepted-spelled t e ts g) (tokens.compiled f r) .0 j)
     made e ts g h i (tokens.refused x) j = said.Compiles.refused h i (accepted-derived t e ts g) (makes ts (accepted-spelled t e ts g) (tokens.refused x) .0 j)
 
@@ -106,11 +106,11 @@ by-room t p q b e = (
 by-outcome : (t p q : List ℕ) (o : text.Outcome) → 512 ≤ length p → 512 ≤ length q → text.reading t ≡ o → As t p q (compiledoor.outcomeSays o) (compiledoor.outcomeForward o p) (compiledoor.outcomeReverse o q)
 by-outcome t p q o h g e = subst (λ (x : text.Outcome). As t p q (compiledoor.outcomeSays x) (compiledoor.outcomeForward x p) (compiledoor.outcomeReverse x q)) e (by-room t p q true (both-room p q h g))
 
-by-tokens : (t p q : List ℕ) (k : ℕ) (ts : _) (c : tokens.Compiled) → 512 ≤ length p → 512 ≤ length q → text.reading t ≡ text.accepted k ts → tokens.compile ts ≡ c → As t p q (compiledoor.compiledSays c) (compiledoor.compiledForward c p) (compiledoor.compiledReverse c q)
+by-tokens : (t p q : List ℕ) (k : ℕ) (ts : _) (c : tokens.Compiled) → 512 ≤ length p → 512 ≤ length q → text.reading t ≡ text.accepted k ts → tokens.compile ts ≡ c → As t p q (compiledoor.compiledSays k c) (compiledoor.compiledForward c p) (compiledoor.compiledReverse c q)
 unfolding compiledoor.outcomeSays compiledoor.outcomeForward compiledoor.outcomeReverse
-by-tokens t p q k ts c h g e f = subst (λ (x : tokens.Compiled). As t p q (compiledoor.compiledSays x) (compiledoor.compiledForward x p) (compiledoor.compiledReverse x q)) f (by-outcome t p q (text.accepted k ts) h g e)
+by-tokens t p q k ts c h g e f = subst (λ (x : tokens.Compiled). As t p q (compiledoor.compiledSays k x) (compiledoor.compiledForward x p) (compiledoor.compiledReverse x q)) f (by-outcome t p q (text.accepted k ts) h g e)
 
-made-so : (t p q : List ℕ) (k : ℕ) (ts : Tokens) (c : tokens.Compiled) → 512 ≤ length p → 512 ≤ length q → Derives t k ts → Makes ts c → As t p q (compiledoor.compiledSays c) (compiledoor.compiledForward c p) (compiledoor.compiledReverse c q)
+made-so : (t p q : List ℕ) (k : ℕ) (ts : Tokens) (c : tokens.Compiled) → 512 ≤ length p → 512 ≤ length q → Derives t k ts → Makes ts c → As t p q (compiledoor.compiledSays k c) (compiledoor.compiledForward c p) (compiledoor.compiledReverse c q)
 made-so t p q k ts c h g e f =
     let a = derived-accepted t k ts e in
     by-tokens t p q k ts c h g a (makes ts (accepted-spelled t k ts a) c .1 f)

@@ -9,16 +9,16 @@ use Rattle.base.specs.Pools.{filled}
 use Rattle.meaning.specs.Tokens.{Tokens, Spans}
 use Rattle.reading.specs.Lists.{Outcome, accepted, rejected, reading}
 use Rattle.reading.proofs.PieceLaws.{never}
+use Rattle.grammar.specs.Grammar.{Derives}
 use Rattle.grammar.proofs.Derivable.{accepted-derived}
 use Rattle.compiling.specs.Compile.{Compiled, compiled, refused, compile}
 use Rattle.compiledoor.specs.Door.{gives, refuses, room, compiledSays, outcomeSays, compiledForward, compiledReverse, outcomeForward, outcomeReverse, compileSays, forwardLeaves, reverseLeaves}
 use Rattle.compiledoor.proofs.Promises as promised
-use Rattle.promise.specs.Pattern.{ReadAs, ForwardDoor, ReverseDoor}
+use Rattle.promise.specs.Pattern.{ForwardDoor, ReverseDoor}
 use Rattle.promise.proofs.Answers.{forward-door, reverse-door}
 
--- what a text that compiles is read as and compiled to, and that the pools hold these words in front
-record Compiles (t p q : List ℕ) (n m : ℕ) : Type 0 where
-  reached : ℕ
+-- what a text that compiles is read as, up to the offset reached, and compiled to, and that the pools hold these words in front
+record Compiles (t p q : List ℕ) (reached n m : ℕ) : Type 0 where
   tokens : Tokens
   forward : List ℕ
   reverse : List ℕ
@@ -27,57 +27,56 @@ record Compiles (t p q : List ℕ) (n m : ℕ) : Type 0 where
   forward-words : take n (forwardLeaves t p q) ≡ forward
   reverse-words : take m (reverseLeaves t p q) ≡ reverse
 
-module _ (t p q : List ℕ) (n m : ℕ) where
+module _ (t p q : List ℕ) (reached n m : ℕ) where
   in-front : (f x : List ℕ) (k : ℕ) → length f ≡ k → take k (filled 512 f x) ≡ f
   unfolding filled
   in-front f x k l = take-at f (replicate (512 - length f) 0 ++ drop 512 x) k l
 
-  of-compiled : (e : ℕ) (ts : Tokens) (c : Compiled) → reading t ≡ accepted e ts → compile ts ≡ c → compiledSays c ≡ gives n m → take n (forwardLeaves t p q) ≡ take n (compiledForward c p) → take m (reverseLeaves t p q) ≡ take m (compiledReverse c q) → Compiles t p q n m
+  of-compiled : (e : ℕ) (ts : Tokens) (c : Compiled) → reading t ≡ accepted e ts → compile ts ≡ c → compiledSays e c ≡ gives reached n m → take n (forwardLeaves t p q) ≡ take n (compiledForward c p) → take m (reverseLeaves t p q) ≡ take m (compiledReverse c q) → Compiles t p q reached n m
   unfolding compiledSays compiledForward compiledReverse
   of-compiled e ts (compiled f r) a b g x y = record {
-    reached = e;
     tokens = ts;
     forward = f;
     reverse = r;
-    read = a;
+    read = a ∙ ap (λ (x : ℕ). accepted x ts) (cc);
     done = b;
     forward-words = x ∙ in-front f p n (cc);
     reverse-words = y ∙ in-front r q m (cc);
   }
   of-compiled e ts (refused z) a b g x y = never (cc)
 
-  of-outcome : (o : Outcome) → reading t ≡ o → outcomeSays o ≡ gives n m → take n (forwardLeaves t p q) ≡ take n (outcomeForward o p) → take m (reverseLeaves t p q) ≡ take m (outcomeReverse o q) → Compiles t p q n m
+  of-outcome : (o : Outcome) → reading t ≡ o → outcomeSays o ≡ gives reached n m → take n (forwardLeaves t p q) ≡ take n (outcomeForward o p) → take m (reverseLeaves t p q) ≡ take m (outcomeReverse o q) → Compiles t p q reached n m
   unfolding outcomeSays outcomeForward outcomeReverse
   of-outcome (accepted e ts) a g x y = of-compiled e ts (compile ts) a refl g x y
   of-outcome (rejected z k) a g x y = never (cc)
 
-  compiles : compileSays t p q ≡ gives n m → Compiles t p q n m
+  compiles : compileSays t p q ≡ gives reached n m → Compiles t p q reached n m
   unfolding compileSays forwardLeaves reverseLeaves
   compiles g = go (room p q) refl
     where
-      go : (b : Bool) → room p q ≡ b → Compiles t p q n m
+      go : (b : Bool) → room p q ≡ b → Compiles t p q reached n m
       go true h =
           of-outcome (reading t) refl (sym (ap (λ (b : Bool). cond b (outcomeSays (reading t)) (refuses 18 0)) h) ∙ g)
           (ap (λ (b : Bool). take n (cond b (outcomeForward (reading t) p) p)) h)
           (ap (λ (b : Bool). take m (cond b (outcomeReverse (reading t) q) q)) h)
       go false h =
-          let z : refuses 18 0 ≡ gives n m = sym (ap (λ (b : Bool). cond b (outcomeSays (reading t)) (refuses 18 0)) h) ∙ g in
+          let z : refuses 18 0 ≡ gives reached n m = sym (ap (λ (b : Bool). cond b (outcomeSays (reading t)) (refuses 18 0)) h) ∙ g in
           never (cc)
 
-  -- The text t compiles to n forward and m reverse words, which the pools then hold in front.
-  module _ (g : compileSays t p q ≡ gives n m) where
-    -- Then t is a pattern, and the forward door, asked with the forward words about any window of any haystack, answers for its spans;
-    pub pattern-forward : (ts : Tokens) × ReadAs t ts × ForwardDoor (Spans ts) (take n (forwardLeaves t p q))
+  -- The text t is read up to the offset reached and compiles to n forward and m reverse words, which the pools then hold in front.
+  module _ (g : compileSays t p q ≡ gives reached n m) where
+    -- Then t up to there is a pattern, and the forward door, asked with the forward words about any window of any haystack, answers for its spans;
+    pub pattern-forward : (ts : Tokens) × Derives t reached ts × ForwardDoor (Spans ts) (take n (forwardLeaves t p q))
     pattern-forward =
         let c = compiles g in
-        let h = promised.forward-sound t (c .reached) (c .tokens) (c .forward) (c .reverse) (c .read) (c .done) in
-        let exact = promised.forward-exact t (c .reached) (c .tokens) (c .forward) (c .reverse) (c .read) (c .done) in
-        (c .tokens, (c .reached, accepted-derived t (c .reached) (c .tokens) (c .read)), subst (ForwardDoor (Spans (c .tokens))) (sym (c .forward-words)) (forward-door (Spans (c .tokens)) (c .forward) h exact))
+        let h = promised.forward-sound t reached (c .tokens) (c .forward) (c .reverse) (c .read) (c .done) in
+        let exact = promised.forward-exact t reached (c .tokens) (c .forward) (c .reverse) (c .read) (c .done) in
+        (c .tokens, accepted-derived t reached (c .tokens) (c .read), subst (ForwardDoor (Spans (c .tokens))) (sym (c .forward-words)) (forward-door (Spans (c .tokens)) (c .forward) h exact))
 
     -- and the reverse door, asked with the reverse words, likewise.
-    pub pattern-reverse : (ts : Tokens) × ReadAs t ts × ReverseDoor (Spans ts) (take m (reverseLeaves t p q))
+    pub pattern-reverse : (ts : Tokens) × Derives t reached ts × ReverseDoor (Spans ts) (take m (reverseLeaves t p q))
     pattern-reverse =
         let c = compiles g in
-        let h = promised.reverse-sound t (c .reached) (c .tokens) (c .forward) (c .reverse) (c .read) (c .done) in
-        let exact = promised.reverse-exact t (c .reached) (c .tokens) (c .forward) (c .reverse) (c .read) (c .done) in
-        (c .tokens, (c .reached, accepted-derived t (c .reached) (c .tokens) (c .read)), subst (ReverseDoor (Spans (c .tokens))) (sym (c .reverse-words)) (reverse-door (Spans (c .tokens)) (c .reverse) h exact))
+        let h = promised.reverse-sound t reached (c .tokens) (c .forward) (c .reverse) (c .read) (c .done) in
+        let exact = promised.reverse-exact t reached (c .tokens) (c .forward) (c .reverse) (c .read) (c .done) in
+        (c .tokens, accepted-derived t reached (c .tokens) (c .read), subst (ReverseDoor (Spans (c .tokens))) (sym (c .reverse-words)) (reverse-door (Spans (c .tokens)) (c .reverse) h exact))

@@ -71,11 +71,11 @@ pub picks : (t b l : List ℕ) → Picks t b l (literaldoor.literalsSays t b l) 
 unfolding literaldoor.outcomeSays literaldoor.outcomeBytes literaldoor.outcomeLengths literaldoor.pickedSays literaldoor.pickedBytes literaldoor.pickedLengths output.bytesLeft output.lengthsLeft
 picks t b l = go (reading t) refl
   where
-    by-room : (e n : ℕ) (ts : Tokens) (ls : List (List ℕ)) → Derives t e ts → Yields ts (picked n ls) → (f : Bool) → output.fits ls b l ≡ f → Picks t b l (cond f (literaldoor.gives (length ls) n) (literaldoor.refuses 18 0)) (cond f (output.over (flatten ls) b) b) (cond f (output.over (map length ls) l) l)
+    by-room : (e n : ℕ) (ts : Tokens) (ls : List (List ℕ)) → Derives t e ts → Yields ts (picked n ls) → (f : Bool) → output.fits ls b l ≡ f → Picks t b l (cond f (literaldoor.gives e (length ls) n) (literaldoor.refuses 18 0)) (cond f (output.over (flatten ls) b) b) (cond f (output.over (map length ls) l) l)
     by-room e n ts ls d y true h = let (lengths, bytes) = both-fit ls b l h in said.handed d y lengths bytes
     by-room e n ts ls d y false h = said.no-room d y (one-short ls b l h)
 
-    by-tokens : (e : ℕ) (ts : Tokens) → Derives t e ts → (p : Picked) → Yields ts p → Picks t b l (literaldoor.pickedSays p b l) (literaldoor.pickedBytes p b l) (literaldoor.pickedLengths p b l)
+    by-tokens : (e : ℕ) (ts : Tokens) → Derives t e ts → (p : Picked) → Yields ts p → Picks t b l (literaldoor.pickedSays e p b l) (literaldoor.pickedBytes p b l) (literaldoor.pickedLengths p b l)
     by-tokens e ts d (picked n ls) y = by-room e n ts ls d y (output.fits ls b l) refl
     by-tokens e ts d (unpicked x) y = said.refused d y
 
@@ -84,17 +84,17 @@ picks t b l = go (reading t) refl
     go (rejected x k) g = said.rejected (fault-exactly t x k .0 g)
 
 -- from what is said of a pick
-by-pick : {t u v : List ℕ} {s : literaldoor.Said} {e : ℕ} {ts : Tokens} {p : Picked} (b l : List ℕ) → Derives t e ts → Yields ts p → literaldoor.Picks p s b l u v → Door t s b l u v
+by-pick : {t u v : List ℕ} {s : literaldoor.Said} {e : ℕ} {ts : Tokens} {p : Picked} (b l : List ℕ) → Derives t e ts → Yields ts p → literaldoor.Picks e p s b l u v → Door t s b l u v
 unfolding literaldoor.outcomeSays literaldoor.outcomeBytes literaldoor.outcomeLengths
-by-pick {t} {u} {v} {s} {e} {ts} b l d y h = rw (derived-accepted t e ts d) (subst (λ (x : Picked). literaldoor.Picks x s b l u v) (sym (yields-picked y)) h)
+by-pick {t} {u} {v} {s} {e} {ts} b l d y h = rw (derived-accepted t e ts d) (subst (λ (x : Picked). literaldoor.Picks e x s b l u v) (sym (yields-picked y)) h)
 
 pub picks-one : {t b l : List ℕ} {s : literaldoor.Said} {u v : List ℕ} → Picks t b l s u v → (s ≡ literaldoor.literalsSays t b l) × (u ≡ literaldoor.bytesLeft t b l) × (v ≡ literaldoor.lengthsLeft t b l)
 unfolding literaldoor.pickedSays literaldoor.pickedBytes literaldoor.pickedLengths
 picks-one {t} {b} {l} (said.rejected {x = x} {place = k} e) = text-refused t x k b l (fault-exactly t x k .1 e)
 picks-one {b = b} {l} (said.refused d y) = by-pick b l d y (refl, refl, refl)
-picks-one {b = b} {l} (said.no-room {rank = n} {ls = ls} d y h) = by-pick b l d y (none-written ls n NoRoom b l b l (too-short ls b l h) refl)
-picks-one {b = b} {l} (said.handed {rank = n} {ls = ls} d y h g) =
+picks-one {b = b} {l} (said.no-room {reached = e} {rank = n} {ls = ls} d y h) = by-pick b l d y (none-written e ls n NoRoom b l b l (too-short ls b l h) refl)
+picks-one {b = b} {l} (said.handed {reached = e} {rank = n} {ls = ls} d y h g) =
     let bytes = output.over (flatten ls) b in
     let lengths = output.over (map length ls) l in
     by-pick b l d y
-    (all-written ls n (All (length ls)) b l bytes lengths (all-fit ls (length ls) b l bytes lengths refl h g refl refl) (length ls) refl)
+    (all-written e ls n (All (length ls)) b l bytes lengths (all-fit ls (length ls) b l bytes lengths refl h g refl refl) (length ls) refl)

@@ -38,7 +38,7 @@ pub data Compiles (t p q : List ℕ) : compiledoor.Said → List ℕ → List �
   no-room : (length p < 512) ⊎ (length q < 512) → Compiles t p q (compiledoor.refuses 18 0) p q
   rejected : {x : Refusal} {place : ℕ} → 512 ≤ length p → 512 ≤ length q → Fault t x place → Compiles t p q (compiledoor.refuses (numberOf x) place) (cleared 512 p) (cleared 512 q)
   refused : {x : Refusal} {reached : ℕ} {ts : Tokens} → 512 ≤ length p → 512 ≤ length q → Derives t reached ts → Makes ts (tokens.refused x) → Compiles t p q (compiledoor.refuses (numberOf x) 0) (cleared 512 p) (cleared 512 q)
-  compiled : {reached : ℕ} {ts : Tokens} {f r : List ℕ} → 512 ≤ length p → 512 ≤ length q → Derives t reached ts → Makes ts (tokens.compiled f r) → Compiles t p q (compiledoor.gives (length f) (length r)) (filled 512 f p) (filled 512 r q)
+  compiled : {reached : ℕ} {ts : Tokens} {f r : List ℕ} → 512 ≤ length p → 512 ≤ length q → Derives t reached ts → Makes ts (tokens.compiled f r) → Compiles t p q (compiledoor.gives reached (length f) (length r)) (filled 512 f p) (filled 512 r q)
 
 -- the mirror of the words ws in the pool p
 pub data Mirrors (ws p : List ℕ) : mirrordoor.Said → List ℕ → Type 0 where

@@ -4,17 +4,11 @@ use mathlib.Core.Logic.{_↔_}
 use mathlib.Core.List.{List}
 use Prim.Native.Nat.{ℕ, _≤_}
 use lib.ListN.{length}
-use Rattle.meaning.specs.Tokens.{Tokens}
 use Rattle.meaning.specs.Programs.{Prog}
 use Rattle.meaning.specs.Choices.{FirstForward, FirstReverse}
-use Rattle.grammar.specs.Grammar.{Derives}
 use Rattle.checkdoors.specs.declared.Answer.{Answer}
 use Rattle.checkdoors.specs.Doors.{Outcome, found, noMatch, refused, said, window, forwardSays, reverseSays, Answered}
 use Rattle.promise.specs.NodeWords.{SoundWords}
-
--- the text t is a pattern, with the tokens ts
-abbrev pub ReadAs : List ℕ → Tokens → Type 0
-ReadAs t ts = (reached : ℕ) × Derives t reached ts
 
 -- the bytes of the haystack from a to b are one of some spans
 abbrev pub SpanAt : (List ℕ → Type 0) → List ℕ → ℕ → ℕ → Type 0

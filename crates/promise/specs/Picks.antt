@@ -30,4 +30,4 @@ pub data Picks (t b l : List ℕ) : literaldoor.Said → List ℕ → List ℕ �
   rejected : {x : Refusal} {place : ℕ} → Fault t x place → Picks t b l (literaldoor.refuses (numberOf x) place) b l
   refused : {x : Refusal} {reached : ℕ} {ts : Tokens} → Derives t reached ts → Yields ts (unpicked x) → Picks t b l (literaldoor.refuses (numberOf x) 0) b l
   no-room : {reached rank : ℕ} {ts : Tokens} {ls : List (List ℕ)} → Derives t reached ts → Yields ts (picked rank ls) → (length l < length ls) ⊎ (length b < length (flatten ls)) → Picks t b l (literaldoor.refuses 18 0) b l
-  handed : {reached rank : ℕ} {ts : Tokens} {ls : List (List ℕ)} → Derives t reached ts → Yields ts (picked rank ls) → length ls ≤ length l → length (flatten ls) ≤ length b → Picks t b l (literaldoor.gives (length ls) rank) (over (flatten ls) b) (over (map length ls) l)
+  handed : {reached rank : ℕ} {ts : Tokens} {ls : List (List ℕ)} → Derives t reached ts → Yields ts (picked rank ls) → length ls ≤ length l → length (flatten ls) ≤ length b → Picks t b l (literaldoor.gives reached (length ls) rank) (over (flatten ls) b) (over (map length ls) l)

@@ -14,7 +14,7 @@ fn list_line(line: &[u8]) {
     let n = shown(line.len());
     io::write_all(STDOUT_FILENO, &line[0..n]);
     io::write_all(STDOUT_FILENO, b"\n");
-    console::show(line);
+    console::show(line, STDOUT_FILENO);
     io::write_all(STDOUT_FILENO, b"\n");
 }
 

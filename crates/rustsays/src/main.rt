@@ -89,7 +89,11 @@ fn programs(text: &[u8], hay: &[u8]) {
     let mut reverse = [0u32; 512];
     let r = compiledoor::compile(text, &mut forward, &mut reverse);
     match r {
-        CompileAnswer::Compiled(f, b) => {
+        CompileAnswer::Compiled {
+            reached: _,
+            forward: f,
+            reverse: b,
+        } => {
             io::write_all(STDOUT_FILENO, b"forward");
             words(&forward, f);
             io::write_all(STDOUT_FILENO, b"reverse");
@@ -152,7 +156,11 @@ fn picked(text: &[u8]) {
     let mut lengths = [0u16; 256];
     let r = literaldoor::literals(text, &mut bytes, &mut lengths);
     match r {
-        LiteralsAnswer::Picked { count, rank } => {
+        LiteralsAnswer::Picked {
+            reached: _,
+            count,
+            rank,
+        } => {
             io::write_all(STDOUT_FILENO, b"rank ");
             number(wide(rank));
             io::write_all(STDOUT_FILENO, b" literals");

@@ -42,15 +42,23 @@ read-tells (read.Refused c x) (read.Read f v) h = some-number c (sym (ap (λ (r 
 read-tells (read.Refused c x) (read.Refused d y) h = ap₂ read.Refused (number-one c d (ap (λ (r : ReadResult). r .refusal) h)) (ap (λ (r : ReadResult). r .place) h)
 
 pub compile-tells : (a b : CompileAnswer) → compileTold (compiledoor.said a) ≡ compileTold (compiledoor.said b) → a ≡ b
-compile-tells (compile.Compiled e u) (compile.Compiled f v) h = ap₂ compile.Compiled (ap (λ (r : CompileResult). r .forward) h) (ap (λ (r : CompileResult). r .reverse) h)
-compile-tells (compile.Compiled e u) (compile.Refused c x) h = some-number c (ap (λ (r : CompileResult). r .refusal) h)
-compile-tells (compile.Refused c x) (compile.Compiled f v) h = some-number c (sym (ap (λ (r : CompileResult). r .refusal) h))
+compile-tells (compile.Compiled k e u) (compile.Compiled l f v) h =
+    let reached : k ≡ l = ap (λ (r : CompileResult). r .reached) h in
+    let forward : e ≡ f = ap (λ (r : CompileResult). r .forward) h in
+    let reverse : u ≡ v = ap (λ (r : CompileResult). r .reverse) h in
+    cc
+compile-tells (compile.Compiled k e u) (compile.Refused c x) h = some-number c (ap (λ (r : CompileResult). r .refusal) h)
+compile-tells (compile.Refused c x) (compile.Compiled l f v) h = some-number c (sym (ap (λ (r : CompileResult). r .refusal) h))
 compile-tells (compile.Refused c x) (compile.Refused d y) h = ap₂ compile.Refused (number-one c d (ap (λ (r : CompileResult). r .refusal) h)) (ap (λ (r : CompileResult). r .place) h)
 
 pub literals-tells : (a b : LiteralsAnswer) → literalsTold (literaldoor.said a) ≡ literalsTold (literaldoor.said b) → a ≡ b
-literals-tells (literals.Picked n k) (literals.Picked m l) h = ap₂ literals.Picked (ap (λ (r : LiteralsResult). r .count) h) (ap (λ (r : LiteralsResult). r .rank) h)
-literals-tells (literals.Picked n k) (literals.Refused c x) h = some-number c (ap (λ (r : LiteralsResult). r .refusal) h)
-literals-tells (literals.Refused c x) (literals.Picked m l) h = some-number c (sym (ap (λ (r : LiteralsResult). r .refusal) h))
+literals-tells (literals.Picked e n k) (literals.Picked f m l) h =
+    let reached : e ≡ f = ap (λ (r : LiteralsResult). r .reached) h in
+    let count : n ≡ m = ap (λ (r : LiteralsResult). r .count) h in
+    let rank : k ≡ l = ap (λ (r : LiteralsResult). r .rank) h in
+    cc
+literals-tells (literals.Picked e n k) (literals.Refused c x) h = some-number c (ap (λ (r : LiteralsResult). r .refusal) h)
+literals-tells (literals.Refused c x) (literals.Picked f m l) h = some-number c (sym (ap (λ (r : LiteralsResult). r .refusal) h))
 literals-tells (literals.Refused c x) (literals.Refused d y) h = ap₂ literals.Refused (number-one c d (ap (λ (r : LiteralsResult). r .refusal) h)) (ap (λ (r : LiteralsResult). r .place) h)
 
 pub mirror-tells : (a b : MirrorAnswer) → mirrorTold (mirrordoor.said a) ≡ mirrorTold (mirrordoor.said b) → a ≡ b

@@ -21,12 +21,12 @@ readTold (readdoor.gives reached words) = record { refusal = 0; place = 0; reach
 readTold (readdoor.refuses n place) = record { refusal = n; place = place; reached = 0; words = 0 }
 
 abbrev pub compileTold : compiledoor.Said → CompileResult
-compileTold (compiledoor.gives forward reverse) = record { refusal = 0; place = 0; forward = forward; reverse = reverse }
-compileTold (compiledoor.refuses n place) = record { refusal = n; place = place; forward = 0; reverse = 0 }
+compileTold (compiledoor.gives reached forward reverse) = record { refusal = 0; place = 0; reached = reached; forward = forward; reverse = reverse }
+compileTold (compiledoor.refuses n place) = record { refusal = n; place = place; reached = 0; forward = 0; reverse = 0 }
 
 abbrev pub literalsTold : literaldoor.Said → LiteralsResult
-literalsTold (literaldoor.gives count rank) = record { refusal = 0; rank = rank; place = 0; count = count }
-literalsTold (literaldoor.refuses n place) = record { refusal = n; rank = 0; place = place; count = 0 }
+literalsTold (literaldoor.gives reached count rank) = record { refusal = 0; rank = rank; place = 0; reached = reached; count = count }
+literalsTold (literaldoor.refuses n place) = record { refusal = n; rank = 0; place = place; reached = 0; count = 0 }
 
 abbrev pub mirrorTold : Said → MirrorResult
 mirrorTold (mirrored words) = record { refusal = 0; words = words }

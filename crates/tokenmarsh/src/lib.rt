@@ -6,6 +6,7 @@ use mirror::MirrorAnswer;
 use readdoor::ReadAnswer;
 ghost use mathlib.Core.Path.{_≡_};
 ghost use mathlib.Core.Bool.{cond};
+ghost use Prim.Native.Nat.{_+_, _*_};
 ghost use Rattle.meaning.specs.Values.{Bytes};
 ghost use Rattle.meaning.specs.Words.{sound};
 ghost use Rattle.mirror.specs.MirrorDoor.{mirrorSays, mirrorLeaves};
@@ -14,6 +15,14 @@ ghost use Rattle.checkdoors.specs.Doors.{said, forwardSays, reverseSays};
 ghost use Rattle.literaldoor.specs.Door.{literalsSays, bytesLeft, lengthsLeft};
 ghost use Rattle.readdoor.specs.Door.{readSays, readLeaves};
 ghost use Rattle.tokenmarsh.specs.Results.{readTold, compileTold, literalsTold, mirrorTold, checkTold, tailTold};
+
+// major * 65536 + minor * 256 + patch, of 0.2.0: a caller compares it with its header's TM_VERSION, since the structs may differ between versions.
+#[no_mangle]
+pub extern "C" fn tm_version() -> u32
+    ensures { λ r. ⌜ r ≡ 0 * 65536 + 2 * 256 + 0 ⌝ }
+{
+    512
+}
 
 #[repr(C)]
 pub struct ReadResult {
@@ -48,6 +57,7 @@ pub extern "C" fn tm_read(text: &[u8], pool: &mut [u32]) -> ReadResult
 pub struct CompileResult {
     pub refusal: u32,
     pub place: u64,
+    pub reached: u64,
     pub forward: u64,
     pub reverse: u64,
 }
@@ -60,15 +70,21 @@ pub extern "C" fn tm_compile(text: &[u8], forward: &mut [u32], reverse: &mut [u3
 {
     let r = compiledoor::compile(text, forward, reverse);
     match r {
-        CompileAnswer::Compiled(f, b) => CompileResult {
+        CompileAnswer::Compiled {
+            reached,
+            forward: f,
+            reverse: b,
+        } => CompileResult {
             refusal: 0,
             place: 0,
+            reached: reached as u64,
             forward: f as u64,
             reverse: b as u64,
         },
         CompileAnswer::Refused(why, place) => CompileResult {
             refusal: why.number(),
             place: place as u64,
+            reached: 0,
             forward: 0,
             reverse: 0,
         },
@@ -80,6 +96,7 @@ pub struct LiteralsResult {
     pub refusal: u32,
     pub rank: u32,
     pub place: u64,
+    pub reached: u64,
     pub count: u64,
 }
 
@@ -91,16 +108,22 @@ pub extern "C" fn tm_literals(text: &[u8], bytes: &mut [u8], lengths: &mut [u16]
 {
     let r = literaldoor::literals(text, bytes, lengths);
     match r {
-        LiteralsAnswer::Picked { count, rank } => LiteralsResult {
+        LiteralsAnswer::Picked {
+            reached,
+            count,
+            rank,
+        } => LiteralsResult {
             refusal: 0,
             rank,
             place: 0,
+            reached: reached as u64,
             count: count as u64,
         },
         LiteralsAnswer::Refused(why, place) => LiteralsResult {
             refusal: why.number(),
             rank: 0,
             place: place as u64,
+            reached: 0,
             count: 0,
         },
     }

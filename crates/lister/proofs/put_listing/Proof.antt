@@ -23,11 +23,11 @@ abbrev claims : lts.Claims
 claims = (compile-reads.Asked, compile-reads.Learnt, put-programs-reads.Asked, put-programs-reads.Learnt, put-picked-reads.Asked, put-picked-reads.Learnt, number-reads.Asked, number-reads.Learnt, put-refused-reads.Asked, put-refused-reads.Learnt)
 
 -- what stands in the pools once compiling has given programs
-made-here : (c : lts.After-got claims reads.Pre reads.Post) → Made (reading (c .before .before .before .before .before .before .before .before .before .args .text .now)) (c .got .given .0 .0) (c .got .given .0 .1 .0) (c .before .before .before .before .compile .last .1 .0) (c .before .before .before .before .compile .last .1 .1 .0)
+made-here : (c : lts.After-got claims reads.Pre reads.Post) → Made (reading (c .before .before .before .before .before .before .before .before .before .args .text .now)) (c .got .given .0 .1 .0) (c .got .given .0 .1 .1 .0) (c .before .before .before .before .compile .last .1 .0) (c .before .before .before .before .compile .last .1 .1 .0)
 made-here c =
     let k = c .before .before .before .before .compile in
     let g = c .got .given in
-    made-door (c .before .before .before .before .before .before .before .before .before .args .text .now) (zeros 512) (zeros 512) (k .last .1 .0) (k .last .1 .1 .0) (g .0 .0) (g .0 .1 .0) (k .result) (length-zeros 512) (length-zeros 512) (k .kept .1 .0 ∙ length-zeros 512) (k .kept .1 .1 .0 ∙ length-zeros 512) (g .1) (k .ensures .0) (k .ensures .1) (k .ensures .2)
+    made-door (c .before .before .before .before .before .before .before .before .before .args .text .now) (zeros 512) (zeros 512) (k .last .1 .0) (k .last .1 .1 .0) (g .0 .0) (g .0 .1 .0) (g .0 .1 .1 .0) (k .result) (length-zeros 512) (length-zeros 512) (k .kept .1 .0 ∙ length-zeros 512) (k .kept .1 .1 .0 ∙ length-zeros 512) (g .1) (k .ensures .0) (k .ensures .1) (k .ensures .2)
 
 slice-aggregate-compile : tie.Need-slice-aggregate-compile
 slice-aggregate-compile c = search needs

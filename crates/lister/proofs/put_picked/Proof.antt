@@ -22,11 +22,11 @@ abbrev claims : lts.Claims
 claims = (literals-reads.Asked, literals-reads.Learnt, put-literals-reads.Asked, put-literals-reads.Learnt, number-reads.Asked, number-reads.Learnt, put-literals-refused-reads.Asked, put-literals-refused-reads.Learnt)
 
 -- what stands in the buffers once literals were picked
-taken-here : (c : lts.After-got claims reads.Pre reads.Post) → Taken (reading (c .before .before .before .before .before .before .before .before .before .args .text .now)) (c .got .given .0 .0) (c .got .given .0 .1 .0) (c .before .before .before .before .literals .last .1 .0) (c .before .before .before .before .literals .last .1 .1 .0)
+taken-here : (c : lts.After-got claims reads.Pre reads.Post) → Taken (reading (c .before .before .before .before .before .before .before .before .before .args .text .now)) (c .got .given .0 .1 .0) (c .got .given .0 .1 .1 .0) (c .before .before .before .before .literals .last .1 .0) (c .before .before .before .before .literals .last .1 .1 .0)
 taken-here c =
     let k = c .before .before .before .before .literals in
     let g = c .got .given in
-    taken-door (zeros 32768) (zeros 256) (length-zeros 32768) (length-zeros 256) (c .before .before .before .before .before .before .before .before .before .args .text .now) (k .last .1 .0) (k .last .1 .1 .0) (g .0 .0) (g .0 .1 .0) (k .result) (g .1) (k .ensures .0) (k .ensures .1) (k .ensures .2)
+    taken-door (zeros 32768) (zeros 256) (length-zeros 32768) (length-zeros 256) (c .before .before .before .before .before .before .before .before .before .args .text .now) (k .last .1 .0) (k .last .1 .1 .0) (g .0 .0) (g .0 .1 .0) (g .0 .1 .1 .0) (k .result) (g .1) (k .ensures .0) (k .ensures .1) (k .ensures .2)
 
 slice-aggregate-literals : tie.Need-slice-aggregate-literals
 slice-aggregate-literals c = search needs

@@ -33,21 +33,11 @@ part-pick-tokens-start c = search needs
 
 -- src/lib.rt:70:59
 part-pick-tokens-end : tie.Need-part-pick-tokens-end
-part-pick-tokens-end c =
-    let g = (into.got (c .before .before .before .before .before .before .before .before .before .before .args .text .now) _ (c .before .before .before .before .before .read .last .1 .0)
-    (c .before .before .before .before .before .read .result) (c .before .before .before .before .before .read .ensures .0) (c .before .before .before .before .before .read .ensures .1)
-    (le-refl 4096) (c .before .before .r .given .0 .0) (c .before .before .r .given .0 .1 .0) (c .before .before .r .given .1)) .fits in
-    let k : length (c .before .before .before .before .before .read .last .1 .0) ≡ 4096 = c .before .before .before .before .before .read .kept .1 .0 in omega arith
+part-pick-tokens-end c = let g = (into.got (c .before .before .before .before .before .before .before .before .before .before .args .text .now) _ (c .before .before .before .before .before .read .last .1 .0) (c .before .before .before .before .before .read .result) (c .before .before .before .before .before .read .ensures .0) (c .before .before .before .before .before .read .ensures .1) (le-refl 4096) (c .before .before .r .given .0 .0) (c .before .before .r .given .0 .1 .0) (c .before .before .r .given .1)) .fits in let k : length (c .before .before .before .before .before .read .last .1 .0) ≡ 4096 = c .before .before .before .before .before .read .kept .1 .0 in omega arith
 
 -- src/lib.rt:70:47
 pick-tokens-requires : tie.Need-pick-tokens-requires
-pick-tokens-requires c κs =
-    let g = into.got (c .before .before .before .before .before .before .before .before .before .before .before .before .before .args .text .now) _
-    (c .before .before .before .before .before .before .before .before .read .last .1 .0) (c .before .before .before .before .before .before .before .before .read .result)
-    (c .before .before .before .before .before .before .before .before .read .ensures .0) (c .before .before .before .before .before .before .before .before .read .ensures .1) (le-refl 4096)
-    (c .before .before .before .before .before .r .given .0 .0) (c .before .before .before .before .before .r .given .0 .1 .0)
-    (c .before .before .before .before .before .r .given .1) in told.entries-asked
-    (c .before .before .before .before .before .before .before .before .before .before .before .before .before .args .text .now) _ (g .tokens) (g .outcome) _ (g .words) (g .few)
+pick-tokens-requires c κs = let g = into.got (c .before .before .before .before .before .before .before .before .before .before .before .before .before .args .text .now) _ (c .before .before .before .before .before .before .before .before .read .last .1 .0) (c .before .before .before .before .before .before .before .before .read .result) (c .before .before .before .before .before .before .before .before .read .ensures .0) (c .before .before .before .before .before .before .before .before .read .ensures .1) (le-refl 4096) (c .before .before .before .before .before .r .given .0 .0) (c .before .before .before .before .before .r .given .0 .1 .0) (c .before .before .before .before .before .r .given .1) in told.entries-asked (c .before .before .before .before .before .before .before .before .before .before .before .before .before .args .text .now) _ (g .tokens) (g .outcome) _ (g .words) (g .few)
 
 -- src/lib.rt:71:29
 enum-known-r-2 : tie.Need-enum-known-r-2
@@ -63,30 +53,11 @@ same-length-2 c = search needs
 
 -- src/lib.rt:62:1
 returns : tie.Need-returns
-returns c =
-    let g = into.got (c .before .before .before .before .before .before .before .before .before .before .before .before .before .before .before .before .before .before .args .text .now) _
-    (c .before .before .before .before .before .before .before .before .before .before .before .before .before .read .last .1 .0)
-    (c .before .before .before .before .before .before .before .before .before .before .before .before .before .read .result)
-    (c .before .before .before .before .before .before .before .before .before .before .before .before .before .read .ensures .0)
-    (c .before .before .before .before .before .before .before .before .before .before .before .before .before .read .ensures .1) (le-refl 4096)
-    (c .before .before .before .before .before .before .before .before .before .before .r .given .0 .0)
-    (c .before .before .before .before .before .before .before .before .before .before .r .given .0 .1 .0)
-    (c .before .before .before .before .before .before .before .before .before .before .r .given .1) in law.text-picked
-    (c .before .before .before .before .before .before .before .before .before .before .before .before .before .before .before .before .before .before .args .text .now) _ (g .tokens) _
-    (said (c .before .before .before .before .pick-tokens .result))
-    (c .before .before .before .before .before .before .before .before .before .before .before .before .before .before .before .before .before .before .args .bytes .now)
-    (c .before .before .before .before .before .before .before .before .before .before .before .before .before .before .before .before .before .before .args .lengths .now)
-    (c .before .before .before .before .pick-tokens .last .1 .0) (c .before .before .before .before .pick-tokens .last .1 .1 .0) (g .outcome) (g .words)
-    (c .before .before .before .before .pick-tokens .ensures)
+returns c = let g = into.got (c .before .before .before .before .before .before .before .before .before .before .before .before .before .before .before .before .before .before .args .text .now) _ (c .before .before .before .before .before .before .before .before .before .before .before .before .before .read .last .1 .0) (c .before .before .before .before .before .before .before .before .before .before .before .before .before .read .result) (c .before .before .before .before .before .before .before .before .before .before .before .before .before .read .ensures .0) (c .before .before .before .before .before .before .before .before .before .before .before .before .before .read .ensures .1) (le-refl 4096) (c .before .before .before .before .before .before .before .before .before .before .r .given .0 .0) (c .before .before .before .before .before .before .before .before .before .before .r .given .0 .1 .0) (c .before .before .before .before .before .before .before .before .before .before .r .given .1) in law.text-picked (c .before .before .before .before .before .before .before .before .before .before .before .before .before .before .before .before .before .before .args .text .now) _ (g .tokens) _ (said (c .before .before .before .before .pick-tokens .result)) (c .before .before .before .before .before .before .before .before .before .before .before .before .before .before .before .before .before .before .args .bytes .now) (c .before .before .before .before .before .before .before .before .before .before .before .before .before .before .before .before .before .before .args .lengths .now) (c .before .before .before .before .pick-tokens .last .1 .1 .0) (c .before .before .before .before .pick-tokens .last .1 .1 .1 .0) (g .outcome) (g .words) (c .before .before .before .before .pick-tokens .ensures)
 
 -- src/lib.rt:62:1
 returns-2 : tie.Need-returns-2
-returns-2 c =
-    law.text-refused (c .before .before .before .before .before .before .before .before .before .args .text .now) (c .before .r2 .given .0 .0) (c .before .r2 .given .0 .1 .0)
-    (c .before .before .before .before .before .before .before .before .before .args .bytes .now) (c .before .before .before .before .before .before .before .before .before .args .lengths .now)
-    (into.got-refused (c .before .before .before .before .before .before .before .before .before .args .text .now) _ (c .before .before .before .before .read .last .1 .0)
-    (c .before .before .before .before .read .result) (c .before .before .before .before .read .ensures .0) (c .before .before .before .before .read .ensures .1) (le-refl 4096)
-    (c .before .r2 .given .0 .0) (c .before .r2 .given .0 .1 .0) (c .before .r2 .given .1))
+returns-2 c = law.text-refused (c .before .before .before .before .before .before .before .before .before .args .text .now) (c .before .r2 .given .0 .0) (c .before .r2 .given .0 .1 .0) (c .before .before .before .before .before .before .before .before .before .args .bytes .now) (c .before .before .before .before .before .before .before .before .before .args .lengths .now) (into.got-refused (c .before .before .before .before .before .before .before .before .before .args .text .now) _ (c .before .before .before .before .read .last .1 .0) (c .before .before .before .before .read .result) (c .before .before .before .before .read .ensures .0) (c .before .before .before .before .read .ensures .1) (le-refl 4096) (c .before .r2 .given .0 .0) (c .before .r2 .given .0 .1 .0) (c .before .r2 .given .1))
 
 pub literals-spec : {M : Type 1} → statement M
 literals-spec =

@@ -15,7 +15,7 @@ is-plain-requires c κs = search needs
 
 -- src/lib.rt:55:9
 returns : tie.Need-returns
-returns c = law.not-plain (tokensIn (c .before .before .before .before .before .args .ws .now)) (c .before .before .before .before .before .args .bytes .now) (c .before .before .before .before .before .args .lengths .now) (sym (c .before .is-plain .ensures) ∙ not-true _ (c .if1 .taken))
+returns c = law.not-plain (c .before .before .before .before .before .args .reached) (tokensIn (c .before .before .before .before .before .args .ws .now)) (c .before .before .before .before .before .args .bytes .now) (c .before .before .before .before .before .args .lengths .now) (sym (c .before .is-plain .ensures) ∙ not-true _ (c .if1 .taken))
 
 -- src/lib.rt:57:9
 choose-requires : tie.Need-choose-requires
@@ -35,16 +35,7 @@ same-length-2 c = search needs
 
 -- src/lib.rt:50:1
 returns-2 : tie.Need-returns-2
-returns-2 c =
-    law.plain-chosen (tokensIn (c .before .before .before .before .before .before .before .before .before .before .before .before .before .args .ws .now))
-    (choiceSays (c .before .before .before .before .before .before .before .before .before .before .before .before .before .args .ws .now)
-    (c .before .before .before .before .before .before .before .choose .result)) (said (c .before .before .before .before .write-choice .result))
-    (c .before .before .before .before .before .before .before .before .before .before .before .before .before .args .bytes .now)
-    (c .before .before .before .before .before .before .before .before .before .before .before .before .before .args .lengths .now)
-    (c .before .before .before .before .write-choice .last .1 .1 .0) (c .before .before .before .before .write-choice .last .1 .1 .1 .0)
-    (sym (c .before .before .before .before .before .before .before .before .before .is-plain .ensures)
-    ∙ not-false _ (c .before .before .before .before .before .before .before .before .if1 .left)) (c .before .before .before .before .before .before .before .choose .ensures .0)
-    (c .before .before .before .before .write-choice .ensures)
+returns-2 c = law.plain-chosen (c .before .before .before .before .before .before .before .before .before .before .before .before .before .args .reached) (tokensIn (c .before .before .before .before .before .before .before .before .before .before .before .before .before .args .ws .now)) (choiceSays (c .before .before .before .before .before .before .before .before .before .before .before .before .before .args .ws .now) (c .before .before .before .before .before .before .before .choose .result)) (said (c .before .before .before .before .write-choice .result)) (c .before .before .before .before .before .before .before .before .before .before .before .before .before .args .bytes .now) (c .before .before .before .before .before .before .before .before .before .before .before .before .before .args .lengths .now) (c .before .before .before .before .write-choice .last .1 .1 .1 .0) (c .before .before .before .before .write-choice .last .1 .1 .1 .1 .0) (sym (c .before .before .before .before .before .before .before .before .before .is-plain .ensures) ∙ not-false _ (c .before .before .before .before .before .before .before .before .if1 .left)) (c .before .before .before .before .before .before .before .choose .ensures .0) (c .before .before .before .before .write-choice .ensures)
 
 pub pick-tokens-spec : {M : Type 1} → statement M
 pick-tokens-spec =

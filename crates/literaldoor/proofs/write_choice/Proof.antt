@@ -35,13 +35,7 @@ part-write-taken-end c = let k = subst (Kept (c .before .before .before .before 
 
 -- src/lib.rt:44:40
 write-taken-requires : tie.Need-write-taken-requires
-write-taken-requires c κs =
-    let k = subst (Kept (c .before .before .before .before .before .before .before .before .before .args .ws .now)) (c .before .before .before .before .choice .given .1)
-    (c .before .before .before .before .before .before .before .before .before .pre .1) in (
-      part-few (c .before .before .before .before .before .before .before .before .before .args .ws .now) (c .before .before .before .before .choice .given .0 .0)
-          (c .before .before .before .before .choice .given .0 .1 .0) (c .before .before .before .before .before .before .before .before .before .pre .0),
-      k .2,
-    )
+write-taken-requires c κs = let k = subst (Kept (c .before .before .before .before .before .before .before .before .before .args .ws .now)) (c .before .before .before .before .choice .given .1) (c .before .before .before .before .before .before .before .before .before .pre .1) in (part-few (c .before .before .before .before .before .before .before .before .before .args .ws .now) (c .before .before .before .before .choice .given .0 .0) (c .before .before .before .before .choice .given .0 .1 .0) (c .before .before .before .before .before .before .before .before .before .pre .0), k .2)
 
 -- src/lib.rt:45:50
 enum-told-2 : tie.Need-enum-told-2
@@ -49,7 +43,7 @@ enum-told-2 c = search needs
 
 -- src/lib.rt:38:1
 returns : tie.Need-returns
-returns c = law.nothing-chosen (c .before .before .before .before .before .args .ws .now) (c .before .before .before .before .before .args .choice) (c .before .before .before .before .before .args .bytes .now) (c .before .before .before .before .before .args .lengths .now) (c .enum-told .given .1)
+returns c = law.nothing-chosen (c .before .before .before .before .before .args .reached) (c .before .before .before .before .before .args .ws .now) (c .before .before .before .before .before .args .choice) (c .before .before .before .before .before .args .bytes .now) (c .before .before .before .before .before .args .lengths .now) (c .enum-told .given .1)
 
 -- src/lib.rt:38:1
 same-length : tie.Need-same-length
@@ -61,18 +55,11 @@ same-length-2 c = search needs
 
 -- src/lib.rt:38:1
 returns-2 : tie.Need-returns-2
-returns-2 c =
-    law.words-chosen (c .before .before .before .before .before .before .before .before .before .before .before .before .before .before .args .ws .now)
-    (c .before .before .before .before .before .before .before .before .before .before .before .before .before .before .args .choice)
-    (c .before .before .before .before .before .before .before .before .before .before .before .before .before .before .args .bytes .now)
-    (c .before .before .before .before .before .before .before .before .before .before .before .before .before .before .args .lengths .now) _ _ _
-    (said (c .before .before .before .before .write-taken .result)) (c .before .before .before .before .write-taken .last .1 .1 .0)
-    (c .before .before .before .before .write-taken .last .1 .1 .1 .0) (c .before .before .before .before .before .before .before .before .before .choice .given .1)
-    (c .before .before .before .before .write-taken .ensures)
+returns-2 c = law.words-chosen (c .before .before .before .before .before .before .before .before .before .before .before .before .before .before .args .reached) (c .before .before .before .before .before .before .before .before .before .before .before .before .before .before .args .ws .now) (c .before .before .before .before .before .before .before .before .before .before .before .before .before .before .args .choice) (c .before .before .before .before .before .before .before .before .before .before .before .before .before .before .args .bytes .now) (c .before .before .before .before .before .before .before .before .before .before .before .before .before .before .args .lengths .now) _ _ _ (said (c .before .before .before .before .write-taken .result)) (c .before .before .before .before .write-taken .last .1 .1 .1 .0) (c .before .before .before .before .write-taken .last .1 .1 .1 .1 .0) (c .before .before .before .before .before .before .before .before .before .choice .given .1) (c .before .before .before .before .write-taken .ensures)
 
 -- src/lib.rt:38:1
 returns-3 : tie.Need-returns-3
-returns-3 c = law.too-many (c .before .before .before .before .before .args .ws .now) (c .before .before .before .before .before .args .choice) (c .before .before .before .before .before .args .bytes .now) (c .before .before .before .before .before .args .lengths .now) (c .enum-told2 .given .1)
+returns-3 c = law.too-many (c .before .before .before .before .before .args .reached) (c .before .before .before .before .before .args .ws .now) (c .before .before .before .before .before .args .choice) (c .before .before .before .before .before .args .bytes .now) (c .before .before .before .before .before .args .lengths .now) (c .enum-told2 .given .1)
 
 pub write-choice-spec : {M : Type 1} → statement M
 write-choice-spec =

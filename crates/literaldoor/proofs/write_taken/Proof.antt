@@ -28,14 +28,7 @@ same-length-2 c = search needs
 
 -- src/lib.rt:26:1
 returns : tie.Need-returns
-returns c =
-    law.all-written (literalsOf (tokensIn (c .before .before .before .before .before .before .before .before .before .before .before .before .before .args .ws .now)))
-    (c .before .before .before .before .before .before .before .before .before .before .before .before .before .args .rank)
-    (c .before .before .before .before .before .before .before .write-all .result)
-    (c .before .before .before .before .before .before .before .before .before .before .before .before .before .args .bytes .now)
-    (c .before .before .before .before .before .before .before .before .before .before .before .before .before .args .lengths .now)
-    (c .before .before .before .before .before .before .before .write-all .last .1 .0) (c .before .before .before .before .before .before .before .write-all .last .1 .1 .0)
-    (c .before .before .before .before .before .before .before .write-all .ensures) _ (c .before .w .given .1)
+returns c = law.all-written (c .before .before .before .before .before .before .before .before .before .before .before .before .before .args .reached) (literalsOf (tokensIn (c .before .before .before .before .before .before .before .before .before .before .before .before .before .args .ws .now))) (c .before .before .before .before .before .before .before .before .before .before .before .before .before .args .rank) (c .before .before .before .before .before .before .before .write-all .result) (c .before .before .before .before .before .before .before .before .before .before .before .before .before .args .bytes .now) (c .before .before .before .before .before .before .before .before .before .before .before .before .before .args .lengths .now) (c .before .before .before .before .before .before .before .write-all .last .1 .0) (c .before .before .before .before .before .before .before .write-all .last .1 .1 .0) (c .before .before .before .before .before .before .before .write-all .ensures) _ (c .before .w .given .1)
 
 -- src/lib.rt:26:1
 same-length-3 : tie.Need-same-length-3
@@ -47,13 +40,7 @@ same-length-4 c = search needs
 
 -- src/lib.rt:26:1
 returns-2 : tie.Need-returns-2
-returns-2 c =
-    law.none-written (literalsOf (tokensIn (c .before .before .before .before .before .before .before .before .before .before .before .before .args .ws .now)))
-    (c .before .before .before .before .before .before .before .before .before .before .before .before .args .rank) (c .before .before .before .before .before .before .write-all .result)
-    (c .before .before .before .before .before .before .before .before .before .before .before .before .args .bytes .now)
-    (c .before .before .before .before .before .before .before .before .before .before .before .before .args .lengths .now)
-    (c .before .before .before .before .before .before .write-all .last .1 .0) (c .before .before .before .before .before .before .write-all .last .1 .1 .0)
-    (c .before .before .before .before .before .before .write-all .ensures) (c .enum-told .given .1)
+returns-2 c = law.none-written (c .before .before .before .before .before .before .before .before .before .before .before .before .args .reached) (literalsOf (tokensIn (c .before .before .before .before .before .before .before .before .before .before .before .before .args .ws .now))) (c .before .before .before .before .before .before .before .before .before .before .before .before .args .rank) (c .before .before .before .before .before .before .write-all .result) (c .before .before .before .before .before .before .before .before .before .before .before .before .args .bytes .now) (c .before .before .before .before .before .before .before .before .before .before .before .before .args .lengths .now) (c .before .before .before .before .before .before .write-all .last .1 .0) (c .before .before .before .before .before .before .write-all .last .1 .1 .0) (c .before .before .before .before .before .before .write-all .ensures) (c .enum-told .given .1)
 
 pub write-taken-spec : {M : Type 1} → statement M
 write-taken-spec =

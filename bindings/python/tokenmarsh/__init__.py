@@ -19,12 +19,15 @@ The work is done by libtokenmarsh.so, from the file that TOKENMARSH_SO names, or
 """
 import ctypes
 import enum
+import mmap
 import operator
 import os
 from dataclasses import dataclass
-from typing import NamedTuple, Optional, Tuple, Union
+from typing import Any, Iterable, List, NamedTuple, Optional, Sequence, Tuple, Union
 
-__all__ = ["Refusal", "Refused", "Mask", "Byte", "NotByte", "MaskedByte", "NotMaskedByte", "Jump", "Alternatives", "Token", "Read", "Forward", "Reverse",
+__version__ = "0.2.0"
+
+__all__ = ["Buffer", "Refusal", "Refused", "Mask", "Byte", "NotByte", "MaskedByte", "NotMaskedByte", "Jump", "Alternatives", "Token", "Read", "Forward", "Reverse",
            "Pattern", "Literals", "read", "compile", "literals", "forward", "reverse", "mirror", "sound"]
 
 TOKEN_POOL = 4096
@@ -33,11 +36,16 @@ NODE_POOL = 512
 LITERAL_BYTES = 256 * 512
 LITERAL_COUNT = 256
 
+# Type checkers have no name for what holds bytes before Python 3.12; others than these are taken as well.
+Buffer = Union[bytes, bytearray, memoryview, mmap.mmap]
+
 
 class Refusal(enum.IntEnum):
     """Why a call gives no answer: a number, and its `meaning`."""
 
-    def __new__(cls, number, meaning):
+    meaning: str
+
+    def __new__(cls, number: int, meaning: str = "") -> "Refusal":
         one = int.__new__(cls, number)
         one._value_, one.meaning = number, meaning
         return one
@@ -66,13 +74,13 @@ class Refusal(enum.IntEnum):
 class Refused(ValueError):
     """A refusal, and the offset in the text that it is given at (0 where none is meant)."""
 
-    def __init__(self, number: int, place: int = 0):
+    def __init__(self, number: int, place: int = 0) -> None:
         # What an exception is made anew from, when it is copied or sent to another process.
         super().__init__(int(number), place)
         self.refusal = Refusal(number)
         self.place = place
 
-    def __str__(self):
+    def __str__(self) -> str:
         return f"refused {self.refusal.value} at {self.place}: {self.refusal.meaning}"
 
 
@@ -150,30 +158,39 @@ class Literals(NamedTuple):
 _u8, _u16, _u32, _u64, _size = ctypes.c_uint8, ctypes.c_uint16, ctypes.c_uint32, ctypes.c_uint64, ctypes.c_size_t
 
 
-def _result(*fields):
+def _result(*fields: Tuple[str, Any]) -> Any:
     return type("_Result", (ctypes.Structure,), {"_fields_": list(fields)})
 
 
 _ReadResult = _result(("refusal", _u32), ("place", _u64), ("reached", _u64), ("words", _u64))
-_CompileResult = _result(("refusal", _u32), ("place", _u64), ("forward", _u64), ("reverse", _u64))
-_LiteralsResult = _result(("refusal", _u32), ("rank", _u32), ("place", _u64), ("count", _u64))
+_CompileResult = _result(("refusal", _u32), ("place", _u64), ("reached", _u64), ("forward", _u64), ("reverse", _u64))
+_LiteralsResult = _result(("refusal", _u32), ("rank", _u32), ("place", _u64), ("reached", _u64), ("count", _u64))
 _CheckResult = _result(("refusal", _u32), ("found", _u32), ("offset", _u64))
 _TailResult = _result(("offset", _u64), ("length", _u64))
 _MirrorResult = _result(("refusal", _u32), ("words", _u64))
 
 
-def _load():
-    here = os.path.dirname(os.path.abspath(__file__))
-    built = os.path.join(here, "..", "..", "target", "staticlib", "libtokenmarsh.so")
+def _load() -> ctypes.CDLL:
     named = os.environ.get("TOKENMARSH_SO")
+    # The repository's own build, or PREFIX/lib as `make install` lays it out, three folders above this one; else where the system looks.
+    above = os.path.abspath(os.path.join(os.path.dirname(__file__), "..", "..", ".."))
+    near = [os.path.join(above, "target", "staticlib", "libtokenmarsh.so"), os.path.join(above, "libtokenmarsh.so.0.2")]
+    # A name without a folder is a file here, and not one where the system looks.
+    path = os.path.abspath(named) if named else next(filter(os.path.exists, near), "libtokenmarsh.so.0.2")
     try:
-        lib = ctypes.CDLL(named if named else built if os.path.exists(built) else "libtokenmarsh.so.0")
-    except OSError as error:
-        raise ImportError(f"no libtokenmarsh.so: run make, or name it by TOKENMARSH_SO ({error})") from error
+        return _declared(ctypes.CDLL(path))
+    except (OSError, AttributeError) as error:
+        why = "which TOKENMARSH_SO names" if named else "run make, or name the file by TOKENMARSH_SO"
+        raise ImportError(f"no tokenmarsh library in {path}, {why}: {error}", name=__name__, path=path) from error
+
+
+def _declared(lib: ctypes.CDLL) -> ctypes.CDLL:
+    """The library, its functions declared. An AttributeError if it lacks one, and so is another library."""
     text = [ctypes.c_char_p, _size]
     words = [ctypes.POINTER(_u32), _size]
     window = words + [ctypes.c_char_p, _size, _size, _size]
     for name, result, arguments in (
+        ("tm_version", _u32, []),
         ("tm_read", _ReadResult, text + words),
         ("tm_compile", _CompileResult, text + words + words),
         ("tm_literals", _LiteralsResult, text + [ctypes.POINTER(_u8), _size, ctypes.POINTER(_u16), _size]),
@@ -191,7 +208,7 @@ def _load():
 _lib = _load()
 
 
-def _bytes(lent) -> bytes:
+def _bytes(lent: Buffer) -> bytes:
     """The bytes of a buffer; of `bytes` these themselves. Not of a number, which `bytes` would take for a count of zeros, nor of wider items."""
     view = memoryview(lent)
     if view.ndim != 1 or view.itemsize != 1:
@@ -199,14 +216,14 @@ def _bytes(lent) -> bytes:
     return lent if type(lent) is bytes else bytes(view)
 
 
-def _words(words):
-    words = tuple(map(operator.index, words))
-    if any(not 0 <= w < 1 << 32 for w in words):
+def _words(words: Iterable[int]) -> Tuple["ctypes.Array[ctypes.c_uint32]", int]:
+    lent = tuple(map(operator.index, words))
+    if any(not 0 <= w < 1 << 32 for w in lent):
         raise ValueError("a word has 32 bits")
-    return (_u32 * len(words))(*words), len(words)
+    return (_u32 * len(lent))(*lent), len(lent)
 
 
-def _offset(number) -> int:
+def _offset(number: int) -> int:
     """A window's bound. ctypes would cut a number that is no size_t down to one, and no haystack has an offset that is none."""
     number = operator.index(number)
     if not 0 <= number <= _size(-1).value:
@@ -214,20 +231,22 @@ def _offset(number) -> int:
     return number
 
 
-def _answered(result):
+def _answered(result: Any) -> Any:
     if result.refusal:
         raise Refused(result.refusal, getattr(result, "place", 0))
     return result
 
 
-def _list(entries):
-    tokens, at = [], 0
+def _list(entries: Sequence[Tuple[int, ...]]) -> Tuple[Token, ...]:
+    tokens: List[Token] = []
+    at = 0
     while at < len(entries):
         kind, a, b, c = entries[at]
         at += 1
         if kind == 5:
             inside, at = entries[at:at + b], at + b
-            lists, k = [], 0
+            lists: List[Tuple[Token, ...]] = []
+            k = 0
             while k < len(inside):
                 size = inside[k][2]
                 lists.append(_list(inside[k + 1:k + 1 + size]))
@@ -238,7 +257,7 @@ def _list(entries):
     return tuple(tokens)
 
 
-def read(text: bytes) -> Read:
+def read(text: Buffer) -> Read:
     """The tokens of a hexadecimal string, and the offset reached. Refusals 1 to 11."""
     text = _bytes(text)
     pool = (_u32 * TOKEN_POOL)()
@@ -249,38 +268,37 @@ def read(text: bytes) -> Read:
 class _Program:
     """Words that are sound, tested once. Its two kinds mean different things by the same words, and so can do different things."""
 
-    def __init__(self, words):
+    def __init__(self, words: Iterable[int]) -> None:
         """Refusals 13, 15."""
-        words = tuple(map(operator.index, words))
-        if len(words) > NODE_POOL:
+        self._words = tuple(map(operator.index, words))
+        if len(self._words) > NODE_POOL:
             raise Refused(Refusal.TOO_MANY_NODES)
-        if not sound(words):
+        if not sound(self._words):
             raise Refused(Refusal.UNSOUND)
-        self._words = words
 
     @property
     def words(self) -> Tuple[int, ...]:
         """Its node words."""
         return self._words
 
-    def __eq__(self, other):
-        return type(self) is type(other) and self.words == other.words
+    def __eq__(self, other: object) -> bool:
+        return isinstance(other, _Program) and type(self) is type(other) and self.words == other.words
 
-    def __hash__(self):
+    def __hash__(self) -> int:
         return hash((type(self), self.words))
 
-    def __repr__(self):
+    def __repr__(self) -> str:
         return "%s([%s])" % (type(self).__name__, ", ".join(f"0x{w:08X}" for w in self.words))
 
 
 class Forward(_Program):
     """A sound program that is searched forward. Its checks take a window as bytes and cannot be refused."""
 
-    def end(self, window: bytes) -> Optional[int]:
+    def end(self, window: Buffer) -> Optional[int]:
         """Where the first choice ends that fits the window from its start, or None."""
         return forward(self.words, window, 0, len(window))
 
-    def tail(self, window: bytes) -> memoryview:
+    def tail(self, window: Buffer) -> memoryview:
         """What `end` leaves of the window, as a part of it; empty if nothing fits."""
         words, n = _words(self.words)
         r = _lib.tm_tail(words, n, _bytes(window), len(window), 0, len(window))
@@ -294,7 +312,7 @@ class Forward(_Program):
 class Reverse(_Program):
     """A sound program that is searched in reverse: its first node is the last of what it fits. Its checks take a window as bytes and cannot be refused."""
 
-    def start(self, window: bytes) -> Optional[int]:
+    def start(self, window: Buffer) -> Optional[int]:
         """Where the first choice starts that fits the window up to its end, or None."""
         return reverse(self.words, window, 0, len(window))
 
@@ -310,7 +328,7 @@ class Pattern(NamedTuple):
     reverse: Reverse
 
 
-def compile(text: bytes) -> Pattern:
+def compile(text: Buffer) -> Pattern:
     """The two programs of a hexadecimal string. Refusals 1 to 11, then 12, 14, 13."""
     text = _bytes(text)
     ahead, back = (_u32 * NODE_POOL)(), (_u32 * NODE_POOL)()
@@ -318,7 +336,7 @@ def compile(text: bytes) -> Pattern:
     return Pattern(Forward(ahead[:r.forward]), Reverse(back[:r.reverse]))
 
 
-def literals(text: bytes) -> Literals:
+def literals(text: Buffer) -> Literals:
     """The literals to search for (if there are any, every match holds one of them), and their rank. Refusals 1 to 11, then 19, 17."""
     text = _bytes(text)
     data, lengths = (_u8 * LITERAL_BYTES)(), (_u16 * LITERAL_COUNT)()
@@ -330,32 +348,32 @@ def literals(text: bytes) -> Literals:
     return Literals(tuple(out), r.rank)
 
 
-def _check(function, words, haystack, start, end):
-    words, n = _words(words)
+def _check(function: Any, words: Iterable[int], haystack: Buffer, start: int, end: int) -> Optional[int]:
+    lent, n = _words(words)
     haystack = _bytes(haystack)
-    r = _answered(function(words, n, haystack, len(haystack), _offset(start), _offset(end)))
-    return r.offset if r.found else None
+    r = _answered(function(lent, n, haystack, len(haystack), _offset(start), _offset(end)))
+    return int(r.offset) if r.found else None
 
 
-def forward(words, haystack: bytes, start: int, end: int) -> Optional[int]:
+def forward(words: Iterable[int], haystack: Buffer, start: int, end: int) -> Optional[int]:
     """The end of the first choice that fits the window from its start, or None. Refusals 16, 13, 15."""
     return _check(_lib.tm_forward, words, haystack, start, end)
 
 
-def reverse(words, haystack: bytes, start: int, end: int) -> Optional[int]:
+def reverse(words: Iterable[int], haystack: Buffer, start: int, end: int) -> Optional[int]:
     """The start of the first choice that fits the window up to its end, or None. Refusals 16, 13, 15."""
     return _check(_lib.tm_reverse, words, haystack, start, end)
 
 
-def mirror(words) -> Tuple[int, ...]:
+def mirror(words: Iterable[int]) -> Tuple[int, ...]:
     """The words of the mirror. Refusals 13, 15."""
-    words, n = _words(words)
+    lent, n = _words(words)
     pool = (_u32 * NODE_POOL)()
-    r = _answered(_lib.tm_mirror(words, n, pool, NODE_POOL))
+    r = _answered(_lib.tm_mirror(lent, n, pool, NODE_POOL))
     return tuple(pool[:r.words])
 
 
-def sound(words) -> bool:
+def sound(words: Iterable[int]) -> bool:
     """Whether words are a sound program."""
-    words, n = _words(words)
-    return _lib.tm_sound(words, n) == 1
+    lent, n = _words(words)
+    return bool(_lib.tm_sound(lent, n) == 1)

@@ -1,0 +1,44 @@
+-- The door says that it wrote the whole listing. Assumes nothing.
+use Rattle.console.proofs.LayLaws.{never-short, wrote-whole}
+use borrow.Author.Needs.{needs}
+use Rattle.console.proofs.lay.Statement.{statement}
+use Rattle.console.proofs.lay.Tie as tie
+
+list-pattern-requires : tie.Need-list-pattern-requires
+list-pattern-requires c κs = search needs
+
+enum-known-r : tie.Need-enum-known-r
+enum-known-r c = search needs
+
+enum-told : tie.Need-enum-told
+enum-told c = search needs
+
+same-length : tie.Need-same-length
+same-length c = search needs
+
+returns : tie.Need-returns
+returns c =
+    let d = c .before .before .before .before .list-pattern in
+    let a = c .before .before .before .before .before .before .before .before .args in
+    absurd (never-short (a .text .now) (a .out .now) (d .last .1 .0) (d .result) (c .enum-told .given .0 .0) (c .before .before .before .before .before .before .before .before .pre) (d .ensures) (c .enum-told .given .1))
+
+same-length-2 : tie.Need-same-length-2
+same-length-2 c = search needs
+
+returns-2 : tie.Need-returns-2
+returns-2 c =
+    let d = c .before .before .before .before .before .list-pattern in
+    let a = c .before .before .before .before .before .before .before .before .before .args in
+    wrote-whole (a .text .now) (a .out .now) (d .last .1 .0) (d .result) (c .before .r .given .0 .0) (c .before .before .before .before .before .before .before .before .before .pre) (d .ensures) (c .before .r .given .1)
+
+pub lay-spec : {M : Type 1} → statement M
+lay-spec =
+    tie.close
+    (tie.spec
+    list-pattern-requires
+    enum-known-r
+    enum-told
+    same-length
+    returns
+    same-length-2
+    returns-2)
