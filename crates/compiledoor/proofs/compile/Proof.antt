@@ -4,36 +4,38 @@ use borrow.Author.Needs.{needs}
 use Rattle.compiledoor.proofs.compile.Statement.{statement}
 use Rattle.compiledoor.proofs.compile.Tie as tie
 
--- src/lib.rt:57:9
 returns : tie.Need-returns
-returns c = law.door-small (c .before .before .before .before .args .text .now) (c .before .before .before .before .args .forward .now) (c .before .before .before .before .args .reverse .now) (law.small-first (c .before .before .before .before .args .forward .now) (c .before .before .before .before .args .reverse .now) (c .if1 .taken))
+returns c =
+    let at-start = c .before .before .before .before in
+    law.door-small (at-start .args .text .now) (at-start .args .forward .now) (at-start .args .reverse .now) (law.small-first (at-start .args .forward .now) (at-start .args .reverse .now) (c .if1 .taken))
 
--- src/lib.rt:60:9
 returns-2 : tie.Need-returns-2
-returns-2 c = law.door-small (c .before .before .before .before .before .args .text .now) (c .before .before .before .before .before .args .forward .now) (c .before .before .before .before .before .args .reverse .now) (law.small-second (c .before .before .before .before .before .args .forward .now) (c .before .before .before .before .before .args .reverse .now) (c .if2 .taken))
+returns-2 c =
+    let at-start = c .before .before .before .before .before in
+    law.door-small (at-start .args .text .now) (at-start .args .forward .now) (at-start .args .reverse .now) (law.small-second (at-start .args .forward .now) (at-start .args .reverse .now) (c .if2 .taken))
 
--- src/lib.rt:62:5
 compile-text-requires : tie.Need-compile-text-requires
 compile-text-requires c κs = search needs
 
--- src/lib.rt:51:1
 same-length : tie.Need-same-length
 same-length c = search needs
 
--- src/lib.rt:51:1
 same-length-2 : tie.Need-same-length-2
 same-length-2 c = search needs
 
--- src/lib.rt:51:1
 returns-3 : tie.Need-returns-3
 returns-3 c =
-    law.door-text (c .before .before .before .before .before .before .before .before .before .before .before .before .args .text .now) (said (c .before .before .before .before .compile-text .result))
-    (c .before .before .before .before .before .before .before .before .before .before .before .before .args .forward .now) (c .before .before .before .before .compile-text .last .1 .0)
-    (c .before .before .before .before .before .before .before .before .before .before .before .before .args .reverse .now) (c .before .before .before .before .compile-text .last .1 .1 .0)
-    (law.both-fit (c .before .before .before .before .before .before .before .before .before .before .before .before .args .forward .now)
-    (c .before .before .before .before .before .before .before .before .before .before .before .before .args .reverse .now)
-    (c .before .before .before .before .before .before .before .before .if1 .left) (c .before .before .before .before .before .before .before .if2 .left))
-    (c .before .before .before .before .compile-text .ensures)
+    let at-compile-text = c .before .before .before .before .compile-text in
+    let at-if2 = c .before .before .before .before .before .before .before .if2 in
+    let at-if1 = c .before .before .before .before .before .before .before .before .if1 in
+    let at-start = c .before .before .before .before .before .before .before .before .before .before .before .before in
+    law.door-text (at-start .args .text .now) (said (at-compile-text .result))
+    (at-start .args .forward .now) (at-compile-text .last .1 .0)
+    (at-start .args .reverse .now) (at-compile-text .last .1 .1 .0)
+    (law.both-fit (at-start .args .forward .now)
+    (at-start .args .reverse .now)
+    (at-if1 .left) (at-if2 .left))
+    (at-compile-text .ensures)
 
 pub compile-spec : {M : Type 1} → statement M
 compile-spec =

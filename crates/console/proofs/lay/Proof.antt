@@ -18,18 +18,23 @@ same-length c = search needs
 
 returns : tie.Need-returns
 returns c =
-    let d = c .before .before .before .before .list-pattern in
-    let a = c .before .before .before .before .before .before .before .before .args in
-    absurd (never-short (a .text .now) (a .out .now) (d .last .1 .0) (d .result) (c .enum-told .given .0 .0) (c .before .before .before .before .before .before .before .before .pre) (d .ensures) (c .enum-told .given .1))
+    let at-list-pattern = c .before .before .before .before .list-pattern in
+    let at-start = c .before .before .before .before .before .before .before .before in
+    let d = at-list-pattern in
+    let a = at-start .args in
+    absurd (never-short (a .text .now) (a .out .now) (d .last .1 .0) (d .result) (c .enum-told .given .0 .0) (at-start .pre) (d .ensures) (c .enum-told .given .1))
 
 same-length-2 : tie.Need-same-length-2
 same-length-2 c = search needs
 
 returns-2 : tie.Need-returns-2
 returns-2 c =
-    let d = c .before .before .before .before .before .list-pattern in
-    let a = c .before .before .before .before .before .before .before .before .before .args in
-    wrote-whole (a .text .now) (a .out .now) (d .last .1 .0) (d .result) (c .before .r .given .0 .0) (c .before .before .before .before .before .before .before .before .before .pre) (d .ensures) (c .before .r .given .1)
+    let at-r = c .before .r in
+    let at-list-pattern = c .before .before .before .before .before .list-pattern in
+    let at-start = c .before .before .before .before .before .before .before .before .before in
+    let d = at-list-pattern in
+    let a = at-start .args in
+    wrote-whole (a .text .now) (a .out .now) (d .last .1 .0) (d .result) (at-r .given .0 .0) (at-start .pre) (d .ensures) (at-r .given .1)
 
 pub lay-spec : {M : Type 1} → statement M
 lay-spec =

@@ -34,8 +34,10 @@ part-show-start c = search needs
 
 part-show-end : tie.Need-part-show-end
 part-show-end c =
-    let d = c .before .before .before .before .before .fill in
-    let g = c .before .before .r .given in
+    let at-r = c .before .before .r in
+    let at-fill = c .before .before .before .before .before .fill in
+    let d = at-fill in
+    let g = at-r .given in
     let l = d .kept .1 .0 in
     let f = bytes-within (d .result) (g .0 .0) 4097 (d .ensures) (g .1) in
     omega arith

@@ -21,10 +21,12 @@ same-length c = search needs
 
 returns : tie.Need-returns
 returns c =
-    let a = c .before .before .before .before .before .before .before .args in
-    let w = c .before .before .before .put-listing .ensures in
+    let at-put-listing = c .before .before .before .put-listing in
+    let at-start = c .before .before .before .before .before .before .before in
+    let a = at-start .args in
+    let w = at-put-listing .ensures in
     let e = c .room-for .ensures in
-    (e ∙ ap (λ (x : ℕ). listedOf x (length (c .before .before .before .put-listing .last .1 .0))) (w .next ∙ zero-add (length (listingOf (a .text .now)))) ∙ ap (listedOf (length (listingOf (a .text .now)))) (put-length w), w .holds)
+    (e ∙ ap (λ (x : ℕ). listedOf x (length (at-put-listing .last .1 .0))) (w .next ∙ zero-add (length (listingOf (a .text .now)))) ∙ ap (listedOf (length (listingOf (a .text .now)))) (put-length w), w .holds)
 
 pub list-pattern-spec : {M : Type 1} → statement M
 list-pattern-spec = tie.close (tie.spec put-listing-requires room-for-requires same-length returns)

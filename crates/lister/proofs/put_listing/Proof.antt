@@ -71,9 +71,10 @@ put-programs-requires c κs =
 
 put-picked-requires : tie.Need-put-picked-requires
 put-picked-requires c κs =
+    let at-put-programs = c .before .before .before .put-programs in
     let t = made-here (c .before .before .before .before .before .before .before .before .before .before) in
     let s = made-sizes t in
-    let l = programs-end _ _ (c .before .before .before .put-programs .ensures) (omega arith) (omega arith) in
+    let l = programs-end _ _ (at-put-programs .ensures) (omega arith) (omega arith) in
     omega arith
 
 enum-known-got-2 : tie.Need-enum-known-got-2
@@ -93,19 +94,27 @@ same-length c = search needs
 
 returns : tie.Need-returns
 returns c =
-    let t = c .before .before .before .before .before .before .before .before .before .before .before .before .before .before .before .before .before .before .before .before .before .before .args .text .now in
-    put-same (listingOf t) (put-then (c .before .before .before .before .before .before .put-programs .ensures) (c .before .before .put-picked .ensures)) (made-lines t (made-here (c .before .before .before .before .before .before .before .before .before .before .before .before .before)))
+    let at-put-picked = c .before .before .put-picked in
+    let at-put-programs = c .before .before .before .before .before .before .put-programs in
+    let at-start = c .before .before .before .before .before .before .before .before .before .before .before .before .before .before .before .before .before .before .before .before .before .before in
+    let t = at-start .args .text .now in
+    put-same (listingOf t) (put-then (at-put-programs .ensures) (at-put-picked .ensures)) (made-lines t (made-here (c .before .before .before .before .before .before .before .before .before .before .before .before .before)))
 
 same-length-2 : tie.Need-same-length-2
 same-length-2 c = search needs
 
 returns-2 : tie.Need-returns-2
 returns-2 c =
-    let a = c .before .before .before .before .before .before .before .before .before .before .before .before .before .before .before .args in
-    let k = c .before .before .before .before .before .before .before .before .before .before .compile in
-    let g = c .before .before .before .before .before .before .got2 .given in
+    let at-put-refused = c .before .before .put-refused in
+    let at-number = c .before .before .before .number in
+    let at-got2 = c .before .before .before .before .before .before .got2 in
+    let at-compile = c .before .before .before .before .before .before .before .before .before .before .compile in
+    let at-start = c .before .before .before .before .before .before .before .before .before .before .before .before .before .before .before in
+    let a = at-start .args in
+    let k = at-compile in
+    let g = at-got2 .given in
     let e = refused-door (a .text .now) (zeros 512) (zeros 512) (g .0 .0) (g .0 .1 .0) (k .result) (length-zeros 512) (length-zeros 512) (g .1) (k .ensures .0) in
-    put-same (listingOf (a .text .now)) (c .before .before .put-refused .ensures) (ap (λ (x : ℕ). refusedLine x (g .0 .1 .0)) (c .before .before .before .number .ensures) ∙ refused-lines (a .text .now) (numberOf (g .0 .0)) (g .0 .1 .0) e)
+    put-same (listingOf (a .text .now)) (at-put-refused .ensures) (ap (λ (x : ℕ). refusedLine x (g .0 .1 .0)) (at-number .ensures) ∙ refused-lines (a .text .now) (numberOf (g .0 .0)) (g .0 .1 .0) e)
 
 pub put-listing-spec : {M : Type 1} → statement M
 put-listing-spec =

@@ -51,7 +51,8 @@ part-put-literals-start c = search needs
 
 part-put-literals-end : tie.Need-part-put-literals-end
 part-put-literals-end c =
-    let k = c .before .before .before .before .before .before .before .literals in
+    let at-literals = c .before .before .before .before .before .before .before .literals in
+    let k = at-literals in
     let t = taken-here (c .before .before .before) in
     omega (arith, t .few, k .kept .1 .1 .0, length-zeros 256)
 
@@ -60,7 +61,8 @@ slice-aggregate-put-literals c = search needs
 
 put-literals-requires : tie.Need-put-literals-requires
 put-literals-requires c κs =
-    let k = c .before .before .before .before .before .before .before .before .before .literals in
+    let at-literals = c .before .before .before .before .before .before .before .before .before .literals in
+    let k = at-literals in
     let t = taken-here (c .before .before .before .before .before) in
     let b : length (k .last .1 .0) ≡ 32768 = k .kept .1 .0 ∙ length-zeros 32768 in
     let l = taken-size t in
@@ -83,19 +85,26 @@ same-length c = search needs
 
 returns : tie.Need-returns
 returns c =
-    let t = c .before .before .before .before .before .before .before .before .before .before .before .before .before .before .before .before .before .args .text .now in
-    put-same (pickedLines (pickedOf (reading t))) (c .before .before .put-literals .ensures) (taken-lines (taken-here (c .before .before .before .before .before .before .before .before)))
+    let at-put-literals = c .before .before .put-literals in
+    let at-start = c .before .before .before .before .before .before .before .before .before .before .before .before .before .before .before .before .before in
+    let t = at-start .args .text .now in
+    put-same (pickedLines (pickedOf (reading t))) (at-put-literals .ensures) (taken-lines (taken-here (c .before .before .before .before .before .before .before .before)))
 
 same-length-2 : tie.Need-same-length-2
 same-length-2 c = search needs
 
 returns-2 : tie.Need-returns-2
 returns-2 c =
-    let a = c .before .before .before .before .before .before .before .before .before .before .before .before .before .before .before .args in
-    let k = c .before .before .before .before .before .before .before .before .before .before .literals in
-    let g = c .before .before .before .before .before .before .got2 .given in
+    let at-put-literals-refused = c .before .before .put-literals-refused in
+    let at-number = c .before .before .before .number in
+    let at-got2 = c .before .before .before .before .before .before .got2 in
+    let at-literals = c .before .before .before .before .before .before .before .before .before .before .literals in
+    let at-start = c .before .before .before .before .before .before .before .before .before .before .before .before .before .before .before in
+    let a = at-start .args in
+    let k = at-literals in
+    let g = at-got2 .given in
     let e = untaken-door (zeros 32768) (zeros 256) (length-zeros 32768) (length-zeros 256) (a .text .now) (g .0 .0) (g .0 .1 .0) (k .result) (g .1) (k .ensures .0) in
-    put-same (pickedLines (pickedOf (reading (a .text .now)))) (c .before .before .put-literals-refused .ensures) (ap literalsRefusedLine (c .before .before .before .number .ensures) ∙ untaken-lines (reading (a .text .now)) (numberOf (g .0 .0)) e)
+    put-same (pickedLines (pickedOf (reading (a .text .now)))) (at-put-literals-refused .ensures) (ap literalsRefusedLine (at-number .ensures) ∙ untaken-lines (reading (a .text .now)) (numberOf (g .0 .0)) e)
 
 pub put-picked-spec : {M : Type 1} → statement M
 put-picked-spec =

@@ -9,33 +9,43 @@ use mathlib.Core.Path.{sym, _∙_}
 use Rattle.literaldoor.proofs.pick_tokens.Statement.{statement}
 use Rattle.literaldoor.proofs.pick_tokens.Tie as tie
 
--- src/lib.rt:54:9
 is-plain-requires : tie.Need-is-plain-requires
 is-plain-requires c κs = search needs
 
--- src/lib.rt:55:9
 returns : tie.Need-returns
-returns c = law.not-plain (c .before .before .before .before .before .args .reached) (tokensIn (c .before .before .before .before .before .args .ws .now)) (c .before .before .before .before .before .args .bytes .now) (c .before .before .before .before .before .args .lengths .now) (sym (c .before .is-plain .ensures) ∙ not-true _ (c .if1 .taken))
+returns c =
+    let at-is-plain = c .before .is-plain in
+    let at-start = c .before .before .before .before .before in
+    law.not-plain (at-start .args .reached) (tokensIn (at-start .args .ws .now)) (at-start .args .bytes .now) (at-start .args .lengths .now) (sym (at-is-plain .ensures) ∙ not-true _ (c .if1 .taken))
 
--- src/lib.rt:57:9
 choose-requires : tie.Need-choose-requires
-choose-requires c κs = let p = c .before .before .before .before .before .pre in (p .0, p .1, p .2 (sym (c .before .is-plain .ensures) ∙ not-false _ (c .if1 .left)))
+choose-requires c κs =
+    let at-is-plain = c .before .is-plain in
+    let at-start = c .before .before .before .before .before in
+    let p = at-start .pre in (p .0, p .1, p .2 (sym (at-is-plain .ensures) ∙ not-false _ (c .if1 .left)))
 
--- src/lib.rt:58:5
 write-choice-requires : tie.Need-write-choice-requires
-write-choice-requires c κs = (c .before .before .before .before .before .before .before .before .pre .0, c .before .before .choose .ensures .1)
+write-choice-requires c κs =
+    let at-choose = c .before .before .choose in
+    let at-start = c .before .before .before .before .before .before .before .before in
+    (at-start .pre .0, at-choose .ensures .1)
 
--- src/lib.rt:50:1
 same-length : tie.Need-same-length
 same-length c = search needs
 
--- src/lib.rt:50:1
 same-length-2 : tie.Need-same-length-2
 same-length-2 c = search needs
 
--- src/lib.rt:50:1
 returns-2 : tie.Need-returns-2
-returns-2 c = law.plain-chosen (c .before .before .before .before .before .before .before .before .before .before .before .before .before .args .reached) (tokensIn (c .before .before .before .before .before .before .before .before .before .before .before .before .before .args .ws .now)) (choiceSays (c .before .before .before .before .before .before .before .before .before .before .before .before .before .args .ws .now) (c .before .before .before .before .before .before .before .choose .result)) (said (c .before .before .before .before .write-choice .result)) (c .before .before .before .before .before .before .before .before .before .before .before .before .before .args .bytes .now) (c .before .before .before .before .before .before .before .before .before .before .before .before .before .args .lengths .now) (c .before .before .before .before .write-choice .last .1 .1 .1 .0) (c .before .before .before .before .write-choice .last .1 .1 .1 .1 .0) (sym (c .before .before .before .before .before .before .before .before .before .is-plain .ensures) ∙ not-false _ (c .before .before .before .before .before .before .before .before .if1 .left)) (c .before .before .before .before .before .before .before .choose .ensures .0) (c .before .before .before .before .write-choice .ensures)
+returns-2 c =
+    let at-write-choice = c .before .before .before .before .write-choice in
+    let at-choose = c .before .before .before .before .before .before .before .choose in
+    let at-if1 = c .before .before .before .before .before .before .before .before .if1 in
+    let at-is-plain = c .before .before .before .before .before .before .before .before .before .is-plain in
+    let at-start = c .before .before .before .before .before .before .before .before .before .before .before .before .before in
+    law.plain-chosen (at-start .args .reached) (tokensIn (at-start .args .ws .now)) (choiceSays (at-start .args .ws .now) (at-choose .result)) (said (at-write-choice .result))
+    (at-start .args .bytes .now) (at-start .args .lengths .now) (at-write-choice .last .1 .1 .1 .0) (at-write-choice .last .1 .1 .1 .1 .0)
+    (sym (at-is-plain .ensures) ∙ not-false _ (at-if1 .left)) (at-choose .ensures .0) (at-write-choice .ensures)
 
 pub pick-tokens-spec : {M : Type 1} → statement M
 pick-tokens-spec =

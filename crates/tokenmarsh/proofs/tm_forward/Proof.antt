@@ -12,7 +12,9 @@ told-requires : tie.Need-told-requires
 told-requires c κs = search needs
 
 returns : tie.Need-returns
-returns c = let done = c .before .forward .ensures in (c .told .ensures ∙ ap checkTold (done .says), done .bytes)
+returns c =
+    let at-forward = c .before .forward in
+    let done = at-forward .ensures in (c .told .ensures ∙ ap checkTold (done .says), done .bytes)
 
 pub tm-forward-spec : {M : Type 1} → statement M
 tm-forward-spec = tie.close (tie.spec forward-requires told-requires returns)

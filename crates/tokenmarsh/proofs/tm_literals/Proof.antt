@@ -26,7 +26,10 @@ same-length-2 : tie.Need-same-length-2
 same-length-2 c = search needs
 
 returns : tie.Need-returns
-returns c = let m = c .before .before .before .before .before .before .before .literals in (ap literalsTold (sym (ap said (c .before .r .given .1)) ∙ m .ensures .0), m .ensures .1, m .ensures .2)
+returns c =
+    let at-r = c .before .r in
+    let at-literals = c .before .before .before .before .before .before .before .literals in
+    let m = at-literals in (ap literalsTold (sym (ap said (at-r .given .1)) ∙ m .ensures .0), m .ensures .1, m .ensures .2)
 
 same-length-3 : tie.Need-same-length-3
 same-length-3 c = search needs
@@ -36,8 +39,10 @@ same-length-4 c = search needs
 
 returns-2 : tie.Need-returns-2
 returns-2 c =
-    let m = c .before .before .before .before .before .before .before .before .literals in
-    let q = c .before .before .r2 in (
+    let at-r2 = c .before .before .r2 in
+    let at-literals = c .before .before .before .before .before .before .before .before .literals in
+    let m = at-literals in
+    let q = at-r2 in (
       ap (λ (n : ℕ). literalsTold (refuses n (q .given .0 .1 .0))) (c .number .ensures) ∙ ap literalsTold (sym (ap said (q .given .1)) ∙ m .ensures .0),
       m .ensures .1,
       m .ensures .2,

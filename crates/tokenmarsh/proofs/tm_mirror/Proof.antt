@@ -6,39 +6,36 @@ use borrow.Author.Needs.{needs}
 use Rattle.tokenmarsh.proofs.tm_mirror.Statement.{statement}
 use Rattle.tokenmarsh.proofs.tm_mirror.Tie as tie
 
--- src/lib.rt:26:9
 mirror-requires : tie.Need-mirror-requires
 mirror-requires c κs = search needs
 
--- src/lib.rt:28:32
 enum-known-r : tie.Need-enum-known-r
 enum-known-r c = search needs
 
--- src/lib.rt:32:31
 enum-known-r-2 : tie.Need-enum-known-r-2
 enum-known-r-2 c = search needs
 
--- src/lib.rt:33:22
 number-requires : tie.Need-number-requires
 number-requires c κs = search needs
 
--- src/lib.rt:22:1
 same-length : tie.Need-same-length
 same-length c = search needs
 
--- src/lib.rt:22:1
 returns : tie.Need-returns
-returns c = let m = c .before .before .before .before .before .mirror in (ap mirrorTold (sym (ap said (c .before .r .given .1)) ∙ m .ensures .0), m .ensures .1)
+returns c =
+    let at-r = c .before .r in
+    let at-mirror = c .before .before .before .before .before .mirror in
+    let m = at-mirror in (ap mirrorTold (sym (ap said (at-r .given .1)) ∙ m .ensures .0), m .ensures .1)
 
--- src/lib.rt:22:1
 same-length-2 : tie.Need-same-length-2
 same-length-2 c = search needs
 
--- src/lib.rt:22:1
 returns-2 : tie.Need-returns-2
 returns-2 c =
-    let m = c .before .before .before .before .before .before .mirror in
-    let q = c .before .before .r2 in (
+    let at-r2 = c .before .before .r2 in
+    let at-mirror = c .before .before .before .before .before .before .mirror in
+    let m = at-mirror in
+    let q = at-r2 in (
       ap (λ (n : ℕ). mirrorTold (refused n 0)) (c .number .ensures) ∙ ap mirrorTold (sym (ap said (q .given .1)) ∙ m .ensures .0),
       m .ensures .1,
     )

@@ -23,15 +23,20 @@ same-length : tie.Need-same-length
 same-length c = search needs
 
 returns : tie.Need-returns
-returns c = let m = c .before .before .before .before .before .read in (ap readTold (sym (ap said (c .before .r .given .1)) ∙ m .ensures .0), m .ensures .1)
+returns c =
+    let at-r = c .before .r in
+    let at-read = c .before .before .before .before .before .read in
+    let m = at-read in (ap readTold (sym (ap said (at-r .given .1)) ∙ m .ensures .0), m .ensures .1)
 
 same-length-2 : tie.Need-same-length-2
 same-length-2 c = search needs
 
 returns-2 : tie.Need-returns-2
 returns-2 c =
-    let m = c .before .before .before .before .before .before .read in
-    let q = c .before .before .r2 in (
+    let at-r2 = c .before .before .r2 in
+    let at-read = c .before .before .before .before .before .before .read in
+    let m = at-read in
+    let q = at-r2 in (
       ap (λ (n : ℕ). readTold (refuses n (q .given .0 .1 .0))) (c .number .ensures) ∙ ap readTold (sym (ap said (q .given .1)) ∙ m .ensures .0),
       m .ensures .1,
     )

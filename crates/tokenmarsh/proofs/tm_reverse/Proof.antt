@@ -12,7 +12,9 @@ told-requires : tie.Need-told-requires
 told-requires c κs = search needs
 
 returns : tie.Need-returns
-returns c = let done = c .before .reverse .ensures in (c .told .ensures ∙ ap checkTold (done .says), done .bytes)
+returns c =
+    let at-reverse = c .before .reverse in
+    let done = at-reverse .ensures in (c .told .ensures ∙ ap checkTold (done .says), done .bytes)
 
 pub tm-reverse-spec : {M : Type 1} → statement M
 tm-reverse-spec = tie.close (tie.spec reverse-requires told-requires returns)

@@ -3,17 +3,18 @@ use borrow.Author.Needs.{needs}
 use Rattle.tokenmarsh.proofs.tm_sound.Statement.{statement}
 use Rattle.tokenmarsh.proofs.tm_sound.Tie as tie
 
--- src/lib.rt:19:8
 is-sound-requires : tie.Need-is-sound-requires
 is-sound-requires c κs = search needs
 
--- src/lib.rt:15:1
 returns : tie.Need-returns
-returns c = rw (sym (c .before .is-sound .ensures) ∙ c .if1 .taken)
+returns c =
+    let at-is-sound = c .before .is-sound in
+    rw (sym (at-is-sound .ensures) ∙ c .if1 .taken)
 
--- src/lib.rt:15:1
 returns-2 : tie.Need-returns-2
-returns-2 c = rw (sym (c .before .is-sound .ensures) ∙ c .if1 .left)
+returns-2 c =
+    let at-is-sound = c .before .is-sound in
+    rw (sym (at-is-sound .ensures) ∙ c .if1 .left)
 
 pub tm-sound-spec : {M : Type 1} → statement M
 tm-sound-spec = tie.close (tie.spec is-sound-requires returns returns-2)

@@ -14,7 +14,11 @@ enum-known-r : tie.Need-enum-known-r
 enum-known-r c = search needs
 
 sub-left : tie.Need-sub-left
-sub-left c = let a = c .before .before .before .before .before .before .args in forward-within (a .program .now) (a .haystack .now) (a .start) (a .end) (c .before .r .given .0 .0) (sym (c .before .before .before .forward .ensures .says) ∙ ap said (c .before .r .given .1))
+sub-left c =
+    let at-r = c .before .r in
+    let at-forward = c .before .before .before .forward in
+    let at-start = c .before .before .before .before .before .before in
+    let a = at-start .args in forward-within (a .program .now) (a .haystack .now) (a .start) (a .end) (at-r .given .0 .0) (sym (at-forward .ensures .says) ∙ ap said (at-r .given .1))
 
 enum-told : tie.Need-enum-told
 enum-told c = search needs
@@ -23,13 +27,20 @@ enum-told-2 : tie.Need-enum-told-2
 enum-told-2 c = search needs
 
 returns : tie.Need-returns
-returns c = ap (tailTold _) (sym (ap said (c .before .r .given .1)) ∙ c .before .before .before .forward .ensures .says)
+returns c =
+    let at-r = c .before .r in
+    let at-forward = c .before .before .before .forward in
+    ap (tailTold _) (sym (ap said (at-r .given .1)) ∙ at-forward .ensures .says)
 
 returns-2 : tie.Need-returns-2
-returns-2 c = ap (tailTold _) (sym (ap said (c .enum-told .given .1)) ∙ c .before .before .forward .ensures .says)
+returns-2 c =
+    let at-forward = c .before .before .forward in
+    ap (tailTold _) (sym (ap said (c .enum-told .given .1)) ∙ at-forward .ensures .says)
 
 returns-3 : tie.Need-returns-3
-returns-3 c = ap (tailTold _) (sym (ap said (c .enum-told2 .given .1)) ∙ c .before .before .forward .ensures .says)
+returns-3 c =
+    let at-forward = c .before .before .forward in
+    ap (tailTold _) (sym (ap said (c .enum-told2 .given .1)) ∙ at-forward .ensures .says)
 
 pub tm-tail-spec : {M : Type 1} → statement M
 tm-tail-spec =
