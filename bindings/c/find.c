@@ -5,6 +5,7 @@
  * Every match holds one of the pattern's literals. So the file is searched for these, and checked only at the offsets from which a match can reach to
  * one. The answer is each offset from which tm_forward finds an end, and that end.
  */
+#include <errno.h>
 #include <stdio.h>
 #include <stdlib.h>
 #include <string.h>
@@ -76,6 +77,34 @@ static uint8_t *whole(const char *name, size_t *n)
     return bytes;
 }
 
+/* A line for each match, all of them written: 0, or -1 and errno says why. */
+static int search(size_t nodes, int by_literals, size_t reach, const uint8_t *bytes, size_t n)
+{
+    size_t checked = 0;
+
+    for (size_t at = 0; at < n; at++) {
+        if (by_literals && !literal(bytes + at, n - at))
+            continue;
+        size_t start = at > reach ? at - reach : 0;
+        for (start = start > checked ? start : checked; start <= at; start++) {
+            tm_check_result r = tm_forward(forward, nodes, bytes, n, start, n);
+            if (r.found && printf("%zu %llu\n", start, (unsigned long long)r.offset) < 0)
+                return -1;
+        }
+        checked = at + 1;
+    }
+    return fclose(stdout) == 0 ? 0 : -1;
+}
+
+/* The status for matches that are lost; a reader that goes away has had enough, and is told nothing. */
+static int lost(void)
+{
+    if (errno == EPIPE)
+        return 141;
+    perror("standard output cannot be written");
+    return 1;
+}
+
 int main(int argc, char **argv)
 {
     if (argc != 3) {
@@ -104,22 +133,8 @@ int main(int argc, char **argv)
         shortest = lengths[k] < shortest ? lengths[k] : shortest;
     }
     /* A match that holds a literal starts at most so far before it. */
-    size_t reach = l.count ? longest(forward, c.forward) - shortest : 0, checked = 0;
-    for (size_t at = 0; at < n; at++) {
-        if (l.count && !literal(bytes + at, n - at))
-            continue;
-        size_t start = at > reach ? at - reach : 0;
-        for (start = start > checked ? start : checked; start <= at; start++) {
-            tm_check_result r = tm_forward(forward, c.forward, bytes, n, start, n);
-            if (r.found)
-                printf("%zu %llu\n", start, (unsigned long long)r.offset);
-        }
-        checked = at + 1;
-    }
+    size_t reach = l.count ? longest(forward, c.forward) - shortest : 0;
+    int status = search(c.forward, l.count != 0, reach, bytes, n) == 0 ? 0 : lost();
     free(bytes);
-    if (fflush(stdout) != 0 || ferror(stdout)) {
-        perror("standard output");
-        return 1;
-    }
-    return 0;
+    return status;
 }

@@ -7,6 +7,7 @@ Every match holds one of the pattern's literals. So the file is searched for the
 one.
 """
 import heapq
+import os
 import sys
 from typing import Iterable, Iterator, Sequence, Tuple
 
@@ -69,9 +70,18 @@ def main() -> int:
     try:
         with open(sys.argv[2], "rb") as f:
             haystack = f.read()
-        for start, end in find(sys.argv[1].encode(errors="surrogateescape"), haystack):
-            print(start, end)
-        sys.stdout.flush()
+        try:
+            for start, end in find(os.fsencode(sys.argv[1]), haystack):
+                print(start, end)
+            sys.stdout.flush()
+        except OSError as error:
+            # What is still in the buffer would be tried again at the end.
+            os.dup2(os.open(os.devnull, os.O_WRONLY), sys.stdout.fileno())
+            # A reader that goes away has had enough, and is told nothing.
+            if isinstance(error, BrokenPipeError):
+                return 141
+            print("standard output cannot be written:", error, file=sys.stderr)
+            return 1
     except (OSError, tokenmarsh.Refused) as error:
         print(error, file=sys.stderr)
         return 1

@@ -6,7 +6,8 @@
 //! to one.
 
 use std::ffi::OsString;
-use std::io::{self, BufWriter, Write};
+use std::fmt::Display;
+use std::io::{self, BufWriter, ErrorKind, Write};
 use std::os::unix::ffi::OsStrExt;
 use std::{env, error::Error, fs, process::ExitCode};
 
@@ -66,27 +67,30 @@ fn find(
     Ok(())
 }
 
-fn said(text: &[u8], file: &OsString) -> Result<(), Box<dyn Error>> {
-    let haystack = fs::read(file).map_err(|error| format!("{}: {}", file.to_string_lossy(), error))?;
-    let mut out = BufWriter::new(io::stdout().lock());
-    find(text, &haystack, |start, end| writeln!(out, "{start} {end}"))?;
-    Ok(out.flush()?)
+/// Says what is wrong. Where even that cannot be written, the status still tells.
+fn fail(status: u8, why: impl Display) -> ExitCode {
+    let _ = writeln!(io::stderr(), "{why}");
+    ExitCode::from(status)
 }
 
 fn main() -> ExitCode {
     let args: Vec<OsString> = env::args_os().collect();
-    let done = match args.as_slice() {
-        [_, text, file] => said(text.as_bytes(), file),
-        _ => {
-            eprintln!("usage: find PATTERN FILE");
-            return ExitCode::from(2);
-        }
+    let (text, file) = match args.as_slice() {
+        [_, text, file] => (text, file),
+        _ => return fail(2, "usage: find PATTERN FILE"),
     };
-    match done {
+    let haystack = match fs::read(file) {
+        Ok(haystack) => haystack,
+        Err(error) => return fail(1, format_args!("{}: {error}", file.to_string_lossy())),
+    };
+    let mut out = BufWriter::new(io::stdout().lock());
+    let found = find(text.as_bytes(), &haystack, |start, end| writeln!(out, "{start} {end}"));
+    let done = found.and_then(|()| Ok(out.flush()?));
+    match done.as_ref().map_err(|error| (error, error.downcast_ref::<io::Error>())) {
         Ok(()) => ExitCode::SUCCESS,
-        Err(error) => {
-            eprintln!("{error}");
-            ExitCode::FAILURE
-        }
+        // A reader that goes away has had enough, and is told nothing.
+        Err((_, Some(error))) if error.kind() == ErrorKind::BrokenPipe => ExitCode::from(141),
+        Err((_, Some(error))) => fail(1, format_args!("standard output cannot be written: {error}")),
+        Err((refused, None)) => fail(1, refused),
     }
 }
