@@ -52,7 +52,7 @@ uninstall:
 	bindings/install --remove
 
 clean:
-	rm -rf $(OUT) target/bindings target/swaps target/compare target/bench bindings/rust/target compare/target bench/target
+	rm -rf $(OUT) target/bindings target/swaps target/compare target/bench target/example target/find target/ten bindings/rust/target compare/target bench/target
 	rm -rf bindings/python/__pycache__ bindings/python/tokenmarsh/__pycache__ compare/__pycache__
 
 help:

@@ -75,6 +75,21 @@ class Package(unittest.TestCase):
         built = os.path.join(TOP, "target", "staticlib")
         self.assertEqual(self.imported("libtokenmarsh.so", built), (0, os.path.join(built, "libtokenmarsh.so")))
 
+    def test_a_small_thread_is_enough(self):
+        # what takes the most stack, on a thread that has as little as the package's text says; in a process of its own, which it would end
+        calls = """
+import threading, tokenmarsh
+def calls():
+    deepest = tokenmarsh.Forward([0x0106, 0x0007] * 256)
+    print(deepest.end(b"ab"), deepest.mirror().start(b"ab"), tokenmarsh.literals(b"{ " + b"(41|42)" * 170 + b" }").rank)
+threading.stack_size(256 * 1024)
+thread = threading.Thread(target=calls)
+thread.start()
+thread.join()
+"""
+        done = subprocess.run([sys.executable, "-c", calls], cwd=HERE, stdout=subprocess.PIPE, text=True)
+        self.assertEqual((done.returncode, done.stdout), (0, "0 2 80\n"))
+
 
 if __name__ == "__main__":
     unittest.main()

@@ -15,6 +15,19 @@
 //! assert_eq!(pattern.forward.end(&bytes), Some(18));
 //! assert_eq!(pattern.reverse.start(&bytes), Some(0));
 //! ```
+//!
+//! # Searching a file
+//!
+//! A check is anchored: [`Forward::end`] tells of a match that starts with the window's first byte, [`Reverse::start`] of one that ends with its last.
+//! To search a file, look for the [`literals`] first and check about these; `examples/find.rs` does so.
+//!
+//! # Stack and time
+//!
+//! A call was seen to take up to 86,120 bytes of stack. Rust's own threads have 2 MiB; if you give one less, 128 KiB are enough.
+//!
+//! A check tries the lengths of a range one after another, so that ranges multiply its time: `41 [0-255]` once, twice, three and four times, and then `42`, took
+//! 3 µs, 0.3 ms, 70 ms and 14.7 s at the first of 4,096 bytes 41. It ends, but nothing ends it sooner: bound the ranges of patterns that others
+//! write. [`literals`] takes up to some milliseconds, all else microseconds.
 
 #![warn(missing_docs, clippy::pedantic)]
 #![allow(clippy::cast_possible_truncation)]
