@@ -96,6 +96,11 @@ class Doors(unittest.TestCase):
         # where the tail starts is not the count of words
         self.assertEqual(bytes(tokenmarsh.compile(b"{ 61 [0-2] 63 }").forward.tail(b"acde")), b"de")
 
+    def test_a_tail_tells_no_match_from_an_empty_one(self):
+        program = tokenmarsh.compile(b"{ 61 62 }").forward
+        self.assertEqual([program.tail(window) for window in (b"abc", b"ab", b"a", b"xab", b"")], [b"c", b"", None, None, None])
+        self.assertEqual([Forward([]).tail(window) for window in (b"ab", b"")], [b"ab", b""])
+
     def test_windows(self):
         for check in (tokenmarsh.forward, tokenmarsh.reverse):
             self.assertEqual(check([], b"abc", 3, 3), 3)

@@ -298,11 +298,11 @@ class Forward(_Program):
         """Where the first choice ends that fits the window from its start, or None."""
         return forward(self.words, window, 0, len(window))
 
-    def tail(self, window: Buffer) -> memoryview:
-        """What `end` leaves of the window, as a part of it; empty if nothing fits."""
-        words, n = _words(self.words)
-        r = _lib.tm_tail(words, n, _bytes(window), len(window), 0, len(window))
-        return memoryview(window)[r.offset:r.offset + r.length]
+    def tail(self, window: Buffer) -> Optional[memoryview]:
+        """What `end` leaves of the window, as a part of it, or None if nothing fits."""
+        # Not by tm_tail: its answer is the same for no match, for a refusal and, in an empty window, for a match.
+        end = self.end(window)
+        return None if end is None else memoryview(window)[end:]
 
     def mirror(self) -> "Reverse":
         """The mirror: what it fits is what this program fits, read from its other side."""

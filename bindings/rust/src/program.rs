@@ -73,13 +73,20 @@ impl Forward {
         (r.found == 1).then_some(r.offset as usize)
     }
 
-    /// What [`Forward::end`] leaves of the window: empty if nothing fits.
+    /// What [`Forward::end`] leaves of the window, as a part of it; `None` if nothing fits.
+    ///
+    /// ```
+    /// use tokenmarsh::Pattern;
+    ///
+    /// let pattern = Pattern::compile(b"{ 61 62 }").unwrap();
+    /// assert_eq!(pattern.forward.tail(b"abc"), Some(&b"c"[..]));
+    /// assert_eq!(pattern.forward.tail(b"ab"), Some(&b""[..]));
+    /// assert_eq!(pattern.forward.tail(b"xy"), None);
+    /// ```
     #[must_use]
-    pub fn tail<'h>(&self, window: &'h [u8]) -> &'h [u8] {
-        let words = self.words();
-        // SAFETY: both slices are good for their lengths.
-        let r = unsafe { raw::tm_tail(words.as_ptr(), words.len(), window.as_ptr(), window.len(), 0, window.len()) };
-        &window[r.offset as usize..(r.offset + r.length) as usize]
+    pub fn tail<'h>(&self, window: &'h [u8]) -> Option<&'h [u8]> {
+        // Not by tm_tail: its answer is the same for no match, for a refusal and, in an empty window, for a match.
+        self.end(window).map(|end| &window[end..])
     }
 
     /// The mirror: what it fits is what this program fits, read from its other side.

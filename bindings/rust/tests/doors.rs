@@ -87,12 +87,20 @@ fn a_jump_takes_its_top() {
 fn the_tail_is_the_callers_own() {
     let pattern = Pattern::compile(b"{ 61 [0-2] 63 }").unwrap();
     let window = b"abcde";
-    let tail = pattern.forward.tail(window);
+    let tail = pattern.forward.tail(window).unwrap();
     assert_eq!(tail, b"de");
     assert!(window.as_ptr_range().contains(&tail.as_ptr()));
     // Where it starts is not the count of words.
-    assert_eq!(pattern.forward.tail(b"acde"), b"de");
-    assert_eq!(pattern.forward.tail(b"xyz"), b"");
+    assert_eq!(pattern.forward.tail(b"acde"), Some(&b"de"[..]));
+}
+
+#[test]
+fn a_tail_tells_no_match_from_an_empty_one() {
+    let forward = Pattern::compile(b"{ 61 62 }").unwrap().forward;
+    assert_eq!(forward.tail(b"ab"), Some(&b""[..]));
+    for window in [&b"a"[..], b"xab", b""] {
+        assert_eq!(forward.tail(window), None);
+    }
 }
 
 #[test]
@@ -117,7 +125,7 @@ fn unsound_words_make_no_program() {
 fn the_empty_program_fits_no_bytes() {
     let forward = Forward::new(&[]).unwrap();
     assert_eq!((forward.end(b""), forward.end(b"ab")), (Some(0), Some(0)));
-    assert_eq!((forward.tail(b""), forward.tail(b"ab")), (&b""[..], &b"ab"[..]));
+    assert_eq!((forward.tail(b""), forward.tail(b"ab")), (Some(&b""[..]), Some(&b"ab"[..])));
     let reverse = forward.mirror();
     assert_eq!((reverse.start(b""), reverse.start(b"ab")), (Some(0), Some(2)));
     assert_eq!(reverse.mirror(), forward);
