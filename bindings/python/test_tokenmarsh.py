@@ -6,6 +6,7 @@ import doctest
 import os
 import pickle
 import random
+import threading
 import unittest
 
 import tokenmarsh
@@ -127,7 +128,8 @@ class Doors(unittest.TestCase):
     def test_what_holds_no_bytes(self):
         program, back = tokenmarsh.compile(b"{ 61 }")
         # a number is no count of zeros, and four bytes are no item
-        for thing in (3, "abc", [0x61], None, array.array("I", [0x61]), memoryview(b"abcd").cast("B", (2, 2))):
+        for thing in (3, -1, "abc", [0x61], None, array.array("I", [0x61]), memoryview(b"abcd").cast("B", (2, 2)), memoryview(b"abcd").cast("H"),
+                      memoryview(b"a").cast("B", ())):
             for door in (tokenmarsh.read, tokenmarsh.compile, tokenmarsh.literals, program.end, program.tail, back.start,
                          lambda w: tokenmarsh.forward([], w, 0, 0), lambda w: tokenmarsh.reverse([], w, 0, 0)):
                 self.assertRaises(TypeError, door, thing)
@@ -167,6 +169,33 @@ class Doors(unittest.TestCase):
                     matches += 1
                     self.assertTrue(any(one in window[:end] for one in picked.literals), (text, window[:end]))
         self.assertGreater(matches, 1000)
+
+    def test_much_is_refused(self):
+        for text in (b"{" + b"4" * (10 << 20), bytearray(10 << 20)):
+            for door in (tokenmarsh.read, tokenmarsh.compile, tokenmarsh.literals):
+                self.refused(lambda: door(text), Refusal.TEXT_TOO_LONG)
+        for words in ([0] * 4096, [7] * 4096):
+            for door in (Forward, Reverse, tokenmarsh.mirror, lambda w: tokenmarsh.forward(w, b"", 0, 0), lambda w: tokenmarsh.reverse(w, b"", 0, 0)):
+                self.refused(lambda: door(words), Refusal.TOO_MANY_NODES)
+            self.assertFalse(tokenmarsh.sound(words))
+
+    def test_eight_threads_at_once(self):
+        seen = [None] * 8
+
+        def work(k):
+            ends, counts = set(), set()
+            for _ in range(100):
+                ends.add(tokenmarsh.compile(b"{ %02X [%d] 63 }" % (k, k + 2)).forward.end(bytes([k]) + b"x" * (k + 2) + b"c"))
+                counts.add(len(tokenmarsh.literals(b"{ (%s41) }" % (b"41|" * k)).literals))
+                self.refused(lambda: tokenmarsh.read(b"{ %sg }" % (b"41 " * k)), Refusal.UNEXPECTED, 3 * k + 2)
+            # only if nothing failed before
+            seen[k] = ends, counts
+        threads = [threading.Thread(target=work, args=(k,)) for k in range(8)]
+        for thread in threads:
+            thread.start()
+        for thread in threads:
+            thread.join()
+        self.assertEqual(seen, [({k + 4}, {k + 1}) for k in range(8)])
 
     def test_examples(self):
         self.assertEqual(doctest.testmod(tokenmarsh, verbose=False).failed, 0)

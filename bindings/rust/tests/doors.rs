@@ -1,6 +1,7 @@
 //! The doors through the safe types: 01's samples and false friends.
 
 use std::error::Error;
+use std::thread;
 
 use tokenmarsh::{Forward, Mask, Pattern, Refusal, Refused, Reverse, Token, literals, raw, read};
 
@@ -101,6 +102,30 @@ fn a_tail_tells_no_match_from_an_empty_one() {
     for window in [&b"a"[..], b"xab", b""] {
         assert_eq!(forward.tail(window), None);
     }
+}
+
+#[test]
+fn much_is_refused() {
+    let text = vec![b'4'; 10 << 20];
+    assert_eq!(read(&text).unwrap_err().refusal, Refusal::TextTooLong);
+    assert_eq!(Pattern::compile(&text).unwrap_err().refusal, Refusal::TextTooLong);
+    assert_eq!(literals(&text).unwrap_err().refusal, Refusal::TextTooLong);
+    assert_eq!(Forward::new(&[0; 4096]), Err(Refusal::TooManyNodes));
+    assert_eq!(Reverse::new(&[7; 4096]), Err(Refusal::TooManyNodes));
+}
+
+#[test]
+fn eight_threads_at_once() {
+    let work = |k: usize| {
+        for _ in 0..100 {
+            let pattern = Pattern::compile(format!("{{ {k:02X} [{}] 63 }}", k + 2).as_bytes()).unwrap();
+            let window = [vec![k as u8], vec![0; k + 2], vec![0x63]].concat();
+            assert_eq!(pattern.forward.end(&window), Some(k + 4));
+            assert_eq!(literals(format!("{{ ({}41) }}", "41|".repeat(k)).as_bytes()).unwrap().literals.len(), k + 1);
+            assert_eq!(refusal(&format!("{{ {}g }}", "41 ".repeat(k))), (2, 3 * k + 2));
+        }
+    };
+    thread::scope(|all| (0..8).for_each(|k| drop(all.spawn(move || work(k)))));
 }
 
 #[test]
