@@ -1,10 +1,8 @@
 """The doors from Python: `python3 -m unittest` in this folder, after `make test` laid down the table of the header's layout."""
 import array
-import copy
 import ctypes
 import doctest
 import os
-import pickle
 import random
 import threading
 import unittest
@@ -42,13 +40,6 @@ class Doors(unittest.TestCase):
         ):
             for door in (tokenmarsh.read, tokenmarsh.compile, tokenmarsh.literals):
                 self.refused(lambda: door(text), number, place)
-
-    def test_a_refusal_says_why_and_travels(self):
-        with self.assertRaises(Refused) as caught:
-            tokenmarsh.read(b"{ AB [0] CD }")
-        for one in (caught.exception, copy.copy(caught.exception), pickle.loads(pickle.dumps(caught.exception))):
-            self.assertEqual((one.refusal, one.place, str(one)), (Refusal.JUMP_EMPTY, 5, "refused 4 at 5: empty jump"))
-        self.assertEqual([r.value for r in Refusal], list(range(1, 20)))
 
     def test_tokens_are_nested(self):
         r = tokenmarsh.read(b"{ AB ~?c [4-] ( 01 | 2? [1] ) 03 } zz")

@@ -12,8 +12,8 @@
 A pattern, a window and a haystack are `bytes` or anything whose items are bytes: a bytearray, a memoryview, an mmap. What is not `bytes` itself is copied by
 each call, so a long haystack that is searched at many places should be `bytes`, and the places the numbers that `forward` and `reverse` take.
 
-A call that has no answer raises `Refused`, which has the refusal's number and its place in the text. What is no bytes at all is a TypeError, and a word
-that has more than 32 bits a ValueError.
+A call that has no answer raises `Refused`, which has the refusal's number and its place in the text, and says what was expected and what stands there. What is
+no bytes at all is a TypeError, and a word that has more than 32 bits a ValueError. An answer that no library of this version gives is a RuntimeError.
 
 The work is done by libtokenmarsh.so, from the file that TOKENMARSH_SO names, or from the repository's own build, or from where the system finds it.
 """
@@ -24,6 +24,8 @@ import operator
 import os
 from dataclasses import dataclass
 from typing import Any, Iterable, List, NamedTuple, Optional, Sequence, Tuple, Union
+
+from . import _messages
 
 __version__ = "0.2.0"
 
@@ -41,7 +43,7 @@ Buffer = Union[bytes, bytearray, memoryview, mmap.mmap]
 
 
 class Refusal(enum.IntEnum):
-    """Why a call gives no answer: a number, and its `meaning`."""
+    """Why a call gives no answer: a number, and its `meaning` in the words of include/tokenmarsh.h."""
 
     meaning: str
 
@@ -53,35 +55,49 @@ class Refusal(enum.IntEnum):
     TEXT_TOO_LONG = 1, "text above 4,096 bytes"
     UNEXPECTED = 2, "something needed isn't there"
     NUMBER_TOO_BIG = 3, "number above 4,294,967,295"
-    JUMP_EMPTY = 4, "empty jump"
-    JUMP_RANGE_INVALID = 5, "jump whose from is above its to"
-    JUMP_AT_BOUND = 6, "jump at the bound of a list"
+    JUMP_EMPTY = 4, "an empty jump"
+    JUMP_RANGE_INVALID = 5, "a jump whose from is above its to"
+    JUMP_AT_BOUND = 6, "a list begins with a jump, or has two or more tokens and ends with one"
     JUMP_UNBOUNDED_IN_ALTERNATION = 7, "unbounded jump in alternatives"
     JUMP_TOO_BIG_IN_ALTERNATION = 8, "jump above 200 in alternatives"
-    CANNOT_NEGATE_MASK_ALL = 9, "?? cannot be negated"
-    HEX_STRING_TOO_DEEP = 10, "alternatives nested too deep"
-    TOO_MANY_TOKENS = 11, "more than 512 tokens"
-    NOT_SIMPLE = 12, "a jump unbounded or above 255; in a branch, a range or nested alternatives"
+    CANNOT_NEGATE_MASK_ALL = 9, "~??, which fits no byte"
+    HEX_STRING_TOO_DEEP = 10, "a ninth list level"
+    TOO_MANY_TOKENS = 11, "a 513th token"
+    NOT_SIMPLE = 12, "not simple"
     TOO_MANY_NODES = 13, "more than 512 nodes"
-    BRANCH_TOO_LONG = 14, "branch above 255 nodes"
+    BRANCH_TOO_LONG = 14, "a branch above 255 nodes"
     UNSOUND = 15, "unsound program"
-    BAD_WINDOW = 16, "window outside its haystack"
-    TOO_MANY_LITERALS = 17, "candidate with more than 256 literals"
-    NO_ROOM = 18, "lent buffer too short"
-    NOT_PLAIN = 19, "alternatives hold more than bytes and classes, so no literals are picked"
+    BAD_WINDOW = 16, "window start above its end, or end above the haystack's length"
+    TOO_MANY_LITERALS = 17, "a candidate with more than 256 literals"
+    NO_ROOM = 18, "a lent buffer is too short"
+    NOT_PLAIN = 19, "alternatives not plain"
 
 
 class Refused(ValueError):
-    """A refusal, and the offset in the text that it is given at (0 where none is meant)."""
+    """A call that is refused: by `number`, which is `refusal` unless this module doesn't know it (then that is None), at `place`, the offset in the text that
+    it is given at, 0 where none is meant. For 12 and 19, `token` is the offset of the first token that is the reason."""
 
-    def __init__(self, number: int, place: int = 0) -> None:
+    number: Optional[int]
+    refusal: Optional[Refusal]
+    place: int
+    token: Optional[int]
+
+    def __init__(self, number: int, place: int = 0, because: str = "", token: Optional[int] = None) -> None:
         # What an exception is made anew from, when it is copied or sent to another process.
-        super().__init__(int(number), place)
-        self.refusal = Refusal(number)
-        self.place = place
+        super().__init__(int(number), place, because, token)
+        self.number, self.place, self.token, self._because = int(number), place, token, because
+        try:
+            self.refusal = Refusal(number)
+        except ValueError:
+            self.refusal = None
 
     def __str__(self) -> str:
-        return f"refused {self.refusal.value} at {self.place}: {self.refusal.meaning}"
+        if self.refusal is None:
+            return f"refused {self.number}: unknown to version {__version__}"
+        # What was expected says more than that something is missing.
+        says = [self.refusal.meaning] * (self.refusal is not Refusal.UNEXPECTED or not self._because) + [self._because] * bool(self._because)
+        at = f" at {self.place}" if Refusal.UNEXPECTED <= self.refusal <= Refusal.TOO_MANY_TOKENS else ""
+        return f"refused {self.number}{at}: {': '.join(says)}"
 
 
 class Mask(enum.IntEnum):
@@ -178,10 +194,16 @@ def _load() -> ctypes.CDLL:
     # A name without a folder is a file here, and not one where the system looks.
     path = os.path.abspath(named) if named else next(filter(os.path.exists, near), "libtokenmarsh.so.0.2")
     try:
-        return _declared(ctypes.CDLL(path))
+        lib = _declared(ctypes.CDLL(path))
     except (OSError, AttributeError) as error:
         why = "which TOKENMARSH_SO names" if named else "run make, or name the file by TOKENMARSH_SO"
         raise ImportError(f"no tokenmarsh library in {path}, {why}: {error}", name=__name__, path=path) from error
+    # Another version's answers would be misread.
+    number = lib.tm_version()
+    version = f"{number >> 16}.{number >> 8 & 255}.{number & 255}"
+    if version != __version__:
+        raise ImportError(f"libtokenmarsh in {path} is of version {version}, and this module of {__version__}", name=__name__, path=path)
+    return lib
 
 
 def _declared(lib: ctypes.CDLL) -> ctypes.CDLL:
@@ -231,10 +253,20 @@ def _offset(number: int) -> int:
     return number
 
 
-def _answered(result: Any) -> Any:
+def _answered(result: Any, text: Optional[bytes] = None) -> Any:
+    """A result that is no refusal, neither a known nor an unknown one."""
     if result.refusal:
-        raise Refused(result.refusal, getattr(result, "place", 0))
+        place = getattr(result, "place", 0)
+        because, token = _messages.of(result.refusal, place, text) if text is not None else ("", None)
+        raise Refused(result.refusal, place, because, token)
     return result
+
+
+def _within(number: int, most: int) -> int:
+    """A number that the library answers, which is so much at most. To go on with another would be to guess, and a scanner that guesses waves files through."""
+    if number > most:
+        raise RuntimeError(f"libtokenmarsh broke its contract: {number} where {most} is the most")
+    return number
 
 
 def _list(entries: Sequence[Tuple[int, ...]]) -> Tuple[Token, ...]:
@@ -244,16 +276,22 @@ def _list(entries: Sequence[Tuple[int, ...]]) -> Tuple[Token, ...]:
         kind, a, b, c = entries[at]
         at += 1
         if kind == 5:
-            inside, at = entries[at:at + b], at + b
+            inside, at = entries[at:_within(at + b, len(entries))], at + b
             lists: List[Tuple[Token, ...]] = []
             k = 0
             while k < len(inside):
-                size = inside[k][2]
+                size = _within(inside[k][2], len(inside) - k - 1)
                 lists.append(_list(inside[k + 1:k + 1 + size]))
                 k += 1 + size
             tokens.append(Alternatives(tuple(lists)))
+        elif kind == 4:
+            tokens.append(Jump(a, b if c else None))
+        elif kind == 3:
+            tokens.append(NotMaskedByte(a, Mask(_within(b, 2))))
+        elif kind == 2:
+            tokens.append(MaskedByte(a, Mask(_within(b, 2))))
         else:
-            tokens.append((Byte(a), NotByte(a), MaskedByte(a, Mask(min(b, 2))), NotMaskedByte(a, Mask(min(b, 2))), Jump(a, b if c else None))[kind])
+            tokens.append(NotByte(a) if _within(kind, 1) else Byte(a))
     return tuple(tokens)
 
 
@@ -261,8 +299,8 @@ def read(text: Buffer) -> Read:
     """The tokens of a hexadecimal string, and the offset reached. Refusals 1 to 11."""
     text = _bytes(text)
     pool = (_u32 * TOKEN_POOL)()
-    r = _answered(_lib.tm_read(text, len(text), pool, TOKEN_POOL))
-    return Read(_list([tuple(pool[i:i + 4]) for i in range(0, r.words, 4)]), r.reached)
+    r = _answered(_lib.tm_read(text, len(text), pool, TOKEN_POOL), text)
+    return Read(_list([tuple(pool[i:i + 4]) for i in range(0, _within(r.words, TOKEN_POOL), 4)]), _within(r.reached, len(text)))
 
 
 class _Program:
@@ -332,18 +370,18 @@ def compile(text: Buffer) -> Pattern:
     """The two programs of a hexadecimal string. Refusals 1 to 11, then 12, 14, 13."""
     text = _bytes(text)
     ahead, back = (_u32 * NODE_POOL)(), (_u32 * NODE_POOL)()
-    r = _answered(_lib.tm_compile(text, len(text), ahead, NODE_POOL, back, NODE_POOL))
-    return Pattern(Forward(ahead[:r.forward]), Reverse(back[:r.reverse]))
+    r = _answered(_lib.tm_compile(text, len(text), ahead, NODE_POOL, back, NODE_POOL), text)
+    return Pattern(Forward(ahead[:_within(r.forward, NODE_POOL)]), Reverse(back[:_within(r.reverse, NODE_POOL)]))
 
 
 def literals(text: Buffer) -> Literals:
     """The literals to search for (if there are any, every match holds one of them), and their rank. Refusals 1 to 11, then 19, 17."""
     text = _bytes(text)
     data, lengths = (_u8 * LITERAL_BYTES)(), (_u16 * LITERAL_COUNT)()
-    r = _answered(_lib.tm_literals(text, len(text), data, LITERAL_BYTES, lengths, LITERAL_COUNT))
+    r = _answered(_lib.tm_literals(text, len(text), data, LITERAL_BYTES, lengths, LITERAL_COUNT), text)
     out, at = [], 0
-    for n in lengths[:r.count]:
-        out.append(bytes(data[at:at + n]))
+    for n in lengths[:_within(r.count, LITERAL_COUNT)]:
+        out.append(bytes(data[at:_within(at + n, LITERAL_BYTES)]))
         at += n
     return Literals(tuple(out), r.rank)
 
@@ -352,7 +390,7 @@ def _check(function: Any, words: Iterable[int], haystack: Buffer, start: int, en
     lent, n = _words(words)
     haystack = _bytes(haystack)
     r = _answered(function(lent, n, haystack, len(haystack), _offset(start), _offset(end)))
-    return int(r.offset) if r.found else None
+    return _within(r.offset, len(haystack)) if _within(r.found, 1) else None
 
 
 def forward(words: Iterable[int], haystack: Buffer, start: int, end: int) -> Optional[int]:
@@ -370,7 +408,7 @@ def mirror(words: Iterable[int]) -> Tuple[int, ...]:
     lent, n = _words(words)
     pool = (_u32 * NODE_POOL)()
     r = _answered(_lib.tm_mirror(lent, n, pool, NODE_POOL))
-    return tuple(pool[:r.words])
+    return tuple(pool[:_within(r.words, NODE_POOL)])
 
 
 def sound(words: Iterable[int]) -> bool:

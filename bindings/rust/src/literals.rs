@@ -1,5 +1,5 @@
 use crate::refusal::Refused;
-use crate::{raw, refused};
+use crate::{of_this_version, raw, refused, within};
 
 /// 256 literals of 512 bytes are the most that there can be.
 const BYTES: usize = 256 * 512;
@@ -25,6 +25,7 @@ pub struct Literals {
 ///
 /// Refusals 1 to 11 with their places, then 19, 17.
 pub fn literals(text: &[u8]) -> Result<Literals, Refused> {
+    of_this_version()?;
     let mut bytes = vec![0u8; BYTES];
     let mut lengths = vec![0u16; COUNT];
     // SAFETY: the three slices are good for their lengths, and they do not overlap.
@@ -38,9 +39,10 @@ pub fn literals(text: &[u8]) -> Result<Literals, Refused> {
             lengths.len(),
         )
     };
-    refused(r.refusal, r.place)?;
-    let mut rest = &bytes[..];
-    let literals = lengths[..r.count as usize]
+    refused(r.refusal, r.place, text)?;
+    let lengths = &lengths[..within(r.count, COUNT)];
+    let mut rest = &bytes[..within(lengths.iter().map(|&n| u64::from(n)).sum(), BYTES)];
+    let literals = lengths
         .iter()
         .map(|&n| {
             let (one, after) = rest.split_at(usize::from(n));

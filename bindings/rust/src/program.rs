@@ -1,5 +1,5 @@
 use crate::refusal::{Refusal, Refused};
-use crate::{NODE_POOL, raw, refused};
+use crate::{NODE_POOL, broken, of_this_version, raw, refused, within};
 
 /// Words that are a sound program: tested once, or written by a proved function that promises it.
 #[derive(Clone, Debug, PartialEq, Eq, Hash)]
@@ -7,6 +7,7 @@ struct Sound(Box<[u32]>);
 
 impl Sound {
     fn tested(words: &[u32]) -> Result<Self, Refusal> {
+        of_this_version()?;
         if words.len() > NODE_POOL {
             return Err(Refusal::TooManyNodes);
         }
@@ -22,8 +23,19 @@ impl Sound {
         let mut pool = vec![0u32; NODE_POOL];
         // SAFETY: both slices are good for their lengths, and they do not overlap.
         let r = unsafe { raw::tm_mirror(self.0.as_ptr(), self.0.len(), pool.as_mut_ptr(), pool.len()) };
-        debug_assert_eq!(r.refusal, 0);
-        Self(pool[..r.words as usize].into())
+        if r.refusal != 0 {
+            broken(format_args!("{r:?}"));
+        }
+        Self(pool[..within(r.words, NODE_POOL)].into())
+    }
+}
+
+/// The answer of a check, of a window with so many bytes. A sound program and a whole window are never refused.
+fn found(r: raw::CheckResult, length: usize) -> Option<usize> {
+    match (r.refusal, r.found, usize::try_from(r.offset)) {
+        (0, 0, _) => None,
+        (0, 1, Ok(offset)) if offset <= length => Some(offset),
+        _ => broken(format_args!("{r:?}")),
     }
 }
 
@@ -69,8 +81,7 @@ impl Forward {
         let words = self.words();
         // SAFETY: both slices are good for their lengths.
         let r = unsafe { raw::tm_forward(words.as_ptr(), words.len(), window.as_ptr(), window.len(), 0, window.len()) };
-        debug_assert_eq!(r.refusal, 0);
-        (r.found == 1).then_some(r.offset as usize)
+        found(r, window.len())
     }
 
     /// What [`Forward::end`] leaves of the window, as a part of it; `None` if nothing fits.
@@ -130,8 +141,7 @@ impl Reverse {
         let words = self.words();
         // SAFETY: both slices are good for their lengths.
         let r = unsafe { raw::tm_reverse(words.as_ptr(), words.len(), window.as_ptr(), window.len(), 0, window.len()) };
-        debug_assert_eq!(r.refusal, 0);
-        (r.found == 1).then_some(r.offset as usize)
+        found(r, window.len())
     }
 
     /// The mirror: what it fits is what this program fits, read from its other side.
@@ -157,6 +167,7 @@ impl Pattern {
     ///
     /// Refusals 1 to 11 with their places, then 12, 14, 13.
     pub fn compile(text: &[u8]) -> Result<Self, Refused> {
+        of_this_version()?;
         let mut forward = vec![0u32; NODE_POOL];
         let mut reverse = vec![0u32; NODE_POOL];
         // SAFETY: the three slices are good for their lengths, and they do not overlap.
@@ -170,10 +181,10 @@ impl Pattern {
                 reverse.len(),
             )
         };
-        refused(r.refusal, r.place)?;
+        refused(r.refusal, r.place, text)?;
         Ok(Self {
-            forward: Forward(Sound(forward[..r.forward as usize].into())),
-            reverse: Reverse(Sound(reverse[..r.reverse as usize].into())),
+            forward: Forward(Sound(forward[..within(r.forward, NODE_POOL)].into())),
+            reverse: Reverse(Sound(reverse[..within(r.reverse, NODE_POOL)].into())),
         })
     }
 }
