@@ -6,10 +6,10 @@ import re
 import unittest
 
 import tokenmarsh
-from tokenmarsh import Refusal, Refused
+from tokenmarsh import Leftover, Refusal, Refused
 
 TOP = os.path.dirname(os.path.dirname(os.path.dirname(os.path.abspath(__file__))))
-DOORS = {"read": tokenmarsh.read, "compile": tokenmarsh.compile, "literals": tokenmarsh.literals}
+DOORS = {"read": tokenmarsh.read, "compile": tokenmarsh.compile, "literals": tokenmarsh.literals, "strict": lambda text: tokenmarsh.compile(text, strict=True)}
 
 
 def file(path):
@@ -58,7 +58,7 @@ class Messages(unittest.TestCase):
                 DOORS[door](pattern(text))
             numbers.add(caught.exception.number)
         # those that no text has are 15, 16 and 18
-        self.assertEqual(numbers, set(range(1, 20)) - {15, 16, 18})
+        self.assertEqual(numbers, set(range(1, 20)) - {15, 16, 18} | {None})
 
     def test_without_a_place_none_is_told(self):
         for number in (*range(1, 20), 255):
@@ -67,6 +67,16 @@ class Messages(unittest.TestCase):
     def test_an_unknown_number_is_refused(self):
         one = Refused(255)
         self.assertEqual((one.number, one.refusal, str(one)), (255, None, f"refused 255: unknown to version {tokenmarsh.__version__}"))
+
+    def test_strict_refuses_what_follows(self):
+        for door in (tokenmarsh.read, tokenmarsh.compile, tokenmarsh.literals):
+            self.assertEqual(door(b"{ 4D 5A } 90 00 }").reached, 10)
+            with self.assertRaises(Leftover) as caught:
+                door(b"{ 4D 5A } 90 00 }", strict=True)
+            self.assertEqual((caught.exception.place, caught.exception.refusal), (10, None))
+            # blanks may follow
+            self.assertEqual(door(b"{ 4D 5A } \t\r\n", strict=True), door(b"{ 4D 5A } \t\r\n"))
+            self.assertEqual(door(b"{ 4D 5A } \t\r\n").reached, 13)
 
 
 if __name__ == "__main__":

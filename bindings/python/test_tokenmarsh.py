@@ -117,7 +117,7 @@ class Doors(unittest.TestCase):
         self.assertEqual(window, b"azc")
 
     def test_what_holds_no_bytes(self):
-        program, back = tokenmarsh.compile(b"{ 61 }")
+        program, back, _ = tokenmarsh.compile(b"{ 61 }")
         # a number is no count of zeros, and four bytes are no item
         for thing in (3, -1, "abc", [0x61], None, array.array("I", [0x61]), memoryview(b"abcd").cast("B", (2, 2)), memoryview(b"abcd").cast("H"),
                       memoryview(b"a").cast("B", ())):
@@ -141,7 +141,7 @@ class Doors(unittest.TestCase):
         # more bytes than there can be literals
         due = tuple(bytes((n, 0x41)) for n in range(200))
         self.assertEqual(tokenmarsh.literals(b"{ (%s) }" % "|".join(one.hex() for one in due).encode()).literals, due)
-        self.assertEqual(tokenmarsh.literals(b"{ ?? }"), ((), 0))
+        self.assertEqual(tokenmarsh.literals(b"{ ?? }"), ((), 0, 6))
         self.refused(lambda: tokenmarsh.literals(b"{ (41|??) }"), Refusal.NOT_PLAIN)
         self.refused(lambda: tokenmarsh.literals(b"{ (" + b"41|" * 256 + b"41) }"), Refusal.TOO_MANY_LITERALS)
 

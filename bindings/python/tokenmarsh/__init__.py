@@ -7,13 +7,22 @@
     >>> pattern.reverse.start(b"xabc")
     1
     >>> tokenmarsh.literals(b"{ 61 [0-2] 63 }")
-    Literals(literals=(b'c',), rank=20)
+    Literals(literals=(b'c',), rank=20, reached=15)
 
 A pattern, a window and a haystack are `bytes` or anything whose items are bytes: a bytearray, a memoryview, an mmap. What is not `bytes` itself is copied by
 each call, so a long haystack that is searched at many places should be `bytes`, and the places the numbers that `forward` and `reverse` take.
 
 A call that has no answer raises `Refused`, which has the refusal's number and its place in the text, and says what was expected and what stands there. What is
 no bytes at all is a TypeError, and a word that has more than 32 bits a ValueError. An answer that no library of this version gives is a RuntimeError.
+
+What follows a pattern's closing brace and its blanks is ignored; `reached` is where it begins. Patterns of others should be taken by `strict=True`:
+
+    >>> tokenmarsh.compile(b"{ 4D 5A } 90 00 }").reached
+    10
+    >>> tokenmarsh.compile(b"{ 4D 5A } 90 00 }", strict=True)
+    Traceback (most recent call last):
+        ...
+    tokenmarsh.Leftover: refused at 10: text after the closing brace: expected nothing after the '}' at 8, found '9'
 
 The work is done by libtokenmarsh.so, from the file that TOKENMARSH_SO names, or from the repository's own build, or from where the system finds it.
 """
@@ -29,7 +38,7 @@ from . import _messages
 
 __version__ = "0.2.0"
 
-__all__ = ["Buffer", "Refusal", "Refused", "Mask", "Byte", "NotByte", "MaskedByte", "NotMaskedByte", "Jump", "Alternatives", "Token", "Read", "Forward", "Reverse",
+__all__ = ["Buffer", "Refusal", "Refused", "Leftover", "Mask", "Byte", "NotByte", "MaskedByte", "NotMaskedByte", "Jump", "Alternatives", "Token", "Read", "Forward", "Reverse",
            "Pattern", "Literals", "read", "compile", "literals", "forward", "reverse", "mirror", "sound"]
 
 TOKEN_POOL = 4096
@@ -100,6 +109,18 @@ class Refused(ValueError):
         return f"refused {self.number}{at}: {': '.join(says)}"
 
 
+class Leftover(Refused):
+    """Text after the closing brace and its blanks, which begins at `place`. Given by `strict` alone, and by no number."""
+
+    def __init__(self, place: int, because: str) -> None:
+        ValueError.__init__(self, place, because)
+        self.number = self.refusal = self.token = None
+        self.place, self._because = place, because
+
+    def __str__(self) -> str:
+        return f"refused at {self.place}: text after the closing brace: {self._because}"
+
+
 class Mask(enum.IntEnum):
     """What a masked byte leaves open: `?X`, `X?`, `??`."""
 
@@ -165,10 +186,12 @@ class Read(NamedTuple):
 
 
 class Literals(NamedTuple):
-    """The literals picked from a pattern, in their order (repeats stay), and how good they are for a search: 0 to 80."""
+    """The literals picked from a pattern, in their order (repeats stay), how good they are for a search (0 to 80), and the offset after the closing brace and
+    its blanks; what follows is ignored."""
 
     literals: Tuple[bytes, ...]
     rank: int
+    reached: int
 
 
 _u8, _u16, _u32, _u64, _size = ctypes.c_uint8, ctypes.c_uint16, ctypes.c_uint32, ctypes.c_uint64, ctypes.c_size_t
@@ -269,6 +292,14 @@ def _within(number: int, most: int) -> int:
     return number
 
 
+def _reached(r: Any, text: bytes, strict: bool) -> int:
+    """The offset reached. A strict call refuses what follows."""
+    reached = _within(r.reached, len(text))
+    if strict and reached < len(text):
+        raise Leftover(reached, _messages.leftover(reached, text))
+    return reached
+
+
 def _list(entries: Sequence[Tuple[int, ...]]) -> Tuple[Token, ...]:
     tokens: List[Token] = []
     at = 0
@@ -295,12 +326,12 @@ def _list(entries: Sequence[Tuple[int, ...]]) -> Tuple[Token, ...]:
     return tuple(tokens)
 
 
-def read(text: Buffer) -> Read:
-    """The tokens of a hexadecimal string, and the offset reached. Refusals 1 to 11."""
+def read(text: Buffer, *, strict: bool = False) -> Read:
+    """The tokens of a hexadecimal string, and the offset reached. Refusals 1 to 11; then, if strict, what follows the closing brace and its blanks."""
     text = _bytes(text)
     pool = (_u32 * TOKEN_POOL)()
     r = _answered(_lib.tm_read(text, len(text), pool, TOKEN_POOL), text)
-    return Read(_list([tuple(pool[i:i + 4]) for i in range(0, _within(r.words, TOKEN_POOL), 4)]), _within(r.reached, len(text)))
+    return Read(_list([tuple(pool[i:i + 4]) for i in range(0, _within(r.words, TOKEN_POOL), 4)]), _reached(r, text, strict))
 
 
 class _Program:
@@ -360,22 +391,25 @@ class Reverse(_Program):
 
 
 class Pattern(NamedTuple):
-    """A compiled pattern: `forward.end` and `reverse.start` fit exactly what it matches."""
+    """A compiled pattern: `forward.end` and `reverse.start` fit exactly what it matches. `reached` is the offset in the text after the closing brace and its
+    blanks; what follows is ignored."""
 
     forward: Forward
     reverse: Reverse
+    reached: int
 
 
-def compile(text: Buffer) -> Pattern:
-    """The two programs of a hexadecimal string. Refusals 1 to 11, then 12, 14, 13."""
+def compile(text: Buffer, *, strict: bool = False) -> Pattern:
+    """The two programs of a hexadecimal string. Refusals 1 to 11, then 12, 14, 13; then, if strict, what follows the closing brace and its blanks."""
     text = _bytes(text)
     ahead, back = (_u32 * NODE_POOL)(), (_u32 * NODE_POOL)()
     r = _answered(_lib.tm_compile(text, len(text), ahead, NODE_POOL, back, NODE_POOL), text)
-    return Pattern(Forward(ahead[:_within(r.forward, NODE_POOL)]), Reverse(back[:_within(r.reverse, NODE_POOL)]))
+    return Pattern(Forward(ahead[:_within(r.forward, NODE_POOL)]), Reverse(back[:_within(r.reverse, NODE_POOL)]), _reached(r, text, strict))
 
 
-def literals(text: Buffer) -> Literals:
-    """The literals to search for (if there are any, every match holds one of them), and their rank. Refusals 1 to 11, then 19, 17."""
+def literals(text: Buffer, *, strict: bool = False) -> Literals:
+    """The literals to search for (if there are any, every match holds one of them), and their rank. Refusals 1 to 11, then 19, 17; then, if strict, what
+    follows the closing brace and its blanks."""
     text = _bytes(text)
     data, lengths = (_u8 * LITERAL_BYTES)(), (_u16 * LITERAL_COUNT)()
     r = _answered(_lib.tm_literals(text, len(text), data, LITERAL_BYTES, lengths, LITERAL_COUNT), text)
@@ -383,7 +417,7 @@ def literals(text: Buffer) -> Literals:
     for n in lengths[:_within(r.count, LITERAL_COUNT)]:
         out.append(bytes(data[at:_within(at + n, LITERAL_BYTES)]))
         at += n
-    return Literals(tuple(out), r.rank)
+    return Literals(tuple(out), r.rank, _reached(r, text, strict))
 
 
 def _check(function: Any, words: Iterable[int], haystack: Buffer, start: int, end: int) -> Optional[int]:

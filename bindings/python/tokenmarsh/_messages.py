@@ -37,6 +37,11 @@ def of(number: int, place: int, text: bytes) -> Tuple[str, Optional[int]]:
     return "", None
 
 
+def leftover(place: int, text: bytes) -> str:
+    """What is said of text after the closing brace."""
+    return f"expected nothing after the '}}' at {text.rfind(b'}', 0, place)}, found {_stands(text, place)}"
+
+
 def _after_blanks(text: bytes, at: int) -> int:
     """The first offset from there on that has no blank."""
     return len(text) - len(text[at:].lstrip(_BLANKS))

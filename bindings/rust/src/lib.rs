@@ -29,10 +29,10 @@ mod tokens;
 
 use std::fmt::Arguments;
 
-pub use literals::{Literals, literals};
+pub use literals::{Literals, literals, literals_strict};
 pub use program::{Forward, Pattern, Reverse};
 pub use refusal::{Refusal, Refused};
-pub use tokens::{Mask, Token, Tokens, read};
+pub use tokens::{Mask, Token, Tokens, read, read_strict};
 
 /// The longest text that is read.
 pub const TEXT_LIMIT: usize = 4096;
@@ -71,6 +71,11 @@ fn refused(number: u32, place: u64, text: &[u8]) -> Result<(), Refused> {
     }
     let refusal = Refusal::from_number(number).unwrap_or(Refusal::Unknown(number));
     Err(Refused::new(refusal, place as usize, text))
+}
+
+/// Refuses what follows a pattern.
+fn nothing_after(text: &[u8], reached: usize) -> Result<(), Refused> {
+    if reached < text.len() { Err(Refused::new(Refusal::Leftover, reached, text)) } else { Ok(()) }
 }
 
 /// Ends a call that has an answer which no library of this version gives. To go on would be to guess, and a scanner that guesses waves files through.

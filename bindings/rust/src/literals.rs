@@ -1,5 +1,5 @@
 use crate::refusal::Refused;
-use crate::{of_this_version, raw, refused, within};
+use crate::{nothing_after, of_this_version, raw, refused, within};
 
 /// 256 literals of 512 bytes are the most that there can be.
 const BYTES: usize = 256 * 512;
@@ -12,9 +12,11 @@ pub struct Literals {
     pub literals: Vec<Vec<u8>>,
     /// How good they are for a search: 0 to 80.
     pub rank: u32,
+    /// The offset after the closing brace and its blanks; what follows is ignored.
+    pub reached: usize,
 }
 
-/// Picks the literals to search for.
+/// Picks the literals to search for. What follows the closing brace and its blanks is ignored; [`literals_strict`] refuses it.
 ///
 /// ```
 /// let picked = tokenmarsh::literals(b"{ 01 02 ?3 04 }").unwrap();
@@ -50,5 +52,16 @@ pub fn literals(text: &[u8]) -> Result<Literals, Refused> {
             one.to_vec()
         })
         .collect();
-    Ok(Literals { literals, rank: r.rank })
+    Ok(Literals { literals, rank: r.rank, reached: within(r.reached, text.len()) })
+}
+
+/// As [`literals`], and refuses what follows the closing brace and its blanks.
+///
+/// # Errors
+///
+/// As [`literals`], then [`Refusal::Leftover`](crate::Refusal::Leftover) at the first byte that follows.
+pub fn literals_strict(text: &[u8]) -> Result<Literals, Refused> {
+    let picked = literals(text)?;
+    nothing_after(text, picked.reached)?;
+    Ok(picked)
 }

@@ -31,6 +31,10 @@ pub fn of(refusal: Refusal, place: usize, text: &[u8]) -> (String, Option<usize>
             });
             return found.unwrap_or_else(|| (refusal.to_string(), None));
         }
+        Refusal::Leftover => match text[..place].iter().rposition(|&sign| sign == b'}') {
+            Some(at) => format!("expected nothing after the '}}' at {at}, found {}", stands(text, place)),
+            None => String::new(),
+        },
         _ => String::new(),
     };
     (if because.is_empty() { refusal.to_string() } else { format!("{refusal}: {because}") }, None)

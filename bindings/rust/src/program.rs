@@ -1,5 +1,5 @@
 use crate::refusal::{Refusal, Refused};
-use crate::{NODE_POOL, broken, of_this_version, raw, refused, within};
+use crate::{NODE_POOL, broken, nothing_after, of_this_version, raw, refused, within};
 
 /// Words that are a sound program: tested once, or written by a proved function that promises it.
 #[derive(Clone, Debug, PartialEq, Eq, Hash)]
@@ -158,10 +158,12 @@ pub struct Pattern {
     pub forward: Forward,
     /// Fits exactly these, read from their other side.
     pub reverse: Reverse,
+    /// The offset in the text after the closing brace and its blanks; what follows is ignored.
+    pub reached: usize,
 }
 
 impl Pattern {
-    /// Compiles a hexadecimal string.
+    /// Compiles a hexadecimal string. What follows the closing brace and its blanks is ignored; [`Pattern::compile_strict`] refuses it.
     ///
     /// # Errors
     ///
@@ -185,6 +187,27 @@ impl Pattern {
         Ok(Self {
             forward: Forward(Sound(forward[..within(r.forward, NODE_POOL)].into())),
             reverse: Reverse(Sound(reverse[..within(r.reverse, NODE_POOL)].into())),
+            reached: within(r.reached, text.len()),
         })
+    }
+
+    /// As [`Pattern::compile`], and refuses what follows the closing brace and its blanks: take patterns of others this way.
+    ///
+    /// ```
+    /// use tokenmarsh::Pattern;
+    ///
+    /// let text = b"{ 4D 5A } 90 00 }";
+    /// assert_eq!(Pattern::compile(text).unwrap().reached, 10);
+    /// let refused = Pattern::compile_strict(text).unwrap_err();
+    /// assert_eq!(refused.to_string(), "refused at 10: text after the closing brace: expected nothing after the '}' at 8, found '9'");
+    /// ```
+    ///
+    /// # Errors
+    ///
+    /// As [`Pattern::compile`], then [`Refusal::Leftover`] at the first byte that follows.
+    pub fn compile_strict(text: &[u8]) -> Result<Self, Refused> {
+        let pattern = Self::compile(text)?;
+        nothing_after(text, pattern.reached)?;
+        Ok(pattern)
     }
 }

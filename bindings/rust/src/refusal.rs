@@ -3,7 +3,7 @@ use std::fmt;
 
 use crate::messages;
 
-/// Why a call gives no answer: the refusals of the library's table, and two that are this crate's own.
+/// Why a call gives no answer: the refusals of the library's table, and three that are this crate's own.
 #[derive(Clone, Copy, Debug, PartialEq, Eq, Hash)]
 #[non_exhaustive]
 pub enum Refusal {
@@ -45,6 +45,8 @@ pub enum Refusal {
     NoRoom,
     /// 19: alternatives that hold more than bytes and classes: no literals are picked from those.
     NotPlain,
+    /// Text after the closing brace and its blanks, which only the strict ways refuse.
+    Leftover,
     /// A number that this crate doesn't know. What is refused for an unknown reason is refused all the same.
     Unknown(u32),
     /// The library that is linked has this version, as its `tm_version` tells it, and is not the one that this crate is made for.
@@ -82,7 +84,7 @@ impl Refusal {
         Some(row.0)
     }
 
-    /// The number that the library gave; [`Refusal::OtherVersion`] has none.
+    /// The number that the library gave; [`Refusal::Leftover`] and [`Refusal::OtherVersion`] have none.
     #[must_use]
     pub fn number(self) -> Option<u32> {
         match self {
@@ -93,13 +95,14 @@ impl Refusal {
 
     /// Whether its place means something.
     fn has_place(self) -> bool {
-        self.number().map_or(false, |number| (2..=11).contains(&number))
+        self == Self::Leftover || self.number().map_or(false, |number| (2..=11).contains(&number))
     }
 }
 
 impl fmt::Display for Refusal {
     fn fmt(&self, f: &mut fmt::Formatter<'_>) -> fmt::Result {
         match self {
+            Self::Leftover => f.write_str("text after the closing brace"),
             Self::Unknown(_) => write!(f, "unknown to version {}", env!("CARGO_PKG_VERSION")),
             Self::OtherVersion(n) => {
                 let [_, major, minor, patch] = n.to_be_bytes();

@@ -1,5 +1,5 @@
 use crate::refusal::Refused;
-use crate::{broken, of_this_version, raw, refused, within};
+use crate::{broken, nothing_after, of_this_version, raw, refused, within};
 
 /// What a masked byte leaves open.
 #[derive(Clone, Copy, Debug, PartialEq, Eq, Hash)]
@@ -43,7 +43,7 @@ pub struct Tokens {
     pub reached: usize,
 }
 
-/// Reads a hexadecimal string.
+/// Reads a hexadecimal string. What follows the closing brace and its blanks is ignored; [`read_strict`] refuses it.
 ///
 /// ```
 /// use tokenmarsh::{read, Token};
@@ -65,6 +65,17 @@ pub fn read(text: &[u8]) -> Result<Tokens, Refused> {
     let words = &pool[..within(r.words, crate::TOKEN_POOL)];
     let entries: Vec<[u32; 4]> = words.chunks_exact(4).map(|e| [e[0], e[1], e[2], e[3]]).collect();
     Ok(Tokens { tokens: list(&entries), reached: within(r.reached, text.len()) })
+}
+
+/// As [`read`], and refuses what follows the closing brace and its blanks.
+///
+/// # Errors
+///
+/// As [`read`], then [`Refusal::Leftover`](crate::Refusal::Leftover) at the first byte that follows.
+pub fn read_strict(text: &[u8]) -> Result<Tokens, Refused> {
+    let tokens = read(text)?;
+    nothing_after(text, tokens.reached)?;
+    Ok(tokens)
 }
 
 fn mask(number: u32) -> Mask {

@@ -3,7 +3,9 @@
 use std::error::Error;
 use std::thread;
 
-use tokenmarsh::{Forward, Mask, Pattern, Refusal, Refused, Reverse, Token, literals, raw, read};
+use tokenmarsh::{
+    Forward, Mask, Pattern, Refusal, Refused, Reverse, Token, literals, literals_strict, raw, read, read_strict,
+};
 
 fn refusal(text: &str) -> (u32, usize) {
     let Refused { refusal, place, .. } = read(text.as_bytes()).expect_err(text);
@@ -102,6 +104,24 @@ fn a_tail_tells_no_match_from_an_empty_one() {
     for window in [&b"a"[..], b"xab", b""] {
         assert_eq!(forward.tail(window), None);
     }
+}
+
+#[test]
+fn what_follows_is_told_and_refused_by_the_strict_ways() {
+    let text = b"{ 4D 5A } 90 00 }";
+    let plain = (read(text).unwrap().reached, Pattern::compile(text).unwrap().reached, literals(text).unwrap().reached);
+    assert_eq!(plain, (10, 10, 10));
+    for refused in
+        [read_strict(text).unwrap_err(), Pattern::compile_strict(text).unwrap_err(), literals_strict(text).unwrap_err()]
+    {
+        assert_eq!((refused.refusal, refused.place, refused.refusal.number()), (Refusal::Leftover, 10, None));
+    }
+    // Blanks may follow.
+    let text = b"{ 4D 5A } \t\r\n";
+    assert_eq!(read_strict(text), read(text));
+    assert_eq!(Pattern::compile_strict(text), Pattern::compile(text));
+    assert_eq!(literals_strict(text), literals(text));
+    assert_eq!(read(text).unwrap().reached, 13);
 }
 
 #[test]

@@ -59,6 +59,7 @@ fn answer(door: &str, written: &str) -> Result<(), Refused> {
         "read" => read(&text).map(|_| ()),
         "compile" => Pattern::compile(&text).map(|_| ()),
         "literals" => literals(&text).map(|_| ()),
+        "strict" => Pattern::compile_strict(&text).map(|_| ()),
         _ => panic!("{door}"),
     }
 }
@@ -84,4 +85,5 @@ fn messages_are_those_of_the_table() {
     for number in (1..20).filter(|number| ![15, 16, 18].contains(number)) {
         assert!(numbers.contains(&Some(number)), "no row with {number}");
     }
+    assert!(numbers.contains(&None));
 }
