@@ -74,6 +74,11 @@ int main(int argc, char **argv)
             fprintf(stderr, "refused %u\n", c.refusal);
         return 1;
     }
+    /* Else what follows would be ignored. */
+    if (c.reached != strlen(argv[1])) {
+        fprintf(stderr, "text after the closing brace at %llu\n", (unsigned long long)c.reached);
+        return 1;
+    }
     size_t n;
     uint8_t *bytes = whole(&n);
     if (bytes == NULL) {
