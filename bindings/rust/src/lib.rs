@@ -4,6 +4,10 @@
 //! its C functions. What the types rule out needs no test at run time: a program is sound and has one direction ([`Forward`],
 //! [`Reverse`]), and a window is a slice.
 //!
+//! A text that is refused is an error that says what was expected, what stands there and where ([`Refused`]). What follows a pattern's closing brace is
+//! ignored; [`Pattern::compile_strict`] refuses it. A library of another version is an error too, and an answer that no library of this version gives
+//! is a panic.
+//!
 //! ```
 //! use tokenmarsh::Pattern;
 //!
