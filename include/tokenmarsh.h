@@ -21,7 +21,7 @@
  *       with one ([1] and [1-1] are ?? and no jumps)                     the list's first byte
  *    7  unbounded jump in alternatives                                   the [
  *    8  jump above 200 in alternatives                                   the [
- *    9  ~??                                                              the ~
+ *    9  ~??, which fits no byte                                          the ~
  *   10  a ninth list level; the outer list is the first                  where the list would begin
  *   11  a 513th token                                                    its first byte
  *   12  not simple: a jump unbounded or above 255; in a branch, a range or nested alternatives

@@ -59,13 +59,24 @@ int main(int argc, char **argv)
         fprintf(stderr, "usage: example PATTERN < FILE\n");
         return 2;
     }
-    if (tm_version() != TM_VERSION) {
-        fprintf(stderr, "libtokenmarsh is of another version than tokenmarsh.h\n");
-        return 2;
+    uint32_t version = tm_version();
+    if (version != TM_VERSION) {
+        fprintf(stderr, "libtokenmarsh is of version %u.%u.%u, and tokenmarsh.h of %u.%u.%u\n", version >> 16, version >> 8 & 255, version & 255,
+                TM_VERSION_MAJOR, TM_VERSION_MINOR, TM_VERSION_PATCH);
+        return 1;
     }
     tm_compile_result c = tm_compile((const uint8_t *)argv[1], strlen(argv[1]), forward, TM_NODE_POOL, reverse, TM_NODE_POOL);
     if (c.refusal != 0) {
-        fprintf(stderr, "refused %u at %llu\n", c.refusal, (unsigned long long)c.place);
+        /* The others have no place. */
+        if (c.refusal >= 2 && c.refusal <= 11)
+            fprintf(stderr, "refused %u at %llu\n", c.refusal, (unsigned long long)c.place);
+        else
+            fprintf(stderr, "refused %u\n", c.refusal);
+        return 1;
+    }
+    /* Else what follows would be ignored. */
+    if (c.reached != strlen(argv[1])) {
+        fprintf(stderr, "text after the closing brace at %llu\n", (unsigned long long)c.reached);
         return 1;
     }
     size_t n;

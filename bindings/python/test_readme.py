@@ -59,7 +59,7 @@ class Patterns(unittest.TestCase):
     def test_literals_that_are_refused(self):
         self.assertEqual(tokenmarsh.literals(b"{ ?? [2] ?? }").literals, ())
         self.assertEqual(number(tokenmarsh.literals, "{" + 2 * ("(" + 16 * "41|" + "42)") + "}"), 17)
-        whole, *parts = re.findall(r"`(\{ 4D (?!5A \[)[^`]*)`", README)
+        whole, *parts = re.findall(r"`(\{ 4D (?!5A [\[}])[^`]*)`", README)
         self.assertEqual([number(tokenmarsh.literals, text) for text in (whole, *parts)], [19, 0, 0])
         self.assertEqual(number(tokenmarsh.compile, whole), 0)
 

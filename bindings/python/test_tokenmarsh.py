@@ -1,11 +1,10 @@
 """The doors from Python: `python3 -m unittest` in this folder, after `make test` laid down the table of the header's layout."""
 import array
-import copy
 import ctypes
 import doctest
 import os
-import pickle
 import random
+import threading
 import unittest
 
 import tokenmarsh
@@ -41,13 +40,6 @@ class Doors(unittest.TestCase):
         ):
             for door in (tokenmarsh.read, tokenmarsh.compile, tokenmarsh.literals):
                 self.refused(lambda: door(text), number, place)
-
-    def test_a_refusal_says_why_and_travels(self):
-        with self.assertRaises(Refused) as caught:
-            tokenmarsh.read(b"{ AB [0] CD }")
-        for one in (caught.exception, copy.copy(caught.exception), pickle.loads(pickle.dumps(caught.exception))):
-            self.assertEqual((one.refusal, one.place, str(one)), (Refusal.JUMP_EMPTY, 5, "refused 4 at 5: empty jump"))
-        self.assertEqual([r.value for r in Refusal], list(range(1, 20)))
 
     def test_tokens_are_nested(self):
         r = tokenmarsh.read(b"{ AB ~?c [4-] ( 01 | 2? [1] ) 03 } zz")
@@ -96,6 +88,11 @@ class Doors(unittest.TestCase):
         # where the tail starts is not the count of words
         self.assertEqual(bytes(tokenmarsh.compile(b"{ 61 [0-2] 63 }").forward.tail(b"acde")), b"de")
 
+    def test_a_tail_tells_no_match_from_an_empty_one(self):
+        program = tokenmarsh.compile(b"{ 61 62 }").forward
+        self.assertEqual([program.tail(window) for window in (b"abc", b"ab", b"a", b"xab", b"")], [b"c", b"", None, None, None])
+        self.assertEqual([Forward([]).tail(window) for window in (b"ab", b"")], [b"ab", b""])
+
     def test_windows(self):
         for check in (tokenmarsh.forward, tokenmarsh.reverse):
             self.assertEqual(check([], b"abc", 3, 3), 3)
@@ -120,9 +117,10 @@ class Doors(unittest.TestCase):
         self.assertEqual(window, b"azc")
 
     def test_what_holds_no_bytes(self):
-        program, back = tokenmarsh.compile(b"{ 61 }")
+        program, back, _ = tokenmarsh.compile(b"{ 61 }")
         # a number is no count of zeros, and four bytes are no item
-        for thing in (3, "abc", [0x61], None, array.array("I", [0x61]), memoryview(b"abcd").cast("B", (2, 2))):
+        for thing in (3, -1, "abc", [0x61], None, array.array("I", [0x61]), memoryview(b"abcd").cast("B", (2, 2)), memoryview(b"abcd").cast("H"),
+                      memoryview(b"a").cast("B", ())):
             for door in (tokenmarsh.read, tokenmarsh.compile, tokenmarsh.literals, program.end, program.tail, back.start,
                          lambda w: tokenmarsh.forward([], w, 0, 0), lambda w: tokenmarsh.reverse([], w, 0, 0)):
                 self.assertRaises(TypeError, door, thing)
@@ -143,7 +141,7 @@ class Doors(unittest.TestCase):
         # more bytes than there can be literals
         due = tuple(bytes((n, 0x41)) for n in range(200))
         self.assertEqual(tokenmarsh.literals(b"{ (%s) }" % "|".join(one.hex() for one in due).encode()).literals, due)
-        self.assertEqual(tokenmarsh.literals(b"{ ?? }"), ((), 0))
+        self.assertEqual(tokenmarsh.literals(b"{ ?? }"), ((), 0, 6))
         self.refused(lambda: tokenmarsh.literals(b"{ (41|??) }"), Refusal.NOT_PLAIN)
         self.refused(lambda: tokenmarsh.literals(b"{ (" + b"41|" * 256 + b"41) }"), Refusal.TOO_MANY_LITERALS)
 
@@ -162,6 +160,33 @@ class Doors(unittest.TestCase):
                     matches += 1
                     self.assertTrue(any(one in window[:end] for one in picked.literals), (text, window[:end]))
         self.assertGreater(matches, 1000)
+
+    def test_much_is_refused(self):
+        for text in (b"{" + b"4" * (10 << 20), bytearray(10 << 20)):
+            for door in (tokenmarsh.read, tokenmarsh.compile, tokenmarsh.literals):
+                self.refused(lambda: door(text), Refusal.TEXT_TOO_LONG)
+        for words in ([0] * 4096, [7] * 4096):
+            for door in (Forward, Reverse, tokenmarsh.mirror, lambda w: tokenmarsh.forward(w, b"", 0, 0), lambda w: tokenmarsh.reverse(w, b"", 0, 0)):
+                self.refused(lambda: door(words), Refusal.TOO_MANY_NODES)
+            self.assertFalse(tokenmarsh.sound(words))
+
+    def test_eight_threads_at_once(self):
+        seen = [None] * 8
+
+        def work(k):
+            ends, counts = set(), set()
+            for _ in range(100):
+                ends.add(tokenmarsh.compile(b"{ %02X [%d] 63 }" % (k, k + 2)).forward.end(bytes([k]) + b"x" * (k + 2) + b"c"))
+                counts.add(len(tokenmarsh.literals(b"{ (%s41) }" % (b"41|" * k)).literals))
+                self.refused(lambda: tokenmarsh.read(b"{ %sg }" % (b"41 " * k)), Refusal.UNEXPECTED, 3 * k + 2)
+            # only if nothing failed before
+            seen[k] = ends, counts
+        threads = [threading.Thread(target=work, args=(k,)) for k in range(8)]
+        for thread in threads:
+            thread.start()
+        for thread in threads:
+            thread.join()
+        self.assertEqual(seen, [({k + 4}, {k + 1}) for k in range(8)])
 
     def test_examples(self):
         self.assertEqual(doctest.testmod(tokenmarsh, verbose=False).failed, 0)

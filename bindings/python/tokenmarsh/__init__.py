@@ -7,13 +7,22 @@
     >>> pattern.reverse.start(b"xabc")
     1
     >>> tokenmarsh.literals(b"{ 61 [0-2] 63 }")
-    Literals(literals=(b'c',), rank=20)
+    Literals(literals=(b'c',), rank=20, reached=15)
 
 A pattern, a window and a haystack are `bytes` or anything whose items are bytes: a bytearray, a memoryview, an mmap. What is not `bytes` itself is copied by
 each call, so a long haystack that is searched at many places should be `bytes`, and the places the numbers that `forward` and `reverse` take.
 
-A call that has no answer raises `Refused`, which has the refusal's number and its place in the text. What is no bytes at all is a TypeError, and a word
-that has more than 32 bits a ValueError.
+A call that has no answer raises `Refused`, which has the refusal's number and its place in the text, and says what was expected and what stands there. What is
+no bytes at all is a TypeError, and a word that has more than 32 bits a ValueError. An answer that no library of this version gives is a RuntimeError.
+
+What follows a pattern's closing brace and its blanks is ignored; `reached` is where it begins. Patterns of others should be taken by `strict=True`:
+
+    >>> tokenmarsh.compile(b"{ 4D 5A } 90 00 }").reached
+    10
+    >>> tokenmarsh.compile(b"{ 4D 5A } 90 00 }", strict=True)
+    Traceback (most recent call last):
+        ...
+    tokenmarsh.Leftover: refused at 10: text after the closing brace: expected nothing after the '}' at 8, found '9'
 
 A check is anchored: `end` tells of a match that starts with the window's first byte, `start` of one that ends with its last. To search a file, look for the
 literals first and check about these; find.py in bindings/python does so.
@@ -36,9 +45,11 @@ import os
 from dataclasses import dataclass
 from typing import Any, Iterable, List, NamedTuple, Optional, Sequence, Tuple, Union
 
+from . import _messages
+
 __version__ = "0.2.0"
 
-__all__ = ["Buffer", "Refusal", "Refused", "Mask", "Byte", "NotByte", "MaskedByte", "NotMaskedByte", "Jump", "Alternatives", "Token", "Read", "Forward", "Reverse",
+__all__ = ["Buffer", "Refusal", "Refused", "Leftover", "Mask", "Byte", "NotByte", "MaskedByte", "NotMaskedByte", "Jump", "Alternatives", "Token", "Read", "Forward", "Reverse",
            "Pattern", "Literals", "read", "compile", "literals", "forward", "reverse", "mirror", "sound"]
 
 TOKEN_POOL = 4096
@@ -52,7 +63,7 @@ Buffer = Union[bytes, bytearray, memoryview, mmap.mmap]
 
 
 class Refusal(enum.IntEnum):
-    """Why a call gives no answer: a number, and its `meaning`."""
+    """Why a call gives no answer: a number, and its `meaning` in the words of include/tokenmarsh.h."""
 
     meaning: str
 
@@ -64,35 +75,61 @@ class Refusal(enum.IntEnum):
     TEXT_TOO_LONG = 1, "text above 4,096 bytes"
     UNEXPECTED = 2, "something needed isn't there"
     NUMBER_TOO_BIG = 3, "number above 4,294,967,295"
-    JUMP_EMPTY = 4, "empty jump"
-    JUMP_RANGE_INVALID = 5, "jump whose from is above its to"
-    JUMP_AT_BOUND = 6, "jump at the bound of a list"
+    JUMP_EMPTY = 4, "an empty jump"
+    JUMP_RANGE_INVALID = 5, "a jump whose from is above its to"
+    JUMP_AT_BOUND = 6, "a list begins with a jump, or has two or more tokens and ends with one"
     JUMP_UNBOUNDED_IN_ALTERNATION = 7, "unbounded jump in alternatives"
     JUMP_TOO_BIG_IN_ALTERNATION = 8, "jump above 200 in alternatives"
-    CANNOT_NEGATE_MASK_ALL = 9, "?? cannot be negated"
-    HEX_STRING_TOO_DEEP = 10, "alternatives nested too deep"
-    TOO_MANY_TOKENS = 11, "more than 512 tokens"
-    NOT_SIMPLE = 12, "a jump unbounded or above 255; in a branch, a range or nested alternatives"
+    CANNOT_NEGATE_MASK_ALL = 9, "~??, which fits no byte"
+    HEX_STRING_TOO_DEEP = 10, "a ninth list level"
+    TOO_MANY_TOKENS = 11, "a 513th token"
+    NOT_SIMPLE = 12, "not simple"
     TOO_MANY_NODES = 13, "more than 512 nodes"
-    BRANCH_TOO_LONG = 14, "branch above 255 nodes"
+    BRANCH_TOO_LONG = 14, "a branch above 255 nodes"
     UNSOUND = 15, "unsound program"
-    BAD_WINDOW = 16, "window outside its haystack"
-    TOO_MANY_LITERALS = 17, "candidate with more than 256 literals"
-    NO_ROOM = 18, "lent buffer too short"
-    NOT_PLAIN = 19, "alternatives hold more than bytes and classes, so no literals are picked"
+    BAD_WINDOW = 16, "window start above its end, or end above the haystack's length"
+    TOO_MANY_LITERALS = 17, "a candidate with more than 256 literals"
+    NO_ROOM = 18, "a lent buffer is too short"
+    NOT_PLAIN = 19, "alternatives not plain"
 
 
 class Refused(ValueError):
-    """A refusal, and the offset in the text that it is given at (0 where none is meant)."""
+    """A call that is refused: by `number`, which is `refusal` unless this module doesn't know it (then that is None), at `place`, the offset in the text that
+    it is given at, 0 where none is meant. For 12 and 19, `token` is the offset of the first token that is the reason."""
 
-    def __init__(self, number: int, place: int = 0) -> None:
+    number: Optional[int]
+    refusal: Optional[Refusal]
+    place: int
+    token: Optional[int]
+
+    def __init__(self, number: int, place: int = 0, because: str = "", token: Optional[int] = None) -> None:
         # What an exception is made anew from, when it is copied or sent to another process.
-        super().__init__(int(number), place)
-        self.refusal = Refusal(number)
-        self.place = place
+        super().__init__(int(number), place, because, token)
+        self.number, self.place, self.token, self._because = int(number), place, token, because
+        try:
+            self.refusal = Refusal(number)
+        except ValueError:
+            self.refusal = None
 
     def __str__(self) -> str:
-        return f"refused {self.refusal.value} at {self.place}: {self.refusal.meaning}"
+        if self.refusal is None:
+            return f"refused {self.number}: unknown to version {__version__}"
+        # What was expected says more than that something is missing.
+        says = [self.refusal.meaning] * (self.refusal is not Refusal.UNEXPECTED or not self._because) + [self._because] * bool(self._because)
+        at = f" at {self.place}" if Refusal.UNEXPECTED <= self.refusal <= Refusal.TOO_MANY_TOKENS else ""
+        return f"refused {self.number}{at}: {': '.join(says)}"
+
+
+class Leftover(Refused):
+    """Text after the closing brace and its blanks, which begins at `place`. Given by `strict` alone, and by no number."""
+
+    def __init__(self, place: int, because: str) -> None:
+        ValueError.__init__(self, place, because)
+        self.number = self.refusal = self.token = None
+        self.place, self._because = place, because
+
+    def __str__(self) -> str:
+        return f"refused at {self.place}: text after the closing brace: {self._because}"
 
 
 class Mask(enum.IntEnum):
@@ -160,10 +197,12 @@ class Read(NamedTuple):
 
 
 class Literals(NamedTuple):
-    """The literals picked from a pattern, in their order (repeats stay), and how good they are for a search: 0 to 80."""
+    """The literals picked from a pattern, in their order (repeats stay), how good they are for a search (0 to 80), and the offset after the closing brace and
+    its blanks; what follows is ignored."""
 
     literals: Tuple[bytes, ...]
     rank: int
+    reached: int
 
 
 _u8, _u16, _u32, _u64, _size = ctypes.c_uint8, ctypes.c_uint16, ctypes.c_uint32, ctypes.c_uint64, ctypes.c_size_t
@@ -189,10 +228,16 @@ def _load() -> ctypes.CDLL:
     # A name without a folder is a file here, and not one where the system looks.
     path = os.path.abspath(named) if named else next(filter(os.path.exists, near), "libtokenmarsh.so.0.2")
     try:
-        return _declared(ctypes.CDLL(path))
+        lib = _declared(ctypes.CDLL(path))
     except (OSError, AttributeError) as error:
         why = "which TOKENMARSH_SO names" if named else "run make, or name the file by TOKENMARSH_SO"
         raise ImportError(f"no tokenmarsh library in {path}, {why}: {error}", name=__name__, path=path) from error
+    # Another version's answers would be misread.
+    number = lib.tm_version()
+    version = f"{number >> 16}.{number >> 8 & 255}.{number & 255}"
+    if version != __version__:
+        raise ImportError(f"libtokenmarsh in {path} is of version {version}, and this module of {__version__}", name=__name__, path=path)
+    return lib
 
 
 def _declared(lib: ctypes.CDLL) -> ctypes.CDLL:
@@ -242,10 +287,28 @@ def _offset(number: int) -> int:
     return number
 
 
-def _answered(result: Any) -> Any:
+def _answered(result: Any, text: Optional[bytes] = None) -> Any:
+    """A result that is no refusal, neither a known nor an unknown one."""
     if result.refusal:
-        raise Refused(result.refusal, getattr(result, "place", 0))
+        place = getattr(result, "place", 0)
+        because, token = _messages.of(result.refusal, place, text) if text is not None else ("", None)
+        raise Refused(result.refusal, place, because, token)
     return result
+
+
+def _within(number: int, most: int) -> int:
+    """A number that the library answers, which is so much at most. To go on with another would be to guess, and a scanner that guesses waves files through."""
+    if number > most:
+        raise RuntimeError(f"libtokenmarsh broke its contract: {number} where {most} is the most")
+    return number
+
+
+def _reached(r: Any, text: bytes, strict: bool) -> int:
+    """The offset reached. A strict call refuses what follows."""
+    reached = _within(r.reached, len(text))
+    if strict and reached < len(text):
+        raise Leftover(reached, _messages.leftover(reached, text))
+    return reached
 
 
 def _list(entries: Sequence[Tuple[int, ...]]) -> Tuple[Token, ...]:
@@ -255,25 +318,31 @@ def _list(entries: Sequence[Tuple[int, ...]]) -> Tuple[Token, ...]:
         kind, a, b, c = entries[at]
         at += 1
         if kind == 5:
-            inside, at = entries[at:at + b], at + b
+            inside, at = entries[at:_within(at + b, len(entries))], at + b
             lists: List[Tuple[Token, ...]] = []
             k = 0
             while k < len(inside):
-                size = inside[k][2]
+                size = _within(inside[k][2], len(inside) - k - 1)
                 lists.append(_list(inside[k + 1:k + 1 + size]))
                 k += 1 + size
             tokens.append(Alternatives(tuple(lists)))
+        elif kind == 4:
+            tokens.append(Jump(a, b if c else None))
+        elif kind == 3:
+            tokens.append(NotMaskedByte(a, Mask(_within(b, 2))))
+        elif kind == 2:
+            tokens.append(MaskedByte(a, Mask(_within(b, 2))))
         else:
-            tokens.append((Byte(a), NotByte(a), MaskedByte(a, Mask(min(b, 2))), NotMaskedByte(a, Mask(min(b, 2))), Jump(a, b if c else None))[kind])
+            tokens.append(NotByte(a) if _within(kind, 1) else Byte(a))
     return tuple(tokens)
 
 
-def read(text: Buffer) -> Read:
-    """The tokens of a hexadecimal string, and the offset reached. Refusals 1 to 11."""
+def read(text: Buffer, *, strict: bool = False) -> Read:
+    """The tokens of a hexadecimal string, and the offset reached. Refusals 1 to 11; then, if strict, what follows the closing brace and its blanks."""
     text = _bytes(text)
     pool = (_u32 * TOKEN_POOL)()
-    r = _answered(_lib.tm_read(text, len(text), pool, TOKEN_POOL))
-    return Read(_list([tuple(pool[i:i + 4]) for i in range(0, r.words, 4)]), r.reached)
+    r = _answered(_lib.tm_read(text, len(text), pool, TOKEN_POOL), text)
+    return Read(_list([tuple(pool[i:i + 4]) for i in range(0, _within(r.words, TOKEN_POOL), 4)]), _reached(r, text, strict))
 
 
 class _Program:
@@ -309,11 +378,11 @@ class Forward(_Program):
         """Where the first choice ends that fits the window from its start, or None."""
         return forward(self.words, window, 0, len(window))
 
-    def tail(self, window: Buffer) -> memoryview:
-        """What `end` leaves of the window, as a part of it; empty if nothing fits."""
-        words, n = _words(self.words)
-        r = _lib.tm_tail(words, n, _bytes(window), len(window), 0, len(window))
-        return memoryview(window)[r.offset:r.offset + r.length]
+    def tail(self, window: Buffer) -> Optional[memoryview]:
+        """What `end` leaves of the window, as a part of it, or None if nothing fits."""
+        # Not by tm_tail: its answer is the same for no match, for a refusal and, in an empty window, for a match.
+        end = self.end(window)
+        return None if end is None else memoryview(window)[end:]
 
     def mirror(self) -> "Reverse":
         """The mirror: what it fits is what this program fits, read from its other side."""
@@ -333,37 +402,40 @@ class Reverse(_Program):
 
 
 class Pattern(NamedTuple):
-    """A compiled pattern: `forward.end` and `reverse.start` fit exactly what it matches."""
+    """A compiled pattern: `forward.end` and `reverse.start` fit exactly what it matches. `reached` is the offset in the text after the closing brace and its
+    blanks; what follows is ignored."""
 
     forward: Forward
     reverse: Reverse
+    reached: int
 
 
-def compile(text: Buffer) -> Pattern:
-    """The two programs of a hexadecimal string. Refusals 1 to 11, then 12, 14, 13."""
+def compile(text: Buffer, *, strict: bool = False) -> Pattern:
+    """The two programs of a hexadecimal string. Refusals 1 to 11, then 12, 14, 13; then, if strict, what follows the closing brace and its blanks."""
     text = _bytes(text)
     ahead, back = (_u32 * NODE_POOL)(), (_u32 * NODE_POOL)()
-    r = _answered(_lib.tm_compile(text, len(text), ahead, NODE_POOL, back, NODE_POOL))
-    return Pattern(Forward(ahead[:r.forward]), Reverse(back[:r.reverse]))
+    r = _answered(_lib.tm_compile(text, len(text), ahead, NODE_POOL, back, NODE_POOL), text)
+    return Pattern(Forward(ahead[:_within(r.forward, NODE_POOL)]), Reverse(back[:_within(r.reverse, NODE_POOL)]), _reached(r, text, strict))
 
 
-def literals(text: Buffer) -> Literals:
-    """The literals to search for (if there are any, every match holds one of them), and their rank. Refusals 1 to 11, then 19, 17."""
+def literals(text: Buffer, *, strict: bool = False) -> Literals:
+    """The literals to search for (if there are any, every match holds one of them), and their rank. Refusals 1 to 11, then 19, 17; then, if strict, what
+    follows the closing brace and its blanks."""
     text = _bytes(text)
     data, lengths = (_u8 * LITERAL_BYTES)(), (_u16 * LITERAL_COUNT)()
-    r = _answered(_lib.tm_literals(text, len(text), data, LITERAL_BYTES, lengths, LITERAL_COUNT))
+    r = _answered(_lib.tm_literals(text, len(text), data, LITERAL_BYTES, lengths, LITERAL_COUNT), text)
     out, at = [], 0
-    for n in lengths[:r.count]:
-        out.append(bytes(data[at:at + n]))
+    for n in lengths[:_within(r.count, LITERAL_COUNT)]:
+        out.append(bytes(data[at:_within(at + n, LITERAL_BYTES)]))
         at += n
-    return Literals(tuple(out), r.rank)
+    return Literals(tuple(out), r.rank, _reached(r, text, strict))
 
 
 def _check(function: Any, words: Iterable[int], haystack: Buffer, start: int, end: int) -> Optional[int]:
     lent, n = _words(words)
     haystack = _bytes(haystack)
     r = _answered(function(lent, n, haystack, len(haystack), _offset(start), _offset(end)))
-    return int(r.offset) if r.found else None
+    return _within(r.offset, len(haystack)) if _within(r.found, 1) else None
 
 
 def forward(words: Iterable[int], haystack: Buffer, start: int, end: int) -> Optional[int]:
@@ -381,7 +453,7 @@ def mirror(words: Iterable[int]) -> Tuple[int, ...]:
     lent, n = _words(words)
     pool = (_u32 * NODE_POOL)()
     r = _answered(_lib.tm_mirror(lent, n, pool, NODE_POOL))
-    return tuple(pool[:r.words])
+    return tuple(pool[:_within(r.words, NODE_POOL)])
 
 
 def sound(words: Iterable[int]) -> bool:

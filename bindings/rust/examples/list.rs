@@ -34,7 +34,7 @@ fn main() -> ExitCode {
         [_, text, file] => (text, file),
         _ => return fail(2, "usage: list PATTERN FILE"),
     };
-    let pattern = match Pattern::compile(text.as_bytes()) {
+    let pattern = match Pattern::compile_strict(text.as_bytes()) {
         Ok(pattern) => pattern,
         Err(refused) => return fail(1, refused),
     };

@@ -4,6 +4,10 @@
 //! its C functions. What the types rule out needs no test at run time: a program is sound and has one direction ([`Forward`],
 //! [`Reverse`]), and a window is a slice.
 //!
+//! A text that is refused is an error that says what was expected, what stands there and where ([`Refused`]). What follows a pattern's closing brace is
+//! ignored; [`Pattern::compile_strict`] refuses it. A library of another version is an error too, and an answer that no library of this version gives
+//! is a panic.
+//!
 //! ```
 //! use tokenmarsh::Pattern;
 //!
@@ -33,16 +37,19 @@
 #![allow(clippy::cast_possible_truncation)]
 
 mod literals;
+mod messages;
 mod program;
 #[allow(missing_docs)]
 pub mod raw;
 mod refusal;
 mod tokens;
 
-pub use literals::{Literals, literals};
+use std::fmt::Arguments;
+
+pub use literals::{Literals, literals, literals_strict};
 pub use program::{Forward, Pattern, Reverse};
 pub use refusal::{Refusal, Refused};
-pub use tokens::{Mask, Token, Tokens, read};
+pub use tokens::{Mask, Token, Tokens, read, read_strict};
 
 /// The longest text that is read.
 pub const TEXT_LIMIT: usize = 4096;
@@ -50,10 +57,54 @@ pub const TEXT_LIMIT: usize = 4096;
 const TOKEN_POOL: usize = 4096;
 const NODE_POOL: usize = 512;
 
-/// A refusal's number as a result.
-fn refused(number: u32, place: u64) -> Result<(), Refused> {
-    match Refusal::from_number(number) {
-        None => Ok(()),
-        Some(refusal) => Err(Refused { refusal, place: place as usize }),
+/// This crate's version as `tm_version` counts.
+const VERSION: u32 = 65536 * decimal(env!("CARGO_PKG_VERSION_MAJOR"))
+    + 256 * decimal(env!("CARGO_PKG_VERSION_MINOR"))
+    + decimal(env!("CARGO_PKG_VERSION_PATCH"));
+
+const fn decimal(digits: &str) -> u32 {
+    let digits = digits.as_bytes();
+    let (mut number, mut at) = (0, 0);
+    while at < digits.len() {
+        number = 10 * number + (digits[at] - b'0') as u32;
+        at += 1;
+    }
+    number
+}
+
+/// Refuses a library of another version, whose answers would be misread. Every value of this crate comes from a call that asks this first.
+fn of_this_version() -> Result<(), Refusal> {
+    // SAFETY: it takes nothing.
+    match unsafe { raw::tm_version() } {
+        VERSION => Ok(()),
+        other => Err(Refusal::OtherVersion(other)),
+    }
+}
+
+/// A refusal's number as a result. Only 0 is none.
+fn refused(number: u32, place: u64, text: &[u8]) -> Result<(), Refused> {
+    if number == 0 {
+        return Ok(());
+    }
+    let refusal = Refusal::from_number(number).unwrap_or(Refusal::Unknown(number));
+    Err(Refused::new(refusal, place as usize, text))
+}
+
+/// Refuses what follows a pattern.
+fn nothing_after(text: &[u8], reached: usize) -> Result<(), Refused> {
+    if reached < text.len() { Err(Refused::new(Refusal::Leftover, reached, text)) } else { Ok(()) }
+}
+
+/// Ends a call that has an answer which no library of this version gives. To go on would be to guess, and a scanner that guesses waves files through.
+#[cold]
+fn broken(answer: Arguments<'_>) -> ! {
+    panic!("libtokenmarsh broke its contract: {answer}")
+}
+
+/// A number that the library answers, which is so much at most.
+fn within(number: u64, most: usize) -> usize {
+    match usize::try_from(number) {
+        Ok(number) if number <= most => number,
+        _ => broken(format_args!("{number} where {most} is the most")),
     }
 }

@@ -1,5 +1,5 @@
 use crate::refusal::{Refusal, Refused};
-use crate::{NODE_POOL, raw, refused};
+use crate::{NODE_POOL, broken, nothing_after, of_this_version, raw, refused, within};
 
 /// Words that are a sound program: tested once, or written by a proved function that promises it.
 #[derive(Clone, Debug, PartialEq, Eq, Hash)]
@@ -7,6 +7,7 @@ struct Sound(Box<[u32]>);
 
 impl Sound {
     fn tested(words: &[u32]) -> Result<Self, Refusal> {
+        of_this_version()?;
         if words.len() > NODE_POOL {
             return Err(Refusal::TooManyNodes);
         }
@@ -22,8 +23,19 @@ impl Sound {
         let mut pool = vec![0u32; NODE_POOL];
         // SAFETY: both slices are good for their lengths, and they do not overlap.
         let r = unsafe { raw::tm_mirror(self.0.as_ptr(), self.0.len(), pool.as_mut_ptr(), pool.len()) };
-        debug_assert_eq!(r.refusal, 0);
-        Self(pool[..r.words as usize].into())
+        if r.refusal != 0 {
+            broken(format_args!("{r:?}"));
+        }
+        Self(pool[..within(r.words, NODE_POOL)].into())
+    }
+}
+
+/// The answer of a check, of a window with so many bytes. A sound program and a whole window are never refused.
+fn found(r: raw::CheckResult, length: usize) -> Option<usize> {
+    match (r.refusal, r.found, usize::try_from(r.offset)) {
+        (0, 0, _) => None,
+        (0, 1, Ok(offset)) if offset <= length => Some(offset),
+        _ => broken(format_args!("{r:?}")),
     }
 }
 
@@ -69,17 +81,23 @@ impl Forward {
         let words = self.words();
         // SAFETY: both slices are good for their lengths.
         let r = unsafe { raw::tm_forward(words.as_ptr(), words.len(), window.as_ptr(), window.len(), 0, window.len()) };
-        debug_assert_eq!(r.refusal, 0);
-        (r.found == 1).then_some(r.offset as usize)
+        found(r, window.len())
     }
 
-    /// What [`Forward::end`] leaves of the window: empty if nothing fits.
+    /// What [`Forward::end`] leaves of the window, as a part of it; `None` if nothing fits.
+    ///
+    /// ```
+    /// use tokenmarsh::Pattern;
+    ///
+    /// let pattern = Pattern::compile(b"{ 61 62 }").unwrap();
+    /// assert_eq!(pattern.forward.tail(b"abc"), Some(&b"c"[..]));
+    /// assert_eq!(pattern.forward.tail(b"ab"), Some(&b""[..]));
+    /// assert_eq!(pattern.forward.tail(b"xy"), None);
+    /// ```
     #[must_use]
-    pub fn tail<'h>(&self, window: &'h [u8]) -> &'h [u8] {
-        let words = self.words();
-        // SAFETY: both slices are good for their lengths.
-        let r = unsafe { raw::tm_tail(words.as_ptr(), words.len(), window.as_ptr(), window.len(), 0, window.len()) };
-        &window[r.offset as usize..(r.offset + r.length) as usize]
+    pub fn tail<'h>(&self, window: &'h [u8]) -> Option<&'h [u8]> {
+        // Not by tm_tail: its answer is the same for no match, for a refusal and, in an empty window, for a match.
+        self.end(window).map(|end| &window[end..])
     }
 
     /// The mirror: what it fits is what this program fits, read from its other side.
@@ -123,8 +141,7 @@ impl Reverse {
         let words = self.words();
         // SAFETY: both slices are good for their lengths.
         let r = unsafe { raw::tm_reverse(words.as_ptr(), words.len(), window.as_ptr(), window.len(), 0, window.len()) };
-        debug_assert_eq!(r.refusal, 0);
-        (r.found == 1).then_some(r.offset as usize)
+        found(r, window.len())
     }
 
     /// The mirror: what it fits is what this program fits, read from its other side.
@@ -141,15 +158,18 @@ pub struct Pattern {
     pub forward: Forward,
     /// Fits exactly these, read from their other side.
     pub reverse: Reverse,
+    /// The offset in the text after the closing brace and its blanks; what follows is ignored.
+    pub reached: usize,
 }
 
 impl Pattern {
-    /// Compiles a hexadecimal string.
+    /// Compiles a hexadecimal string. What follows the closing brace and its blanks is ignored; [`Pattern::compile_strict`] refuses it.
     ///
     /// # Errors
     ///
     /// Refusals 1 to 11 with their places, then 12, 14, 13.
     pub fn compile(text: &[u8]) -> Result<Self, Refused> {
+        of_this_version()?;
         let mut forward = vec![0u32; NODE_POOL];
         let mut reverse = vec![0u32; NODE_POOL];
         // SAFETY: the three slices are good for their lengths, and they do not overlap.
@@ -163,10 +183,31 @@ impl Pattern {
                 reverse.len(),
             )
         };
-        refused(r.refusal, r.place)?;
+        refused(r.refusal, r.place, text)?;
         Ok(Self {
-            forward: Forward(Sound(forward[..r.forward as usize].into())),
-            reverse: Reverse(Sound(reverse[..r.reverse as usize].into())),
+            forward: Forward(Sound(forward[..within(r.forward, NODE_POOL)].into())),
+            reverse: Reverse(Sound(reverse[..within(r.reverse, NODE_POOL)].into())),
+            reached: within(r.reached, text.len()),
         })
+    }
+
+    /// As [`Pattern::compile`], and refuses what follows the closing brace and its blanks: take patterns of others this way.
+    ///
+    /// ```
+    /// use tokenmarsh::Pattern;
+    ///
+    /// let text = b"{ 4D 5A } 90 00 }";
+    /// assert_eq!(Pattern::compile(text).unwrap().reached, 10);
+    /// let refused = Pattern::compile_strict(text).unwrap_err();
+    /// assert_eq!(refused.to_string(), "refused at 10: text after the closing brace: expected nothing after the '}' at 8, found '9'");
+    /// ```
+    ///
+    /// # Errors
+    ///
+    /// As [`Pattern::compile`], then [`Refusal::Leftover`] at the first byte that follows.
+    pub fn compile_strict(text: &[u8]) -> Result<Self, Refused> {
+        let pattern = Self::compile(text)?;
+        nothing_after(text, pattern.reached)?;
+        Ok(pattern)
     }
 }

@@ -1,5 +1,5 @@
 use crate::refusal::Refused;
-use crate::{raw, refused};
+use crate::{broken, nothing_after, of_this_version, raw, refused, within};
 
 /// What a masked byte leaves open.
 #[derive(Clone, Copy, Debug, PartialEq, Eq, Hash)]
@@ -43,7 +43,7 @@ pub struct Tokens {
     pub reached: usize,
 }
 
-/// Reads a hexadecimal string.
+/// Reads a hexadecimal string. What follows the closing brace and its blanks is ignored; [`read_strict`] refuses it.
 ///
 /// ```
 /// use tokenmarsh::{read, Token};
@@ -57,19 +57,33 @@ pub struct Tokens {
 ///
 /// Refusals 1 to 11, each with its place.
 pub fn read(text: &[u8]) -> Result<Tokens, Refused> {
+    of_this_version()?;
     let mut pool = vec![0u32; crate::TOKEN_POOL];
     // SAFETY: both slices are good for their lengths, and they do not overlap.
     let r = unsafe { raw::tm_read(text.as_ptr(), text.len(), pool.as_mut_ptr(), pool.len()) };
-    refused(r.refusal, r.place)?;
-    let entries: Vec<[u32; 4]> = pool[..r.words as usize].chunks_exact(4).map(|e| [e[0], e[1], e[2], e[3]]).collect();
-    Ok(Tokens { tokens: list(&entries), reached: r.reached as usize })
+    refused(r.refusal, r.place, text)?;
+    let words = &pool[..within(r.words, crate::TOKEN_POOL)];
+    let entries: Vec<[u32; 4]> = words.chunks_exact(4).map(|e| [e[0], e[1], e[2], e[3]]).collect();
+    Ok(Tokens { tokens: list(&entries), reached: within(r.reached, text.len()) })
+}
+
+/// As [`read`], and refuses what follows the closing brace and its blanks.
+///
+/// # Errors
+///
+/// As [`read`], then [`Refusal::Leftover`](crate::Refusal::Leftover) at the first byte that follows.
+pub fn read_strict(text: &[u8]) -> Result<Tokens, Refused> {
+    let tokens = read(text)?;
+    nothing_after(text, tokens.reached)?;
+    Ok(tokens)
 }
 
 fn mask(number: u32) -> Mask {
     match number {
         0 => Mask::Left,
         1 => Mask::Right,
-        _ => Mask::All,
+        2 => Mask::All,
+        _ => broken(format_args!("mask {number}")),
     }
 }
 
@@ -84,17 +98,18 @@ fn list(mut entries: &[[u32; 4]]) -> Vec<Token> {
             2 => Token::MaskedByte(a as u8, mask(b)),
             3 => Token::NotMaskedByte(a as u8, mask(b)),
             4 => Token::Jump { from: a, to: (c == 1).then_some(b) },
-            _ => {
-                let (mut inside, after) = entries.split_at(b as usize);
+            5 => {
+                let (mut inside, after) = entries.split_at(within(u64::from(b), entries.len()));
                 entries = after;
-                let mut lists = Vec::with_capacity(a as usize);
+                let mut lists = Vec::new();
                 while let Some((mark, rest)) = inside.split_first() {
-                    let (one, more) = rest.split_at(mark[2] as usize);
+                    let (one, more) = rest.split_at(within(u64::from(mark[2]), rest.len()));
                     lists.push(list(one));
                     inside = more;
                 }
                 Token::Alternatives(lists)
             }
+            _ => broken(format_args!("token {kind}")),
         });
     }
     tokens

@@ -1,12 +1,15 @@
 //! The doors through the safe types: 01's samples and false friends.
 
 use std::error::Error;
+use std::thread;
 
-use tokenmarsh::{Forward, Mask, Pattern, Refusal, Refused, Reverse, Token, literals, raw, read};
+use tokenmarsh::{
+    Forward, Mask, Pattern, Refusal, Refused, Reverse, Token, literals, literals_strict, raw, read, read_strict,
+};
 
 fn refusal(text: &str) -> (u32, usize) {
-    let Refused { refusal, place } = read(text.as_bytes()).expect_err(text);
-    (refusal.number(), place)
+    let Refused { refusal, place, .. } = read(text.as_bytes()).expect_err(text);
+    (refusal.number().unwrap(), place)
 }
 
 #[test]
@@ -87,12 +90,62 @@ fn a_jump_takes_its_top() {
 fn the_tail_is_the_callers_own() {
     let pattern = Pattern::compile(b"{ 61 [0-2] 63 }").unwrap();
     let window = b"abcde";
-    let tail = pattern.forward.tail(window);
+    let tail = pattern.forward.tail(window).unwrap();
     assert_eq!(tail, b"de");
     assert!(window.as_ptr_range().contains(&tail.as_ptr()));
     // Where it starts is not the count of words.
-    assert_eq!(pattern.forward.tail(b"acde"), b"de");
-    assert_eq!(pattern.forward.tail(b"xyz"), b"");
+    assert_eq!(pattern.forward.tail(b"acde"), Some(&b"de"[..]));
+}
+
+#[test]
+fn a_tail_tells_no_match_from_an_empty_one() {
+    let forward = Pattern::compile(b"{ 61 62 }").unwrap().forward;
+    assert_eq!(forward.tail(b"ab"), Some(&b""[..]));
+    for window in [&b"a"[..], b"xab", b""] {
+        assert_eq!(forward.tail(window), None);
+    }
+}
+
+#[test]
+fn what_follows_is_told_and_refused_by_the_strict_ways() {
+    let text = b"{ 4D 5A } 90 00 }";
+    let plain = (read(text).unwrap().reached, Pattern::compile(text).unwrap().reached, literals(text).unwrap().reached);
+    assert_eq!(plain, (10, 10, 10));
+    for refused in
+        [read_strict(text).unwrap_err(), Pattern::compile_strict(text).unwrap_err(), literals_strict(text).unwrap_err()]
+    {
+        assert_eq!((refused.refusal, refused.place, refused.refusal.number()), (Refusal::Leftover, 10, None));
+    }
+    // Blanks may follow.
+    let text = b"{ 4D 5A } \t\r\n";
+    assert_eq!(read_strict(text), read(text));
+    assert_eq!(Pattern::compile_strict(text), Pattern::compile(text));
+    assert_eq!(literals_strict(text), literals(text));
+    assert_eq!(read(text).unwrap().reached, 13);
+}
+
+#[test]
+fn much_is_refused() {
+    let text = vec![b'4'; 10 << 20];
+    assert_eq!(read(&text).unwrap_err().refusal, Refusal::TextTooLong);
+    assert_eq!(Pattern::compile(&text).unwrap_err().refusal, Refusal::TextTooLong);
+    assert_eq!(literals(&text).unwrap_err().refusal, Refusal::TextTooLong);
+    assert_eq!(Forward::new(&[0; 4096]), Err(Refusal::TooManyNodes));
+    assert_eq!(Reverse::new(&[7; 4096]), Err(Refusal::TooManyNodes));
+}
+
+#[test]
+fn eight_threads_at_once() {
+    let work = |k: usize| {
+        for _ in 0..100 {
+            let pattern = Pattern::compile(format!("{{ {k:02X} [{}] 63 }}", k + 2).as_bytes()).unwrap();
+            let window = [vec![k as u8], vec![0; k + 2], vec![0x63]].concat();
+            assert_eq!(pattern.forward.end(&window), Some(k + 4));
+            assert_eq!(literals(format!("{{ ({}41) }}", "41|".repeat(k)).as_bytes()).unwrap().literals.len(), k + 1);
+            assert_eq!(refusal(&format!("{{ {}g }}", "41 ".repeat(k))), (2, 3 * k + 2));
+        }
+    };
+    thread::scope(|all| (0..8).for_each(|k| drop(all.spawn(move || work(k)))));
 }
 
 #[test]
@@ -117,7 +170,7 @@ fn unsound_words_make_no_program() {
 fn the_empty_program_fits_no_bytes() {
     let forward = Forward::new(&[]).unwrap();
     assert_eq!((forward.end(b""), forward.end(b"ab")), (Some(0), Some(0)));
-    assert_eq!((forward.tail(b""), forward.tail(b"ab")), (&b""[..], &b"ab"[..]));
+    assert_eq!((forward.tail(b""), forward.tail(b"ab")), (Some(&b""[..]), Some(&b"ab"[..])));
     let reverse = forward.mirror();
     assert_eq!((reverse.start(b""), reverse.start(b"ab")), (Some(0), Some(2)));
     assert_eq!(reverse.mirror(), forward);
@@ -142,9 +195,9 @@ fn refusals_are_errors() {
         Ok(Pattern::compile(text)?)
     }
     assert_eq!(words(&[7]).unwrap_err().to_string(), "unsound program");
-    assert_eq!(text(b"{ AB [0] CD }").unwrap_err().to_string(), "refused 4 at 5: empty jump");
-    for number in 0..=20 {
-        assert_eq!(Refusal::from_number(number).map_or(0, Refusal::number), number % 20);
+    assert_eq!(text(b"{ AB [0] CD }").unwrap_err().to_string(), "refused 4 at 5: an empty jump: found [0]");
+    for number in 1..20 {
+        assert_eq!(Refusal::from_number(number).and_then(Refusal::number), Some(number));
     }
 }
 
