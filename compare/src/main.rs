@@ -5,6 +5,8 @@ mod generate;
 #[cfg(original)]
 mod listing;
 #[cfg(original)]
+mod listings;
+#[cfg(original)]
 mod model;
 #[cfg(original)]
 mod original;
@@ -70,7 +72,7 @@ fn compared(judge: &runs::Judge, args: &[String]) -> Option<bool> {
         "spans" => judge.spans(seed(), count(100_000)),
         "programs" => judge.programs(length(4)),
         "checks" => judge.random_checks(seed(), count(300_000)),
-        "listings" => listing::listings(&args[1], number(args, 2, 1), number(args, 3, 2000)),
+        "listings" => listings::listings(&args[1], number(args, 2, 1), number(args, 3, 2000)),
         "all" => all(judge, seed(), count(1_000_000)),
         _ => return None,
     })
@@ -124,7 +126,7 @@ fn shown(judge: &runs::Judge, args: &[String]) -> Option<bool> {
         "nodes" => {
             let word = |w: &String| u32::from_str_radix(w, 16).expect("hex");
             let words: Vec<u32> = args[4..].iter().map(word).collect();
-            let (hay, start, end) = (hex(&args[1]), size(2, 0), size(3, 0));
+            let (hay, start, end) = (sides::hex(&args[1]), size(2, 0), size(3, 0));
             judge.show_checks(&words, sides::Window { hay: &hay, start, end });
         }
         "listing" => {
@@ -132,18 +134,14 @@ fn shown(judge: &runs::Judge, args: &[String]) -> Option<bool> {
             std::io::Read::read_to_end(&mut std::io::stdin(), &mut text).expect("input");
             print!("{}", listing::listing(&text));
         }
-        "sample" => return Some(sample::sample("../crates/rustsays/data/cases")),
+        "sample" => {
+            return Some(sample::sample("../crates/rustsays/data/cases", &original::SIDE));
+        }
         "patterns" => runs::Judge::patterns(number(args, 1, 1), size(2, 50), size(3, 50)),
         "starts" => starts(judge),
         _ => return None,
     }
     Some(true)
-}
-
-#[cfg(original)]
-fn hex(text: &str) -> Vec<u8> {
-    let byte = |at: usize| u8::from_str_radix(&text[2 * at..2 * at + 2], 16).expect("hex");
-    (0..text.len() / 2).map(byte).collect()
 }
 
 /// Lines of a haystack in hex, a blank and a pattern; answers a line of starts, or `refused N`.
@@ -152,7 +150,7 @@ fn starts(judge: &runs::Judge) {
     for line in std::io::stdin().lines() {
         let line = line.expect("lines of text");
         let (hay, pattern) = line.split_once(' ').expect("a haystack and a pattern");
-        match judge.starts(pattern.as_bytes(), &hex(hay)) {
+        match judge.starts(pattern.as_bytes(), &sides::hex(hay)) {
             Ok(all) => {
                 println!("{}", all.iter().map(usize::to_string).collect::<Vec<_>>().join(" "))
             }
