@@ -1,6 +1,8 @@
 //! Compares the library with the original by running both, and both with document 01.
 
 #[cfg(original)]
+mod checkings;
+#[cfg(original)]
 mod generate;
 #[cfg(original)]
 mod listing;
@@ -12,6 +14,8 @@ mod model;
 mod original;
 #[cfg(original)]
 mod ours;
+#[cfg(original)]
+mod pools;
 /// The C functions of the library, as its Rust binding declares them.
 #[allow(dead_code)]
 #[path = "../../bindings/rust/src/raw.rs"]
@@ -137,11 +141,27 @@ fn shown(judge: &runs::Judge, args: &[String]) -> Option<bool> {
         "sample" => {
             return Some(sample::sample("../crates/rustsays/data/cases", &original::SIDE));
         }
+        "checkings" => {
+            let path = "../crates/checkings/data/programs";
+            return Some(checkings::checkings(path, &original::SIDE));
+        }
+        "readings" => pools::read_texts(&stored("readings"))
+            .iter()
+            .for_each(|lent| print!("{}", pools::reading(lent))),
+        "compilings" => pools::compiled_texts(&stored("compilings"))
+            .iter()
+            .for_each(|lent| print!("{}", pools::compiling(lent))),
         "patterns" => runs::Judge::patterns(number(args, 1, 1), size(2, 50), size(3, 50)),
         "starts" => starts(judge),
         _ => return None,
     }
     Some(true)
+}
+
+/// The standard input that a program of the gate is run on.
+#[cfg(original)]
+fn stored(program: &str) -> Vec<u8> {
+    std::fs::read(format!("../crates/{program}/stdin")).expect("a stored input")
 }
 
 /// Lines of a haystack in hex, a blank and a pattern; answers a line of starts, or `refused N`.
