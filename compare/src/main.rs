@@ -1,15 +1,21 @@
 //! Compares the library with the original by running both, and both with document 01.
 
 #[cfg(original)]
+mod checkings;
+#[cfg(original)]
 mod generate;
 #[cfg(original)]
 mod listing;
+#[cfg(original)]
+mod listings;
 #[cfg(original)]
 mod model;
 #[cfg(original)]
 mod original;
 #[cfg(original)]
 mod ours;
+#[cfg(original)]
+mod pools;
 /// The C functions of the library, as its Rust binding declares them.
 #[allow(dead_code)]
 #[path = "../../bindings/rust/src/raw.rs"]
@@ -70,7 +76,7 @@ fn compared(judge: &runs::Judge, args: &[String]) -> Option<bool> {
         "spans" => judge.spans(seed(), count(100_000)),
         "programs" => judge.programs(length(4)),
         "checks" => judge.random_checks(seed(), count(300_000)),
-        "listings" => listing::listings(&args[1], number(args, 2, 1), number(args, 3, 2000)),
+        "listings" => listings::listings(&args[1], number(args, 2, 1), number(args, 3, 2000)),
         "all" => all(judge, seed(), count(1_000_000)),
         _ => return None,
     })
@@ -124,7 +130,7 @@ fn shown(judge: &runs::Judge, args: &[String]) -> Option<bool> {
         "nodes" => {
             let word = |w: &String| u32::from_str_radix(w, 16).expect("hex");
             let words: Vec<u32> = args[4..].iter().map(word).collect();
-            let (hay, start, end) = (hex(&args[1]), size(2, 0), size(3, 0));
+            let (hay, start, end) = (sides::hex(&args[1]), size(2, 0), size(3, 0));
             judge.show_checks(&words, sides::Window { hay: &hay, start, end });
         }
         "listing" => {
@@ -132,7 +138,19 @@ fn shown(judge: &runs::Judge, args: &[String]) -> Option<bool> {
             std::io::Read::read_to_end(&mut std::io::stdin(), &mut text).expect("input");
             print!("{}", listing::listing(&text));
         }
-        "sample" => return Some(sample::sample("../crates/rustsays/data/cases")),
+        "sample" => {
+            return Some(sample::sample("../crates/rustsays/data/cases", &original::SIDE));
+        }
+        "checkings" => {
+            let path = "../crates/checkings/data/programs";
+            return Some(checkings::checkings(path, &original::SIDE));
+        }
+        "readings" => pools::read_texts(&stored("readings"))
+            .iter()
+            .for_each(|lent| print!("{}", pools::reading(lent))),
+        "compilings" => pools::compiled_texts(&stored("compilings"))
+            .iter()
+            .for_each(|lent| print!("{}", pools::compiling(lent))),
         "patterns" => runs::Judge::patterns(number(args, 1, 1), size(2, 50), size(3, 50)),
         "starts" => starts(judge),
         _ => return None,
@@ -140,10 +158,10 @@ fn shown(judge: &runs::Judge, args: &[String]) -> Option<bool> {
     Some(true)
 }
 
+/// The standard input that a program of the gate is run on.
 #[cfg(original)]
-fn hex(text: &str) -> Vec<u8> {
-    let byte = |at: usize| u8::from_str_radix(&text[2 * at..2 * at + 2], 16).expect("hex");
-    (0..text.len() / 2).map(byte).collect()
+fn stored(program: &str) -> Vec<u8> {
+    std::fs::read(format!("../crates/{program}/stdin")).expect("a stored input")
 }
 
 /// Lines of a haystack in hex, a blank and a pattern; answers a line of starts, or `refused N`.
@@ -152,7 +170,7 @@ fn starts(judge: &runs::Judge) {
     for line in std::io::stdin().lines() {
         let line = line.expect("lines of text");
         let (hay, pattern) = line.split_once(' ').expect("a haystack and a pattern");
-        match judge.starts(pattern.as_bytes(), &hex(hay)) {
+        match judge.starts(pattern.as_bytes(), &sides::hex(hay)) {
             Ok(all) => {
                 println!("{}", all.iter().map(usize::to_string).collect::<Vec<_>>().join(" "))
             }

@@ -1,7 +1,7 @@
 //! Document 01 read a third time, as plainly as it can be written, without regard to speed.
 //!
-//! It gives the answers for which the original has no counterpart (refusals 1, 11 to 17 and 19),
-//! and shows where the original and the document part.
+//! It gives the answers for which the original has no counterpart (refusals 1 and 11 to 19, of which
+//! 18 for pools only), and shows where the original and the document part.
 
 use crate::sides::{Answer, Compiled, Found, Picked, Read, Refusal, Side, Tok, Window, entries};
 
@@ -222,6 +222,30 @@ impl Reader<'_> {
         self.close(b')')?;
         Ok(Tok::Alts(lists))
     }
+}
+
+// Lent pools
+
+pub const TOKEN_POOL: usize = 4096;
+pub const NODE_POOL: usize = 512;
+
+/// A call that writes words into pools of which the first `size` words are lent: 18 before all else
+/// if one is too short, and then nothing changes; else zeros there, under the words of a success.
+/// Answers how many words each pool got.
+pub fn into_pools(
+    pools: &mut [Vec<u32>],
+    size: usize,
+    answer: Answer<Vec<Vec<u32>>>,
+) -> Answer<Vec<usize>> {
+    if pools.iter().any(|pool| pool.len() < size) {
+        return refuse(18, 0);
+    }
+    pools.iter_mut().for_each(|pool| pool[..size].fill(0));
+    let words = answer?;
+    for (pool, words) in pools.iter_mut().zip(&words) {
+        pool[..words.len()].copy_from_slice(words);
+    }
+    Ok(words.iter().map(Vec::len).collect())
 }
 
 // Programs
@@ -533,6 +557,14 @@ pub fn reverse(words: &[u32], w: Window) -> Option<Answer<Found>> {
     let window = &w.hay[w.start..w.end];
     let first = rows(words, false)?.into_iter().find(|row| fits(row, window.iter().rev().copied()));
     Some(Ok(first.map_or(Found::Nothing, |row| Found::At(w.end - row.len()))))
+}
+
+/// What the second forward door hands back, by the first one's answer.
+pub fn left<'h>(answer: &Answer<Found>, w: Window<'h>) -> &'h [u8] {
+    match answer {
+        Ok(Found::At(end)) => &w.hay[*end..w.end],
+        _ => &[],
+    }
 }
 
 /// The offsets, rising, at which a match of the tokens from `start` on can end: a byte matches

@@ -1,10 +1,10 @@
-//! The stored sample: what the original answers to the cases of crates/rustsays/data/cases, in the
-//! lines that the program rustsays writes for the library's doors.
+//! The stored sample: what a side answers to the cases of crates/rustsays/data/cases, in the lines
+//! that the program rustsays writes for the library's doors. The original's answers are stored.
 
 use std::fmt::Write;
 
-use crate::sides::{Answer, Compiled, Found, Picked, Read, Refusal, Window};
-use crate::{model, original};
+use crate::model;
+use crate::sides::{Answer, Compiled, Found, Picked, Read, Refusal, Side, Window, hex};
 
 /// How much of a text is shown.
 const SHOWN: usize = 64;
@@ -18,27 +18,27 @@ struct Case<'a> {
 
 fn case(line: &[u8]) -> Case<'_> {
     let at = line.iter().position(|b| *b == b' ').expect("a haystack, a blank and a text");
-    let hex = std::str::from_utf8(&line[..at]).expect("hex");
-    Case { hay: crate::hex(hex), text: &line[at + 1..] }
+    let spelt = std::str::from_utf8(&line[..at]).expect("hex");
+    Case { hay: hex(spelt), text: &line[at + 1..] }
 }
 
-/// Why a case has no place in the sample: the original answers otherwise than document 01, or not
-/// at all.
-fn stray(text: &[u8]) -> Option<&'static str> {
-    if original::SIDE.read.and_then(|f| f(text)) != model::SIDE.read.and_then(|f| f(text)) {
+/// Why a case has no place in the sample: the side answers otherwise than document 01, or not at
+/// all.
+fn stray(text: &[u8], by: &Side) -> Option<&'static str> {
+    if by.read.and_then(|f| f(text)) != model::SIDE.read.and_then(|f| f(text)) {
         return Some("read otherwise, or outside the domain");
     }
-    if compiled(text) != model::SIDE.compile.and_then(|f| f(text)) {
+    if compiled(text, by) != model::SIDE.compile.and_then(|f| f(text)) {
         return Some("compiled otherwise");
     }
-    let picked = original::SIDE.literals.and_then(|f| f(text));
+    let picked = by.literals.and_then(|f| f(text));
     let differs = picked.is_some() && picked != model::SIDE.literals.and_then(|f| f(text));
     differs.then_some("other literals")
 }
 
 /// The original's builder declines what is not simple: that is its 12.
-fn compiled(text: &[u8]) -> Option<Answer<Compiled>> {
-    let built = original::SIDE.compile.and_then(|f| f(text));
+fn compiled(text: &[u8], by: &Side) -> Option<Answer<Compiled>> {
+    let built = by.compile.and_then(|f| f(text));
     Some(built.unwrap_or(Err(Refusal { number: 12, place: 0 })))
 }
 
@@ -54,26 +54,30 @@ fn refused(out: &mut String, refusal: Refusal) {
 
 type Check = fn(&[u32], Window) -> Option<Answer<Found>>;
 
+/// A check's answer, after a blank.
+pub fn found(out: &mut String, answer: Option<Answer<Found>>) {
+    match answer {
+        Some(Ok(Found::At(at))) => write!(out, " {at}").unwrap(),
+        Some(Ok(Found::Nothing)) => out.push_str(" no"),
+        Some(Err(refusal)) => write!(out, " refused {}", refusal.number).unwrap(),
+        None => out.push_str(" unanswered"),
+    }
+}
+
 fn checks(out: &mut String, name: &str, check: Option<Check>, program: &[u32], windows: &[Window]) {
     out.push_str(name);
-    for window in windows {
-        match check.and_then(|f| f(program, *window)) {
-            Some(Ok(Found::At(at))) => write!(out, " {at}").unwrap(),
-            Some(Ok(Found::Nothing)) => out.push_str(" no"),
-            other => panic!("a built program is sound: {other:?}"),
-        }
-    }
+    windows.iter().for_each(|w| found(out, check.and_then(|f| f(program, *w))));
     out.push('\n');
 }
 
-fn programs(out: &mut String, made: &Compiled, hay: &[u8]) {
+fn programs(out: &mut String, made: &Compiled, hay: &[u8], by: &Side) {
     let all = hay.len();
     let from: Vec<_> = (0..=all).map(|start| Window { hay, start, end: all }).collect();
     let to: Vec<_> = (0..=all).map(|end| Window { hay, start: 0, end }).collect();
     words(out, "forward", &made.forward);
     words(out, "reverse", &made.reverse);
-    checks(out, "ends", original::SIDE.forward, &made.forward, &from);
-    checks(out, "starts", original::SIDE.reverse, &made.reverse, &to);
+    checks(out, "ends", by.forward, &made.forward, &from);
+    checks(out, "starts", by.reverse, &made.reverse, &to);
 }
 
 fn picked(out: &mut String, picked: &Picked) {
@@ -85,43 +89,53 @@ fn picked(out: &mut String, picked: &Picked) {
     out.push('\n');
 }
 
-fn read(out: &mut String, case: &Case, read: &Read) {
+fn read(out: &mut String, case: &Case, read: &Read, by: &Side) {
     writeln!(out, "reached {}", read.reached).unwrap();
     words(out, "tokens", &read.words);
-    match compiled(case.text) {
-        Some(Ok(made)) => programs(out, &made, &case.hay),
+    match compiled(case.text, by) {
+        Some(Ok(made)) => programs(out, &made, &case.hay, by),
         Some(Err(refusal)) => refused(out, refusal),
         None => unreachable!("declining is an answer"),
     }
     // Nothing where the document gives 17 or 19.
-    if let Some(Ok(p)) = original::SIDE.literals.and_then(|f| f(case.text)) {
+    if let Some(Ok(p)) = by.literals.and_then(|f| f(case.text)) {
         picked(out, &p);
     }
 }
 
-/// Writes the original's answers to a file of cases; false if one has no place there.
-pub fn sample(path: &str) -> bool {
+/// A line, shown, and a side's answers to it.
+pub fn answers(line: &[u8], by: &Side) -> Vec<u8> {
+    if line.starts_with(b"#") {
+        return [line, b"\n"].concat();
+    }
+    let case = case(line);
+    let mut out = String::new();
+    match by.read.and_then(|f| f(case.text)) {
+        Some(Ok(answer)) => read(&mut out, &case, &answer, by),
+        Some(Err(refusal)) => refused(&mut out, refusal),
+        None => unreachable!("strays are kept out"),
+    }
+    [&case.text[..case.text.len().min(SHOWN)], b"\n", out.as_bytes()].concat()
+}
+
+pub fn lines(file: &[u8]) -> impl Iterator<Item = &[u8]> {
+    file.strip_suffix(b"\n").unwrap_or(file).split(|b| *b == b'\n')
+}
+
+/// Writes a side's answers to a file of cases; false if one has no place there.
+pub fn sample(path: &str, by: &Side) -> bool {
     let cases = std::fs::read(path).expect("a file of cases");
     let (mut bytes, mut good) = (Vec::new(), true);
-    for line in cases.strip_suffix(b"\n").unwrap_or(&cases).split(|b| *b == b'\n') {
-        if line.starts_with(b"#") {
-            bytes.extend([line, b"\n"].concat());
-            continue;
+    for line in lines(&cases) {
+        let why = if line.starts_with(b"#") { None } else { stray(case(line).text, by) };
+        match why {
+            None => bytes.extend(answers(line, by)),
+            Some(why) => {
+                let text = case(line).text.escape_ascii();
+                eprintln!("no case for the sample, {why}: {text}");
+                good = false;
+            }
         }
-        let case = case(line);
-        if let Some(why) = stray(case.text) {
-            eprintln!("no case for the sample, {why}: {}", case.text.escape_ascii());
-            good = false;
-            continue;
-        }
-        bytes.extend([&case.text[..case.text.len().min(SHOWN)], b"\n"].concat());
-        let mut out = String::new();
-        match original::SIDE.read.and_then(|f| f(case.text)) {
-            Some(Ok(answer)) => read(&mut out, &case, &answer),
-            Some(Err(refusal)) => refused(&mut out, refusal),
-            None => unreachable!("tested above"),
-        }
-        bytes.extend(out.into_bytes());
     }
     std::io::Write::write_all(&mut std::io::stdout(), &bytes).expect("standard output");
     good

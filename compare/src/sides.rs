@@ -80,6 +80,12 @@ pub struct Side {
     pub reverse: Option<fn(&[u32], Window) -> Option<Answer<Found>>>,
 }
 
+/// Bytes that are spelt in hex.
+pub fn hex(text: &str) -> Vec<u8> {
+    let byte = |at: usize| u8::from_str_radix(&text[2 * at..2 * at + 2], 16).expect("hex");
+    (0..text.len() / 2).map(byte).collect()
+}
+
 /// The four-word entries of a list, its own mark not among them.
 pub fn entries(list: &[Tok]) -> Vec<u32> {
     let mut words = Vec::new();

@@ -121,4 +121,5 @@ fn main() {
     let mut forward = [0u32; 516];
     let mut short = [0u32; 511];
     one(b"{ AB }", &mut forward, &mut short);
+    one(b"{ AG }", &mut short, &mut forward);
 }

@@ -123,4 +123,5 @@ fn main() {
     run(&input[..n], &mut pool);
     let mut short = [7u32; 4095];
     one(b"{ AB }", &mut short);
+    one(b"{ AG }", &mut short);
 }
