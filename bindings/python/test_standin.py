@@ -27,7 +27,7 @@ class Standin(unittest.TestCase):
     def said(self, answers):
         self.assertTrue(os.path.exists(STANDIN), "the stand-in is built by `make test`")
         env = dict(os.environ, TOKENMARSH_SO=STANDIN, STANDIN=answers, PYTHONPATH=HERE)
-        done = subprocess.run([sys.executable, "-c", CALLS], env=env, stdout=subprocess.PIPE, stderr=subprocess.PIPE, text=True)
+        done = subprocess.run([sys.executable, "-c", CALLS], env=env, stdout=subprocess.PIPE, stderr=subprocess.PIPE, text=True, timeout=60)
         return done.returncode, done.stdout.splitlines(), done.stderr.splitlines()[-1:]
 
     def test_an_unknown_refusal_is_one(self):
