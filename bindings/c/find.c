@@ -111,12 +111,21 @@ int main(int argc, char **argv)
         fprintf(stderr, "usage: find PATTERN FILE\n");
         return 2;
     }
-    const uint8_t *text = (const uint8_t *)argv[1];
-    tm_compile_result c = tm_compile(text, strlen(argv[1]), forward, TM_NODE_POOL, reverse, TM_NODE_POOL);
-    if (c.refusal != 0) {
-        fprintf(stderr, "refused %u at %llu\n", c.refusal, (unsigned long long)c.place);
+    if (tm_version() != TM_VERSION) {
+        fprintf(stderr, "libtokenmarsh is of another version than tokenmarsh.h\n");
         return 1;
     }
+    const uint8_t *text = (const uint8_t *)argv[1];
+    tm_compile_result c = tm_compile(text, strlen(argv[1]), forward, TM_NODE_POOL, reverse, TM_NODE_POOL);
+    /* Only 2 to 11 have a place. */
+    if (c.refusal >= 2 && c.refusal <= 11)
+        fprintf(stderr, "refused %u at %llu\n", c.refusal, (unsigned long long)c.place);
+    else if (c.refusal != 0)
+        fprintf(stderr, "refused %u\n", c.refusal);
+    else if (c.reached != strlen(argv[1]))
+        fprintf(stderr, "text after the closing brace at %llu\n", (unsigned long long)c.reached);
+    if (c.refusal != 0 || c.reached != strlen(argv[1]))
+        return 1;
     size_t n;
     uint8_t *bytes = whole(argv[2], &n);
     if (bytes == NULL) {

@@ -42,7 +42,7 @@ def places(literal: bytes, haystack: bytes) -> Iterator[int]:
 
 def find(text: bytes, haystack: bytes) -> Iterator[Tuple[int, int]]:
     """Each offset from which the forward check finds an end, rising, with that end."""
-    words = tokenmarsh.compile(text).forward.words
+    words = tokenmarsh.compile(text, strict=True).forward.words
     try:
         literals = set(tokenmarsh.literals(text).literals)
     except tokenmarsh.Refused:

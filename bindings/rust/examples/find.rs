@@ -45,7 +45,7 @@ fn find(
     haystack: &[u8],
     mut tell: impl FnMut(usize, usize) -> io::Result<()>,
 ) -> Result<(), Box<dyn Error>> {
-    let forward = Pattern::compile(text)?.forward;
+    let forward = Pattern::compile_strict(text)?.forward;
     // What compiles is refused here by 17 or 19 alone. Then, as where none are picked, it is checked at every offset.
     let literals = literals(text).map_or_else(|_| Vec::new(), |picked| picked.literals);
     let mut by_first = vec![Vec::new(); 256];
