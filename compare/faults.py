@@ -101,7 +101,7 @@ def answers(texts):
         for name, text in texts.items():
             with open(os.path.join(folder, name), "w", encoding="utf-8") as f:
                 f.write(text)
-        command = ["rustc", "--edition", "2024", "-A", "warnings", "-C", "opt-level=0", "-C", "panic=abort", "-o", "reading", "stored.rs"]
+        command = ["rustc", "--edition", "2021", "-A", "warnings", "-C", "opt-level=0", "-C", "panic=abort", "-o", "reading", "stored.rs"]
         made = subprocess.run(command, cwd=folder, capture_output=True, text=True)
         if made.returncode != 0:
             return None, "does not compile: " + made.stderr.strip().split("\n")[0]
