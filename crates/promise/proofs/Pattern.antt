@@ -9,12 +9,11 @@ use Rattle.base.specs.Pools.{filled}
 use Rattle.meaning.specs.Tokens.{Tokens, Spans}
 use Rattle.reading.specs.Lists.{Outcome, accepted, rejected, reading}
 use Rattle.reading.proofs.PieceLaws.{never}
-use Rattle.grammar.specs.Grammar.{Derives}
 use Rattle.grammar.proofs.Derivable.{accepted-derived}
 use Rattle.compiling.specs.Compile.{Compiled, compiled, refused, compile}
 use Rattle.compiledoor.specs.Door.{gives, refuses, room, compiledSays, outcomeSays, compiledForward, compiledReverse, outcomeForward, outcomeReverse, compileSays, forwardLeaves, reverseLeaves}
 use Rattle.compiledoor.proofs.Promises as promised
-use Rattle.promise.specs.Pattern.{ForwardDoor, ReverseDoor}
+use Rattle.promise.specs.Pattern.{ForwardDoor, ReverseDoor, PatternForward, PatternReverse}
 use Rattle.promise.proofs.Answers.{forward-door, reverse-door}
 
 -- what a text that compiles is read as, up to the offset reached, and compiled to, and that the pools hold these words in front
@@ -66,7 +65,7 @@ module _ (t p q : List ℕ) (reached n m : ℕ) where
   -- The text t is read up to the offset reached and compiles to n forward and m reverse words, which the pools then hold in front.
   module _ (g : compileSays t p q ≡ gives reached n m) where
     -- Then t up to there is a pattern, and the forward door, asked with the forward words about any window of any haystack, answers for its spans;
-    pub pattern-forward : (ts : Tokens) × Derives t reached ts × ForwardDoor (Spans ts) (take n (forwardLeaves t p q))
+    pub pattern-forward : PatternForward t p q reached n
     pattern-forward =
         let c = compiles g in
         let h = promised.forward-sound t reached (c .tokens) (c .forward) (c .reverse) (c .read) (c .done) in
@@ -74,7 +73,7 @@ module _ (t p q : List ℕ) (reached n m : ℕ) where
         (c .tokens, accepted-derived t reached (c .tokens) (c .read), subst (ForwardDoor (Spans (c .tokens))) (sym (c .forward-words)) (forward-door (Spans (c .tokens)) (c .forward) h exact))
 
     -- and the reverse door, asked with the reverse words, likewise.
-    pub pattern-reverse : (ts : Tokens) × Derives t reached ts × ReverseDoor (Spans ts) (take m (reverseLeaves t p q))
+    pub pattern-reverse : PatternReverse t p q reached m
     pattern-reverse =
         let c = compiles g in
         let h = promised.reverse-sound t reached (c .tokens) (c .forward) (c .reverse) (c .read) (c .done) in

@@ -19,7 +19,7 @@ use Rattle.promise.proofs.NodeWords.{sound-listed, program-listed, soun
 use Rattle.promise.proofs.OneWording.{mirror-wording}
 use Rattle.promise.proofs.Answers.{forward-door, reverse-door}
 
--- the computed program has the spans of the one that the words say
+-- the program of words laid end to end has exactly the spans of the one followed by those of the other
 module _ (ws vs : List ℕ) (h : sound ws ≡ true) (g : sound vs ≡ true) (room : length ws + length vs ≤ 512) where
   joined-spans : (x : List ℕ) → Joined (prog ws) (prog vs) x ↔ Span (prog (ws ++ vs)) x
   joined-spans x = (
@@ -44,6 +44,12 @@ programs-join {ws} {vs} a b room =
     (subst (λ (q : Prog). Joins (prog ws) q (ws ++ vs)) (program-listed (b .nodes)) (joins ws vs (sound-listed ws .1 a) (sound-listed vs .1 b) room))
 
 module _ (ws : List ℕ) (h : sound ws ≡ true) where
+  turned : (x : List ℕ) → Span (prog ws) (reverse x) ↔ Span (prog (mirrorWords ws)) x
+  turned x = (
+    λ s. subst (Span (prog (mirrorWords ws))) (reverse-reverse x) (mirrored-span ws h (reverse x) s),
+    λ s. span-mirrored ws h (reverse x) (subst (Span (prog (mirrorWords ws))) (sym (reverse-reverse x)) s),
+  )
+
   mirror-of : MirrorOf (prog ws) (mirrorWords ws)
   mirror-of =
       let k = mirrored-sound ws h in
@@ -51,6 +57,7 @@ module _ (ws : List ℕ) (h : sound ws ≡ true) where
         words-sound = sound-listed (mirrorWords ws) .0 k;
         say = mirror-wording ws h;
         answers-reverse = reverse-door (Span (prog ws)) (mirrorWords ws) k (λ x _. (mirrored-span ws h x, span-mirrored ws h x));
+        answers-forward = forward-door (λ x. Span (prog ws) (reverse x)) (mirrorWords ws) k (λ x _. turned x);
       }
 
   -- what the door says and leaves of sound words, in a pool with room
@@ -66,7 +73,7 @@ module _ (ws : List ℕ) (h : sound ws ≡ true) where
         ap (take (length (mirrorWords ws))) e ∙ take-at (mirrorWords ws) _ (length (mirrorWords ws)) refl
 
 -- The mirror's door, asked with sound words and lent a pool with room (with none it refuses by 18), never refuses: the words that it says it wrote
--- are the mirror, and the reverse door, asked with them, answers for the program's own spans.
+-- are the mirror, and the reverse door, asked with them, answers for the program's own spans, the forward door for these read from their other side.
 pub mirror-answers : {ws : List ℕ} (a : SoundWords ws) (pool : List ℕ) → 512 ≤ length pool → (n : ℕ) × (mirrorSays ws pool ≡ mirrored n) × MirrorOf (a .program) (take n (mirrorLeaves ws pool))
 mirror-answers {ws} a pool room =
     let h = sound-listed ws .1 a in (

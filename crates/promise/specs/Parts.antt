@@ -1,5 +1,5 @@
 -- What a part of a run is, and of which tokens the members are taken. Assumes nothing: these are definitions, and only the statements of
--- proofs/Parts.antt rest on them.
+-- proofs/Parts.antt, and of `bytes-literal`, rest on them.
 use mathlib.Core.Path.{_≡_}
 use mathlib.Core.Bool.{true}
 use mathlib.Core.Logic.{_⊎_}

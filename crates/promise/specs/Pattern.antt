@@ -3,9 +3,12 @@ use mathlib.Core.Path.{_≡_}
 use mathlib.Core.Logic.{_↔_}
 use mathlib.Core.List.{List}
 use Prim.Native.Nat.{ℕ, _≤_}
-use lib.ListN.{length}
+use lib.ListN.{length, take}
+use Rattle.meaning.specs.Tokens.{Tokens, Spans}
 use Rattle.meaning.specs.Programs.{Prog}
 use Rattle.meaning.specs.Choices.{FirstForward, FirstReverse}
+use Rattle.grammar.specs.Grammar.{Derives}
+use Rattle.compiledoor.specs.Door.{forwardLeaves, reverseLeaves}
 use Rattle.checkdoors.specs.declared.Answer.{Answer}
 use Rattle.checkdoors.specs.Doors.{Outcome, found, noMatch, refused, said, window, forwardSays, reverseSays, Answered}
 use Rattle.promise.specs.NodeWords.{SoundWords}
@@ -50,3 +53,11 @@ ForwardDoor spans ws = (hay : List ℕ) (s e : ℕ) (r : Answer) → s ≤ e →
 
 abbrev pub ReverseDoor : (List ℕ → Type 0) → List ℕ → Type 0
 ReverseDoor spans ws = (hay : List ℕ) (s e : ℕ) (r : Answer) → s ≤ e → e ≤ length hay → Answered (reverseSays ws hay s e) hay r → AnswersReverse spans ws hay s e (said r)
+
+-- The text t, which was read up to an offset and compiled into the pools p and q: it is a pattern, and the forward door, asked with the first n words
+-- of its pool, answers for the spans of its tokens; the reverse door, asked with the first m words of the other, likewise.
+abbrev pub PatternForward : List ℕ → List ℕ → List ℕ → ℕ → ℕ → Type 0
+PatternForward t p q reached n = (ts : Tokens) × Derives t reached ts × ForwardDoor (Spans ts) (take n (forwardLeaves t p q))
+
+abbrev pub PatternReverse : List ℕ → List ℕ → List ℕ → ℕ → ℕ → Type 0
+PatternReverse t p q reached m = (ts : Tokens) × Derives t reached ts × ReverseDoor (Spans ts) (take m (reverseLeaves t p q))
