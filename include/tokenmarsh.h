@@ -72,8 +72,8 @@ typedef struct {
 /* Reads a hexadecimal string into token entries of four words: a kind and three values, of which those not named are 0.
  *    0  AB            its value                       3  ~?X, ~X?       as 2
  *    1  ~AB           its value                       4  [from-to]      from, to or 0, 1 if there is a to
- *    2  ?X, X?, ??    the digit X, or 0 for ??;       5  (..|..)        its lists, the entries within it
- *                     0 for ?X, 1 for X?, 2 for ??    6  list mark      the list's direct tokens, the entries within it
+ *    2  ?X, X?, ??    the digit X, or 0 for ??;       5  (..|..)        how many lists, how many entries in it follow
+ *                     0 for ?X, 1 for X?, 2 for ??    6  list mark      how many direct tokens, how many entries in it follow
  * [n] is [n-n], and a missing from is 0; [1] and [1-1] are entered as ??. A list mark begins each list within alternatives, and is no token; the
  * outer list has none.
  * Anything after the closing brace and its blanks is ignored: it begins at `reached`, which is text_len if nothing follows.
@@ -96,6 +96,7 @@ typedef struct {
  *    2  not a mask     first: value, second: mask    6  alternation    first + 256 * second: so many words follow, which are branches
  *    3  jump           first: so many of any bytes   7  branch         first: so many words follow that are in it
  * A mask fits the bytes whose bits under the mask equal the value, its negation all others.
+ * A check takes any sound program: with that of the other direction it refuses nothing, and finds what the pattern does not match or misses what it does.
  * Anything after the closing brace and its blanks is ignored: it begins at `reached`, which is text_len if nothing follows.
  * Refused: 18 if either pool is below 512 words, and then nothing changes; else 1 to 11, 12, 14, 13, and then the first 512 words of
  * both pools are 0. Success: the used words, 0 in the rest of the first 512. Words beyond those stay. */
@@ -137,7 +138,7 @@ typedef struct {
 } tm_tail_result;
 
 /* What tm_forward leaves of the window, as a part of the haystack; offset and length are 0 after no match and after a refusal, which tm_forward
- * tells apart. */
+ * tells apart, also from a match in an empty window at 0. */
 tm_tail_result tm_tail(const uint32_t *program, size_t program_len, const uint8_t *haystack, size_t haystack_len, size_t start, size_t end);
 
 typedef struct {

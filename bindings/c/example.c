@@ -29,11 +29,16 @@ static uint8_t *whole(size_t *n)
     return bytes;
 }
 
-/* A line for each match, all of them written: 0, or -1 and errno says why. */
+/* A line for each match, all of them written: 0, or -1 and errno says why. A check that is refused is no miss; with sound words and a window inside
+ * the bytes it is refused by another library alone. */
 static int list(const uint32_t *forward, size_t nodes, const uint8_t *bytes, size_t n)
 {
     for (size_t start = 0; start < n; start++) {
         tm_check_result r = tm_forward(forward, nodes, bytes, n, start, n);
+        if (r.refusal != 0) {
+            fprintf(stderr, "a check was refused by %u\n", r.refusal);
+            exit(1);
+        }
         if (r.found && printf("%zu %llu\n", start, (unsigned long long)r.offset) < 0)
             return -1;
     }

@@ -88,6 +88,11 @@ static int search(size_t nodes, int by_literals, size_t reach, const uint8_t *by
         size_t start = at > reach ? at - reach : 0;
         for (start = start > checked ? start : checked; start <= at; start++) {
             tm_check_result r = tm_forward(forward, nodes, bytes, n, start, n);
+            /* No miss: with these words and this window another library alone refuses. */
+            if (r.refusal != 0) {
+                fprintf(stderr, "a check was refused by %u\n", r.refusal);
+                exit(1);
+            }
             if (r.found && printf("%zu %llu\n", start, (unsigned long long)r.offset) < 0)
                 return -1;
         }

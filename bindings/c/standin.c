@@ -2,6 +2,7 @@
  * environment's STANDIN says what is answered:
  *
  *     refuses    refusal 255, which no table has
+ *     late       the same, but a text compiles to the empty program
  *     raves      no refusal, and all other numbers as high as they get
  *     other      no refusal and all else 0, but the version after the header's
  */
@@ -20,7 +21,7 @@ static int is(const char *word)
 #define ANSWER(type) \
     type r; \
     memset(&r, is("raves") ? 255 : 0, sizeof r); \
-    r.refusal = is("refuses") ? 255 : 0; \
+    r.refusal = is("refuses") || is("late") ? 255 : 0; \
     return r
 
 uint32_t tm_version(void)
@@ -36,7 +37,9 @@ tm_read_result tm_read(const uint8_t *text, size_t text_len, uint32_t *pool, siz
 
 tm_compile_result tm_compile(const uint8_t *text, size_t text_len, uint32_t *forward, size_t forward_len, uint32_t *reverse, size_t reverse_len)
 {
-    (void)text, (void)text_len, (void)forward, (void)forward_len, (void)reverse, (void)reverse_len;
+    (void)text, (void)forward, (void)forward_len, (void)reverse, (void)reverse_len;
+    if (is("late"))
+        return (tm_compile_result){.reached = text_len};
     ANSWER(tm_compile_result);
 }
 
