@@ -1,3 +1,4 @@
+-- `atoms::byte_score` meets its contract. Assumes nothing.
 use Rattle.atoms.proofs.byte_score.Statement.{statement}
 use Rattle.atoms.proofs.byte_score.Tie as tie
 use Rattle.atoms.proofs.Laws.{among-one, among-none}

@@ -1,3 +1,4 @@
+-- `bitmap::word_count` meets its contract. Assumes nothing.
 use lib.Count.{ones-le}
 use Rattle.bitmap.proofs.Tally.{tally-ones}
 use Rattle.bitmap.proofs.word_count.Statement.{statement}

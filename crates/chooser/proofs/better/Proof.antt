@@ -1,3 +1,4 @@
+-- `chooser::better` meets its contract. Assumes nothing.
 use borrow.Author.Needs.{needs}
 use mathlib.Core.Path.{subst}
 use Prim.Native.Nat.{_-_}

@@ -1,3 +1,4 @@
+-- `chooser::choose` meets its contract. Assumes nothing.
 use borrow.Author.Needs.{needs}
 use mathlib.Core.Path.{_∙_}
 use Rattle.chooser.proofs.RunsLaws as run

@@ -1,3 +1,4 @@
+-- `chooser::later_runs` meets its contract. Assumes nothing.
 use native.Mathlib.Omega.{arith}
 use borrow.Author.Needs.{needs}
 use mathlib.Core.Path.{refl, ap}

@@ -1,3 +1,4 @@
+-- `chooser::shifted` meets its contract. Assumes nothing.
 use borrow.Author.Needs.{needs}
 use Rattle.chooser.proofs.ShiftLaws as law
 use Rattle.chooser.proofs.shifted.Statement.{statement}

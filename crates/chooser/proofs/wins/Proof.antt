@@ -1,3 +1,4 @@
+-- `chooser::wins` meets its contract. Assumes nothing.
 use borrow.Author.Needs.{needs}
 use Prim.Native.Nat.{_-_}
 use Rattle.spelling.specs.Words.{tokensIn}

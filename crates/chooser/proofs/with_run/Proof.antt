@@ -1,3 +1,4 @@
+-- `chooser::with_run` meets its contract. Assumes nothing.
 use borrow.Author.Needs.{needs}
 use Prim.Native.Nat.{_-_}
 use Rattle.chooser.proofs.BetweenLaws as law

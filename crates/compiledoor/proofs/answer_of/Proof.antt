@@ -1,3 +1,4 @@
+-- `compiledoor::answer_of` meets its contract. Assumes nothing.
 use Rattle.compiledoor.specs.Door.{madeSays}
 use mathlib.Core.Path.{sym, ap}
 use borrow.Author.Needs.{needs}

@@ -1,3 +1,4 @@
+-- `compiledoor::compile` meets its contract. Assumes nothing.
 use Rattle.compiledoor.proofs.DoorLaws as law
 use Rattle.compiledoor.specs.Door.{said}
 use borrow.Author.Needs.{needs}

@@ -1,3 +1,4 @@
+-- `compiledoor::compile_text` meets its contract. Assumes nothing.
 use Rattle.compiledoor.proofs.DoorLaws as law
 use Rattle.compiledoor.specs.Door.{said}
 use lib.ListN.{length}

@@ -1,3 +1,4 @@
+-- `compiler::clear` meets its contract. Assumes nothing.
 use Rattle.base.proofs.PoolLaws as pool
 use mathlib.Core.Path.{_∙_}
 use borrow.Author.Needs.{needs}

@@ -1,3 +1,4 @@
+-- `compiler::compile_simple` meets its contract. Assumes nothing.
 use Rattle.compiler.proofs.ProgramLaws as law
 use Rattle.compiler.specs.Made.{Makes}
 use Rattle.compiling.specs.Compile.{Compiled}

@@ -1,3 +1,4 @@
+-- `compiler::compile_tokens` meets its contract. Assumes nothing.
 use Rattle.compiler.proofs.ProgramLaws as law
 use mathlib.Core.Path.{sym, _∙_}
 use borrow.Author.Needs.{needs}

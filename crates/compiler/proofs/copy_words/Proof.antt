@@ -1,3 +1,4 @@
+-- `compiler::copy_words` meets its contract. Assumes nothing.
 use Rattle.compiler.proofs.FillLaws as law
 use lib.ListN.{length, take, drop, length-set}
 use Prim.Native.Nat.{ℕ, _+_, _-_, _≤_}

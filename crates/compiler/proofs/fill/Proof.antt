@@ -1,3 +1,4 @@
+-- `compiler::fill` meets its contract. Assumes nothing.
 use Rattle.compiler.proofs.FillLaws as law
 use mathlib.Core.Path.{_∙_}
 use borrow.Author.Needs.{needs}

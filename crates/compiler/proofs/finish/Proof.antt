@@ -1,3 +1,4 @@
+-- `compiler::finish` meets its contract. Assumes nothing.
 use Rattle.compiler.proofs.FillLaws as law
 use lib.Seq.{length-take-le}
 use lib.ListN.{take}

@@ -1,3 +1,4 @@
+-- `compiler::jump_near` meets its contract. Assumes nothing.
 use Rattle.compiler.specs.Walks.{jumpNear}
 use borrow.Author.Tests.{ne-eqb}
 use Rattle.compiler.proofs.jump_near.Statement.{statement}

@@ -1,3 +1,4 @@
+-- `compiler::plain_entries` meets its contract. Assumes nothing.
 use Rattle.compiler.proofs.WalkLaws as law
 use Rattle.compiler.specs.Walks.{plainEntries}
 use lib.ListN.{length, take, drop, length-take, length-drop}

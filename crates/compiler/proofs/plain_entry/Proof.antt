@@ -1,3 +1,4 @@
+-- `compiler::plain_entry` meets its contract. Assumes nothing.
 use Rattle.compiler.specs.Walks.{plainEntry}
 use borrow.Author.Tests.{ne-eqb}
 use mathlib.Core.Path.{sym, _∙_}

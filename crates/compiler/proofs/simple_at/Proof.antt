@@ -1,3 +1,4 @@
+-- `compiler::simple_at` meets its contract. Assumes nothing.
 use Rattle.compiler.specs.Walks.{simpleAt, plainEntries}
 use Rattle.emit.proofs.AltLaws as alts
 use borrow.Author.Tests.{eq-eqb, ne-eqb}

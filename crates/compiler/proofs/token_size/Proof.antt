@@ -1,3 +1,4 @@
+-- `compiler::token_size` meets its contract. Assumes nothing.
 use Rattle.emit.proofs.AltLaws as law
 use Prim.Native.Nat.{_+_}
 use mathlib.Core.Path.{sym}

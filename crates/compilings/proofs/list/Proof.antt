@@ -1,3 +1,4 @@
+-- `compilings::list` meets its contract. Assumes nothing.
 use Prim.Native.Nat.{_-_}
 use borrow.Author.Needs.{needs}
 use Rattle.compilings.proofs.list.Statement.{statement}

@@ -1,3 +1,4 @@
+-- `compilings::run` meets its contract. Assumes nothing.
 use Prim.Native.Nat.{_-_, _≤_}
 use lib.ListN.{length}
 use mathlib.Core.Logic.{⊎-elim}

@@ -1,3 +1,4 @@
+-- `emit::add_alternation` meets its contract. Assumes nothing.
 use Rattle.emit.proofs.AltLaws as law
 use lib.ListN.{length-take, length-drop}
 use Prim.Native.Nat.{_+_, _-_}

@@ -1,3 +1,4 @@
+-- `emit::add_jump` meets its contract. Assumes nothing.
 use Rattle.emit.proofs.PutLaws as law
 use lib.ListN.{set}
 use Prim.Native.Nat.{ℕ, _-_}

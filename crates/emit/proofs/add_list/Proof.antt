@@ -1,3 +1,4 @@
+-- `emit::add_list` meets its contract. Assumes nothing.
 use Rattle.emit.proofs.ListLaws as law
 use Rattle.emit.proofs.HoldLaws as hold
 use Rattle.emit.specs.Lists.{addedTo, listItem}

@@ -1,3 +1,4 @@
+-- `emit::add_lists` meets its contract. Assumes nothing.
 use Rattle.emit.proofs.BranchLaws as law
 use lib.ListN.{length-take, length-drop}
 use Prim.Native.Nat.{_-_}

@@ -1,3 +1,4 @@
+-- `emit::add_piece` meets its contract. Assumes nothing.
 use Rattle.emit.proofs.PutLaws as law
 use Rattle.emit.specs.declared.Piece.{Piece}
 use mathlib.Core.Path.{sym, subst}

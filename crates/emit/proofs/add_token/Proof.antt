@@ -1,3 +1,4 @@
+-- `emit::add_token` meets its contract. Assumes nothing.
 use Rattle.emit.proofs.AltLaws as law
 use Rattle.emit.specs.Lists.{altAt, entryAt, tokenAt}
 use lib.ListN.{length-take, length-drop}

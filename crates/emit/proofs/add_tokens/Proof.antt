@@ -1,3 +1,4 @@
+-- `emit::add_tokens` meets its contract. Assumes nothing.
 use Rattle.emit.proofs.TokensLaws as law
 use Rattle.emit.proofs.LinkLaws as link
 use Rattle.emit.proofs.HoldLaws as hold

@@ -1,3 +1,4 @@
+-- `emit::append_jump` meets its contract. Assumes nothing.
 use lib.ListN.{set}
 use Prim.Native.Nat.{ℕ}
 use mathlib.Core.Path.{refl, ap}

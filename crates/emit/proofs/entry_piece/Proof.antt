@@ -1,3 +1,4 @@
+-- `emit::entry_piece` meets its contract. Assumes nothing.
 use mathlib.Core.Path.{ap}
 use borrow.Author.Tests.{ne-eqb}
 use Rattle.compiling.specs.ProgramWords.{wordFor}

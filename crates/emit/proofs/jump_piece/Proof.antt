@@ -1,3 +1,4 @@
+-- `emit::jump_piece` meets its contract. Assumes nothing.
 use mathlib.Core.Path.{ap}
 use borrow.Author.Tests.{lt-ltb, le-ltb}
 use Rattle.compiling.specs.ProgramWords.{wordFor}

@@ -1,3 +1,4 @@
+-- `emit::longer` meets its contract. Assumes nothing.
 use borrow.Author.Tests.{lt-leb, le-leb}
 use mathlib.Core.Bool.{Bool, true, false, _||_}
 use mathlib.Core.Path.{_≡_, refl}

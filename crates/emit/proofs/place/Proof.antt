@@ -1,3 +1,4 @@
+-- `emit::place` meets its contract. Assumes nothing.
 use Rattle.emit.specs.Items.{placeOf}
 use native.Mathlib.Omega.{arith}
 use borrow.Author.Needs.{needs}

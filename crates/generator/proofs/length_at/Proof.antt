@@ -1,3 +1,4 @@
+-- `generator::length_at` meets its contract. Assumes nothing.
 use Rattle.literals.proofs.RankLaws.{literal-fits}
 use native.Mathlib.Omega.{arith}
 use borrow.Author.Needs.{needs}

@@ -1,3 +1,4 @@
+-- `generator::total_of` meets its contract. Assumes nothing.
 use mathlib.Core.List.{flatten}
 use Prim.Native.Nat.{_+_, _-_, _*_, _≤_}
 use mathlib.Core.Path.{_≡_}

@@ -1,3 +1,4 @@
+-- `generator::write_all` meets its contract. Assumes nothing.
 use mathlib.Core.Logic.{inl, inr}
 use Rattle.picking.specs.Literals.{literals}
 use Rattle.spelling.specs.Words.{tokensIn}

@@ -1,3 +1,4 @@
+-- `generator::write_each` meets its contract. Assumes nothing.
 use Prim.Native.Nat.{_-_, _≤_}
 use Rattle.spelling.specs.Words.{tokensIn}
 use Rattle.literals.proofs.RankLaws.{literal-fits}

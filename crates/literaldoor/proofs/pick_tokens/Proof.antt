@@ -1,3 +1,4 @@
+-- `literaldoor::pick_tokens` meets its contract. Assumes nothing.
 use borrow.Author.Needs.{needs}
 use borrow.Author.Tests.{not-true, not-false}
 use Rattle.literaldoor.proofs.DoorLaws as law

@@ -1,3 +1,4 @@
+-- `literaldoor::write_choice` meets its contract. Assumes nothing.
 use native.Mathlib.Omega.{arith}
 use borrow.Author.Needs.{needs}
 use Rattle.literaldoor.proofs.DoorLaws as law

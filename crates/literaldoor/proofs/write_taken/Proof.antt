@@ -1,3 +1,4 @@
+-- `literaldoor::write_taken` meets its contract. Assumes nothing.
 use borrow.Author.Needs.{needs}
 use Rattle.literaldoor.proofs.DoorLaws as law
 use Rattle.picking.specs.Literals.{literals as literalsOf}

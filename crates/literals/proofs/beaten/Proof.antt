@@ -1,3 +1,4 @@
+-- `literals::beaten` meets its contract. Assumes nothing.
 use Rattle.meaning.proofs.SoundLaws.{false-true}
 use Rattle.literals.proofs.PickLaws as pick
 use borrow.Author.Needs.{needs}

@@ -1,3 +1,4 @@
+-- `literals::best_slice` meets its contract. Assumes nothing.
 use Rattle.literals.proofs.RunLaws.{Weighed}
 use lib.ListN.{length}
 use Rattle.literals.proofs.RunLaws as law

@@ -1,3 +1,4 @@
+-- `literals::byte_words` meets its contract. Assumes nothing.
 use Rattle.literals.specs.Whole.{byteEnd}
 use Rattle.literals.proofs.PartLaws as parts
 use Rattle.spelling.proofs.PartLaws as part

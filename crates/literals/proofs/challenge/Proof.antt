@@ -1,3 +1,4 @@
+-- `literals::challenge` meets its contract. Assumes nothing.
 use Rattle.literals.proofs.PickLaws as pick
 use Prim.Native.Nat.{_-_}
 use borrow.Author.Needs.{needs}

@@ -1,3 +1,4 @@
+-- `literals::closes_run` meets its contract. Assumes nothing.
 use Rattle.literals.proofs.SegmentLaws as law
 use borrow.Author.Needs.{needs}
 use Rattle.literals.proofs.closes_run.Statement.{statement}

@@ -1,3 +1,4 @@
+-- `literals::in_run` meets its contract. Assumes nothing.
 use Rattle.literals.proofs.RunLaws as law
 use Prim.Native.Nat.{_-_}
 use borrow.Author.Needs.{needs}

@@ -1,3 +1,4 @@
+-- `literals::is_full` meets its contract. Assumes nothing.
 use mathlib.Core.Path.{ap}
 use Rattle.meaning.proofs.SoundLaws.{false-true}
 use Rattle.literals.specs.Ranks.{choiceSays}

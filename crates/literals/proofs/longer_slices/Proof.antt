@@ -1,3 +1,4 @@
+-- `literals::longer_slices` meets its contract. Assumes nothing.
 use Rattle.spelling.proofs.PartLaws.{part-long}
 use lib.ListN.{length, drop, length-drop, length-take}
 use Rattle.literals.specs.Ranks.{choiceSays}

@@ -1,3 +1,4 @@
+-- `literals::part_words` meets its contract. Assumes nothing.
 use Rattle.literals.proofs.PartLaws as parts
 use mathlib.Core.Path.{_∙_}
 use Prim.Native.Nat.{_-_}

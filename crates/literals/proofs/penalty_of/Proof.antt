@@ -1,3 +1,4 @@
+-- `literals::penalty_of` meets its contract. Assumes nothing.
 use Rattle.literals.proofs.RankLaws as law
 use Rattle.literals.proofs.penalty_of.Statement.{statement}
 use Rattle.literals.proofs.penalty_of.Tie as tie

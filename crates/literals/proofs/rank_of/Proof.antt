@@ -1,3 +1,4 @@
+-- `literals::rank_of` meets its contract. Assumes nothing.
 use Rattle.spelling.specs.Words.{tokensIn}
 use mathlib.Core.Path.{refl}
 use Rattle.literals.specs.declared.Rank.the-variants.{Skipped, TooMany}

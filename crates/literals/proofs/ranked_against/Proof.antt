@@ -1,3 +1,4 @@
+-- `literals::ranked_against` meets its contract. Assumes nothing.
 use Rattle.literals.specs.declared.Pick.the-variants.{TooMany}
 use Rattle.literals.proofs.PickLaws as pick
 use Prim.Native.Nat.{_-_}

@@ -1,3 +1,4 @@
+-- `literals::run_words` meets its contract. Assumes nothing.
 use native.Mathlib.Nat.{add-assoc}
 use Rattle.literals.specs.Whole.{runEnd}
 use lib.ListN.{length, drop}

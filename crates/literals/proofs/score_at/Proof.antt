@@ -1,3 +1,4 @@
+-- `literals::score_at` meets its contract. Assumes nothing.
 use Rattle.atoms.specs.Score.{literalScore}
 use mathlib.Core.Path.{ap, _∙_}
 use Rattle.literals.proofs.RankLaws as law

@@ -1,3 +1,4 @@
+-- `literals::strong_part` meets its contract. Assumes nothing.
 use Rattle.literals.proofs.RunLaws.{Passed}
 use lib.ListN.{length}
 use Rattle.literals.proofs.RunLaws as law

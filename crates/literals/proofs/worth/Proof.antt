@@ -1,3 +1,4 @@
+-- `literals::worth` meets its contract. Assumes nothing.
 use Rattle.spelling.specs.Words.{tokensIn}
 use Rattle.picking.specs.Choice.{lowest, least}
 use Rattle.picking.specs.Literals.{literals}

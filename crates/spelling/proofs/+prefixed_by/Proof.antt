@@ -1,3 +1,4 @@
+-- `spelling::prefixed_by`, which calls itself, meets its contract. Assumes nothing.
 use Rattle.spelling.specs.Tallies.{Numerable}
 use Prim.Native.Nat.{_*_, _-_}
 use native.Mathlib.Nat.{mul-le-mul}

@@ -1,3 +1,4 @@
+-- `spelling::class_of` meets its contract. Assumes nothing.
 use mathlib.Core.Path.{refl}
 use Rattle.spelling.proofs.ClassLaws as law
 use borrow.Author.Needs.{needs}

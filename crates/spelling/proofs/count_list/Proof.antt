@@ -1,3 +1,4 @@
+-- `spelling::count_list` meets its contract. Assumes nothing.
 use native.Mathlib.Nat.{one-mul}
 use Rattle.picking.specs.Numbers.{count}
 use Rattle.spelling.specs.Words.{flatIn}

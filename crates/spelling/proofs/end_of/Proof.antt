@@ -1,3 +1,4 @@
+-- `spelling::end_of` meets its contract. Assumes nothing.
 use Rattle.spelling.specs.Words.{ends}
 use native.Mathlib.Omega.{arith}
 use borrow.Author.Needs.{needs}

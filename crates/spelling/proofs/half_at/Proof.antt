@@ -1,3 +1,4 @@
+-- `spelling::half_at` meets its contract. Assumes nothing.
 use Rattle.spelling.proofs.MemberLaws as law
 use native.Mathlib.Omega.{arith}
 use Prim.Native.Nat.{_%_}

@@ -1,3 +1,4 @@
+-- `spelling::is_plain` meets its contract. Assumes nothing.
 use mathlib.Core.Logic.{⊎-elim}
 use Rattle.picking.specs.Runs.{plain}
 use Rattle.picking.specs.Literals.{plainLists}

@@ -1,3 +1,4 @@
+-- `spelling::length_of` meets its contract. Assumes nothing.
 use native.Mathlib.Nat.{zero-add, add-zero, add-assoc}
 use Rattle.picking.specs.Literals.{lengthOf, lengthIn}
 use Rattle.spelling.proofs.StepLaws as step

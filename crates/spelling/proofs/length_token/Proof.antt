@@ -1,3 +1,4 @@
+-- `spelling::length_token` meets its contract. Assumes nothing.
 use Rattle.picking.specs.Literals.{shortest}
 use Rattle.spelling.proofs.StepLaws as step
 use Rattle.spelling.specs.Words.{listsIn}

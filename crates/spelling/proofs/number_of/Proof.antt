@@ -1,3 +1,4 @@
+-- `spelling::number_of` meets its contract. Assumes nothing.
 use Rattle.spelling.specs.Tallies.{Numerable}
 use native.Mathlib.Nat.{mul-le-mul}
 use Rattle.picking.specs.Numbers.{count, prefixed, pieceOf}

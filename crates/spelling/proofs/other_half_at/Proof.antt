@@ -1,3 +1,4 @@
+-- `spelling::other_half_at` meets its contract. Assumes nothing.
 use Rattle.spelling.proofs.MemberLaws as law
 use mathlib.Core.Path.{ap, _∙_}
 use native.Mathlib.Omega.{arith}

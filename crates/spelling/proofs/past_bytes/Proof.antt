@@ -1,3 +1,4 @@
+-- `spelling::past_bytes` meets its contract. Assumes nothing.
 use mathlib.Core.Path.{sym, subst}
 use Rattle.spelling.proofs.PartLaws as part
 use Rattle.spelling.proofs.SpellLaws as spell

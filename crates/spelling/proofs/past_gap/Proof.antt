@@ -1,3 +1,4 @@
+-- `spelling::past_gap` meets its contract. Assumes nothing.
 use Rattle.spelling.proofs.MemberLaws as law
 use mathlib.Core.Path.{sym}
 use native.Mathlib.Omega.{arith}

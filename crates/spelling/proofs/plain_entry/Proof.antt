@@ -1,3 +1,4 @@
+-- `spelling::plain_entry` meets its contract. Assumes nothing.
 use Rattle.spelling.proofs.PlainLaws as law
 use Rattle.spelling.proofs.plain_entry.Statement.{statement}
 use Rattle.spelling.proofs.plain_entry.Tie as tie

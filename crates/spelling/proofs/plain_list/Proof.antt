@@ -1,3 +1,4 @@
+-- `spelling::plain_list` meets its contract. Assumes nothing.
 use Prim.Native.Nat.{ℕ}
 use mathlib.Core.List.{List}
 use Rattle.spelling.proofs.PartLaws as part

@@ -1,3 +1,4 @@
+-- `spelling::plain_lists` meets its contract. Assumes nothing.
 use Prim.Native.Nat.{ℕ, _-_, _≤_}
 use Rattle.picking.specs.Literals.{plainList, plainLists}
 use Rattle.spelling.specs.Words.{flatIn, listsIn}

@@ -1,3 +1,4 @@
+-- `spelling::prefix_in` meets its contract. Assumes nothing.
 use Rattle.picking.proofs.NumberLaws.{pos-right}
 use native.Mathlib.Nat.{mul-le-mul}
 use Rattle.picking.specs.Numbers.{countIn, prefixIn}

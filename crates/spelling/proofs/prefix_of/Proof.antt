@@ -1,3 +1,4 @@
+-- `spelling::prefix_of` meets its contract. Assumes nothing.
 use native.Mathlib.Nat.{div-zero}
 use Rattle.picking.specs.Numbers.{prefixIn}
 use Rattle.spelling.proofs.SpellLaws as spell

@@ -1,3 +1,4 @@
+-- `spelling::shortest_of` meets its contract. Assumes nothing.
 use Rattle.picking.specs.Literals.{shortest, shorter}
 use Rattle.spelling.proofs.StepLaws as step
 use Rattle.spelling.specs.Words.{listsIn}

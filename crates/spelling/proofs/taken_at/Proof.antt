@@ -1,3 +1,4 @@
+-- `spelling::taken_at` meets its contract. Assumes nothing.
 use Rattle.spelling.proofs.MemberLaws as law
 use mathlib.Core.Path.{refl, sym, ap, _∙_, subst}
 use native.Mathlib.Omega.{arith}

@@ -1,3 +1,4 @@
+-- `spelling::taken_count` meets its contract. Assumes nothing.
 use lib.ListN.{length}
 use mathlib.Core.Path.{sym, ap, _∙_}
 use Rattle.spelling.proofs.ClassLaws as class

@@ -1,3 +1,4 @@
+-- `spelling::tally_lists` meets its contract. Assumes nothing.
 use native.Mathlib.Nat.{one-mul, zero-add}
 use Rattle.picking.specs.Numbers.{count, countIn}
 use Rattle.picking.specs.Literals.{combinations, combinationsIn}

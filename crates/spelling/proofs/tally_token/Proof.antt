@@ -1,3 +1,4 @@
+-- `spelling::tally_token` meets its contract. Assumes nothing.
 use Rattle.spelling.specs.Tallies.{Tallied}
 use Rattle.picking.specs.Numbers.{countIn}
 use Rattle.picking.specs.Literals.{combinationsIn}

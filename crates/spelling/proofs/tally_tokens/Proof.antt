@@ -1,3 +1,4 @@
+-- `spelling::tally_tokens` meets its contract. Assumes nothing.
 use native.Mathlib.Nat.{one-mul}
 use Rattle.picking.specs.Numbers.{count}
 use Rattle.picking.specs.Literals.{combinations as combinations·}

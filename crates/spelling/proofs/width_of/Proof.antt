@@ -1,3 +1,4 @@
+-- `spelling::width_of` meets its contract. Assumes nothing.
 use borrow.Author.Tests.{eq-eqb, ne-eqb}
 use Rattle.spelling.specs.Words.{width}
 use borrow.Author.Needs.{needs}

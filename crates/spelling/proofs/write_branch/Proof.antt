@@ -1,3 +1,4 @@
+-- `spelling::write_branch` meets its contract. Assumes nothing.
 use Prim.Native.Nat.{_%_}
 use Rattle.spelling.specs.Tallies.{Written}
 use Rattle.picking.proofs.NumberLaws.{pos-right}

@@ -1,3 +1,4 @@
+-- `spelling::write_list` meets its contract. Assumes nothing.
 use lib.ListN.{set}
 use Rattle.spelling.proofs.WriteLaws.{Halfway}
 use Rattle.picking.specs.Numbers.{count, literalAt}

@@ -1,3 +1,4 @@
+-- `spelling::write_literal` meets its contract. Assumes nothing.
 use borrow.Rule.Slice.PartMut.{putMid}
 use mathlib.Core.List.{_++_}
 use mathlib.Core.Path.{subst₂}

@@ -1,3 +1,4 @@
+-- `spelling::write_piece` meets its contract. Assumes nothing.
 use lib.ListN.{set}
 use Rattle.spelling.specs.Tallies.{Written}
 use Rattle.picking.specs.Numbers.{pieceIn}

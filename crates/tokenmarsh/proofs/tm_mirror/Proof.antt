@@ -1,3 +1,4 @@
+-- `tokenmarsh::tm_mirror` meets its contract. Assumes nothing.
 use Prim.Native.Nat.{ℕ}
 use mathlib.Core.Path.{sym, ap, _∙_}
 use Rattle.mirror.specs.MirrorDoor.{said, refused}

@@ -1,3 +1,4 @@
+-- `tokenmarsh::tm_sound` meets its contract. Assumes nothing.
 use mathlib.Core.Path.{sym, _∙_}
 use borrow.Author.Needs.{needs}
 use Rattle.tokenmarsh.proofs.tm_sound.Statement.{statement}

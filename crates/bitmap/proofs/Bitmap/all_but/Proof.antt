@@ -1,3 +1,4 @@
+-- `bitmap::Bitmap::all_but` meets its contract. Assumes nothing.
 use lib.Dec.{eqb}
 use mathlib.Core.Path.{_∙_, ap}
 use mathlib.Core.Bool.{Bool, not, _||_, or-false}

@@ -1,3 +1,4 @@
+-- `bitmap::Bitmap::count` meets its contract. Assumes nothing.
 use Rattle.bitmap.proofs.Words.{size-words}
 use borrow.Author.Needs.{needs}
 use Rattle.bitmap.proofs.Bitmap.count.Statement.{statement}

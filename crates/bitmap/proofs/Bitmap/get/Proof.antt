@@ -1,3 +1,4 @@
+-- `bitmap::Bitmap::get` meets its contract. Assumes nothing.
 use mathlib.Core.Path.{refl}
 use Rattle.bitmap.specs.Bitmap.{bit, has}
 use borrow.Author.Needs.{needs}

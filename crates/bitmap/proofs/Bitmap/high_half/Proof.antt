@@ -1,3 +1,4 @@
+-- `bitmap::Bitmap::high_half` meets its contract. Assumes nothing.
 use Rattle.bitmap.specs.Bitmap.{has}
 use Rattle.bitmap.proofs.Halves.{high-bits}
 use borrow.Author.Needs.{needs}

@@ -1,3 +1,4 @@
+-- `bitmap::Bitmap::invert` meets its contract. Assumes nothing.
 use mir.Syntax.{w64}
 use mir.Val.{Fits}
 use mathlib.Core.Path.{_∙_}

@@ -1,3 +1,4 @@
+-- `bitmap::Bitmap::low_half` meets its contract. Assumes nothing.
 use mathlib.Core.Path.{_∙_}
 use Prim.Native.Nat.{_*_, _%_, _^_}
 use Rattle.bitmap.specs.Bitmap.{has}

@@ -1,3 +1,4 @@
+-- `bitmap::Bitmap::new` meets its contract. Assumes nothing.
 use mathlib.Core.Path.{_∙_}
 use Rattle.bitmap.specs.Bitmap.{has}
 use Rattle.bitmap.proofs.Bits.{bit-zero}

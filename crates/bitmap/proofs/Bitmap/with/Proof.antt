@@ -1,3 +1,4 @@
+-- `bitmap::Bitmap::with` meets its contract. Assumes nothing.
 use mathlib.Core.Path.{_≡_}
 use lib.ListN.{length}
 use Rattle.bitmap.specs.Bitmap.{has}
