@@ -20,8 +20,9 @@ score-requires c κs = search needs
 
 loop-holds : tie.Need-loop-holds Inv-loop μ-loop
 loop-holds c =
+    let at-score = c .score in
     let at-start = c .before .before in
-    (omega arith, best-first (at-start .args .lit .now) _ (c .score .ensures))
+    (omega arith, best-first (at-start .args .lit .now) _ (at-score .ensures))
 
 sub-loop : tie.Need-sub-loop Inv-loop μ-loop
 sub-loop c = search needs
@@ -49,12 +50,13 @@ loop-less c = search needs
 
 loop-again : tie.Need-loop-again Inv-loop μ-loop
 loop-again c =
+    let at-larger = c .larger in
     let at-score2 = c .before .score2 in
     let at-loop = c .before .before .before .before .loop in
     let at-start = c .before .before .before .before .before .before .before in (
       omega arith,
       best-next (at-start .args .lit .now) (at-loop .at) _ _ _
-          (at-loop .inv .1) (at-score2 .ensures) (c .larger .ensures),
+          (at-loop .inv .1) (at-score2 .ensures) (at-larger .ensures),
     )
 
 returns : tie.Need-returns Inv-loop μ-loop

@@ -17,7 +17,9 @@ abbrev μ-loop : tie.MeasureT-loop
 μ-loop pool₀ from to i₀ pool i = to - i
 
 loop-holds : tie.Need-loop-holds Inv-loop μ-loop
-loop-holds c = let a = c .args in (omega arith, omega arith, refl, zeroed-none (a .from) (a .pool .now))
+loop-holds c =
+    let at-start = c in
+    let a = at-start .args in (omega arith, omega arith, refl, zeroed-none (a .from) (a .pool .now))
 
 mul-pool : tie.Need-mul-pool Inv-loop μ-loop
 mul-pool c = search needs

@@ -30,37 +30,40 @@ enum-told c = search needs
 
 sub-check : tie.Need-sub-check
 sub-check c =
+    let at-enum-told = c .enum-told in
     let at-admit = c .before .before .admit in
     let at-start = c .before .before .before .before .before in
     let W = at-start .args .words .now in
     let H = at-start .args .hay .now in
     let S = at-start .args .start in
     let E = at-start .args .end in
-    let ok = sym (ap whyNot (c .enum-told .given .1)) ∙ at-admit .ensures in
+    let ok = sym (ap whyNot (at-enum-told .given .1)) ∙ at-admit .ensures in
     let fine = law.fine W (length H) S E ok in
     fine .ordered
 
 part-check-start : tie.Need-part-check-start
 part-check-start c =
+    let at-enum-told = c .enum-told in
     let at-admit = c .before .before .admit in
     let at-start = c .before .before .before .before .before in
     let W = at-start .args .words .now in
     let H = at-start .args .hay .now in
     let S = at-start .args .start in
     let E = at-start .args .end in
-    let ok = sym (ap whyNot (c .enum-told .given .1)) ∙ at-admit .ensures in
+    let ok = sym (ap whyNot (at-enum-told .given .1)) ∙ at-admit .ensures in
     let fine = law.fine W (length H) S E ok in
     fine .ordered
 
 part-check-end : tie.Need-part-check-end
 part-check-end c =
+    let at-enum-told = c .enum-told in
     let at-admit = c .before .before .admit in
     let at-start = c .before .before .before .before .before in
     let W = at-start .args .words .now in
     let H = at-start .args .hay .now in
     let S = at-start .args .start in
     let E = at-start .args .end in
-    let ok = sym (ap whyNot (c .enum-told .given .1)) ∙ at-admit .ensures in
+    let ok = sym (ap whyNot (at-enum-told .given .1)) ∙ at-admit .ensures in
     let fine = law.fine W (length H) S E ok in
     fine .inside
 
@@ -85,6 +88,7 @@ enum-told-2 c = search needs
 
 returns-2 : tie.Need-returns-2
 returns-2 c =
+    let at-enum-told2 = c .enum-told2 in
     let at-check = c .before .before .check in
     let at-enum-told = c .before .before .before .before .enum-told in
     let at-admit = c .before .before .before .before .before .before .admit in
@@ -95,7 +99,7 @@ returns-2 c =
     let S = at-start .args .start in
     let E = at-start .args .end in
     let ok = sym (ap whyNot (at-enum-told .given .1)) ∙ at-admit .ensures in
-    record { says = law.forward-none W H S E ok (sym (c .enum-told2 .given .1) ∙ at-check .ensures); bytes = law.all-bytes H (at-shared-slice-known2 .given) }
+    record { says = law.forward-none W H S E ok (sym (at-enum-told2 .given .1) ∙ at-check .ensures); bytes = law.all-bytes H (at-shared-slice-known2 .given) }
 
 sub-after : tie.Need-sub-after
 sub-after c =

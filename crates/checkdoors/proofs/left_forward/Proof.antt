@@ -40,37 +40,40 @@ enum-told-2 c = search needs
 
 sub-window : tie.Need-sub-window
 sub-window c =
+    let at-enum-told2 = c .enum-told2 in
     let at-admit = c .before .before .admit in
     let at-start = c .before .before .before .before .before in
     let W = at-start .args .words .now in
     let H = at-start .args .hay .now in
     let S = at-start .args .start in
     let E = at-start .args .end in
-    let ok = sym (ap whyNot (c .enum-told2 .given .1)) ∙ at-admit .ensures in
+    let ok = sym (ap whyNot (at-enum-told2 .given .1)) ∙ at-admit .ensures in
     let fine = law.fine W (length H) S E ok in
     fine .ordered
 
 part-window-start : tie.Need-part-window-start
 part-window-start c =
+    let at-enum-told2 = c .enum-told2 in
     let at-admit = c .before .before .admit in
     let at-start = c .before .before .before .before .before in
     let W = at-start .args .words .now in
     let H = at-start .args .hay .now in
     let S = at-start .args .start in
     let E = at-start .args .end in
-    let ok = sym (ap whyNot (c .enum-told2 .given .1)) ∙ at-admit .ensures in
+    let ok = sym (ap whyNot (at-enum-told2 .given .1)) ∙ at-admit .ensures in
     let fine = law.fine W (length H) S E ok in
     fine .ordered
 
 part-window-end : tie.Need-part-window-end
 part-window-end c =
+    let at-enum-told2 = c .enum-told2 in
     let at-admit = c .before .before .admit in
     let at-start = c .before .before .before .before .before in
     let W = at-start .args .words .now in
     let H = at-start .args .hay .now in
     let S = at-start .args .start in
     let E = at-start .args .end in
-    let ok = sym (ap whyNot (c .enum-told2 .given .1)) ∙ at-admit .ensures in
+    let ok = sym (ap whyNot (at-enum-told2 .given .1)) ∙ at-admit .ensures in
     let fine = law.fine W (length H) S E ok in
     fine .inside
 

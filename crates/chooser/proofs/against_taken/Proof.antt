@@ -58,30 +58,34 @@ wins-requires c κs =
 
 returns : tie.Need-returns
 returns c =
+    let at-if1 = c .if1 in
     let at-wins = c .before .wins in
     let at-next = c .before .before .before .before .before .next in
     let at-start = c .before .before .before .before .before .before .before .before in
-    law.new-taken (at-start .args .ws .now) (at-start .args .from) (at-start .args .to) (at-start .args .m) (at-start .args .next) _ _ _ (at-next .given .1) (at-start .pre .1) (sym (c .if1 .taken) ∙ at-wins .ensures)
+    law.new-taken (at-start .args .ws .now) (at-start .args .from) (at-start .args .to) (at-start .args .m) (at-start .args .next) _ _ _ (at-next .given .1) (at-start .pre .1) (sym (at-if1 .taken) ∙ at-wins .ensures)
 
 enum-told-2 : tie.Need-enum-told-2
 enum-told-2 c = search needs
 
 returns-2 : tie.Need-returns-2
 returns-2 c =
+    let at-enum-told = c .enum-told in
     let at-start = c .before .before .before in
-    law.nothing-more (at-start .args .ws .now) (at-start .args .from) (at-start .args .to) (at-start .args .m) (at-start .args .next) (c .enum-told .given .1) (at-start .pre .0)
+    law.nothing-more (at-start .args .ws .now) (at-start .args .from) (at-start .args .to) (at-start .args .m) (at-start .args .next) (at-enum-told .given .1) (at-start .pre .0)
 
 returns-3 : tie.Need-returns-3
 returns-3 c =
+    let at-if1 = c .if1 in
     let at-wins = c .before .wins in
     let at-next = c .before .before .before .before .before .next in
     let at-start = c .before .before .before .before .before .before .before .before in
-    law.old-taken (at-start .args .ws .now) (at-start .args .from) (at-start .args .to) (at-start .args .m) (at-start .args .next) _ _ _ (at-next .given .1) (at-start .pre .0) (sym (c .if1 .left) ∙ at-wins .ensures)
+    law.old-taken (at-start .args .ws .now) (at-start .args .from) (at-start .args .to) (at-start .args .m) (at-start .args .next) _ _ _ (at-next .given .1) (at-start .pre .0) (sym (at-if1 .left) ∙ at-wins .ensures)
 
 returns-4 : tie.Need-returns-4
 returns-4 c =
+    let at-enum-told2 = c .enum-told2 in
     let at-start = c .before .before .before in
-    law.full-next (at-start .args .ws .now) (at-start .args .from) (at-start .args .to) (at-start .args .m) (at-start .args .next) (c .enum-told2 .given .1)
+    law.full-next (at-start .args .ws .now) (at-start .args .from) (at-start .args .to) (at-start .args .m) (at-start .args .next) (at-enum-told2 .given .1)
 
 pub against-taken-spec : {M : Type 1} → statement M
 against-taken-spec =

@@ -24,19 +24,22 @@ enum-told-2 c = search needs
 
 returns : tie.Need-returns
 returns c =
+    let at-enum-told = c .enum-told in
     let at-start = c .before .before .before in
-    law.nothing-yet (at-start .args .ws .now) (at-start .args .top) (at-start .args .next) (c .enum-told .given .1) (at-start .pre .1)
+    law.nothing-yet (at-start .args .ws .now) (at-start .args .top) (at-start .args .next) (at-enum-told .given .1) (at-start .pre .1)
 
 returns-2 : tie.Need-returns-2
 returns-2 c =
+    let at-against-taken = c .against-taken in
     let at-top = c .before .before .top in
     let at-start = c .before .before .before .before .before in
-    law.taken-yet (at-start .args .ws .now) (at-start .args .top) (at-start .args .next) _ _ _ (c .against-taken .result) (at-top .given .1) (c .against-taken .ensures)
+    law.taken-yet (at-start .args .ws .now) (at-start .args .top) (at-start .args .next) _ _ _ (at-against-taken .result) (at-top .given .1) (at-against-taken .ensures)
 
 returns-3 : tie.Need-returns-3
 returns-3 c =
+    let at-enum-told2 = c .enum-told2 in
     let at-start = c .before .before .before in
-    law.full-yet (at-start .args .ws .now) (at-start .args .top) (at-start .args .next) (c .enum-told2 .given .1)
+    law.full-yet (at-start .args .ws .now) (at-start .args .top) (at-start .args .next) (at-enum-told2 .given .1)
 
 pub better-spec : {M : Type 1} → statement M
 better-spec =

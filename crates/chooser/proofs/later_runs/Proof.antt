@@ -39,31 +39,35 @@ width-of-requires c κs = search needs
 
 add-from : tie.Need-add-from Inv-loop μ-loop
 add-from c =
+    let at-width-of = c .width-of in
     let at-loop-test = c .before .before .loop-test in
     let at-loop = c .before .before .before .loop in
     let at-start = c .before .before .before .before .before in
-    let f = run.from-fits (at-start .args .ws .now) (at-start .args .first) (at-loop .at) _ (at-loop .top) (at-loop .inv) (at-start .pre .0) (at-loop-test .taken) (ap (λ (x : ℕ). at-loop .at + x) (c .width-of .ensures)) in omega (arith, f .0, c .width-of .ensures)
+    let f = run.from-fits (at-start .args .ws .now) (at-start .args .first) (at-loop .at) _ (at-loop .top) (at-loop .inv) (at-start .pre .0) (at-loop-test .taken) (ap (λ (x : ℕ). at-loop .at + x) (at-width-of .ensures)) in omega (arith, f .0, at-width-of .ensures)
 
 mul-run-words : tie.Need-mul-run-words Inv-loop μ-loop
 mul-run-words c =
+    let at-width-of = c .width-of in
     let at-loop-test = c .before .before .loop-test in
     let at-loop = c .before .before .before .loop in
     let at-start = c .before .before .before .before .before in
-    let f = run.from-fits (at-start .args .ws .now) (at-start .args .first) (at-loop .at) _ (at-loop .top) (at-loop .inv) (at-start .pre .0) (at-loop-test .taken) (ap (λ (x : ℕ). at-loop .at + x) (c .width-of .ensures)) in omega (arith, f .0)
+    let f = run.from-fits (at-start .args .ws .now) (at-start .args .first) (at-loop .at) _ (at-loop .top) (at-loop .inv) (at-start .pre .0) (at-loop-test .taken) (ap (λ (x : ℕ). at-loop .at + x) (at-width-of .ensures)) in omega (arith, f .0)
 
 sub-run-words : tie.Need-sub-run-words Inv-loop μ-loop
 sub-run-words c =
+    let at-width-of = c .width-of in
     let at-loop-test = c .before .before .loop-test in
     let at-loop = c .before .before .before .loop in
     let at-start = c .before .before .before .before .before in
-    let f = run.from-fits (at-start .args .ws .now) (at-start .args .first) (at-loop .at) _ (at-loop .top) (at-loop .inv) (at-start .pre .0) (at-loop-test .taken) (ap (λ (x : ℕ). at-loop .at + x) (c .width-of .ensures)) in f .0
+    let f = run.from-fits (at-start .args .ws .now) (at-start .args .first) (at-loop .at) _ (at-loop .top) (at-loop .inv) (at-start .pre .0) (at-loop-test .taken) (ap (λ (x : ℕ). at-loop .at + x) (at-width-of .ensures)) in f .0
 
 part-run-words-start : tie.Need-part-run-words-start Inv-loop μ-loop
 part-run-words-start c =
+    let at-width-of = c .width-of in
     let at-loop-test = c .before .before .loop-test in
     let at-loop = c .before .before .before .loop in
     let at-start = c .before .before .before .before .before in
-    let f = run.from-fits (at-start .args .ws .now) (at-start .args .first) (at-loop .at) _ (at-loop .top) (at-loop .inv) (at-start .pre .0) (at-loop-test .taken) (ap (λ (x : ℕ). at-loop .at + x) (c .width-of .ensures)) in f .0
+    let f = run.from-fits (at-start .args .ws .now) (at-start .args .first) (at-loop .at) _ (at-loop .top) (at-loop .inv) (at-start .pre .0) (at-loop-test .taken) (ap (λ (x : ℕ). at-loop .at + x) (at-width-of .ensures)) in f .0
 
 part-run-words-end : tie.Need-part-run-words-end Inv-loop μ-loop
 part-run-words-end c = search needs
@@ -73,19 +77,21 @@ run-words-requires c κs = search needs
 
 add-to : tie.Need-add-to Inv-loop μ-loop
 add-to c =
+    let at-run-words = c .run-words in
     let at-width-of = c .before .before .width-of in
     let at-loop-test = c .before .before .before .before .loop-test in
     let at-loop = c .before .before .before .before .before .loop in
     let at-start = c .before .before .before .before .before .before .before in
-    let s = run.run-stretch (at-start .args .ws .now) (at-start .args .first) (at-loop .at) _ (at-loop .top) (at-loop .inv) (at-start .pre .0) (at-loop-test .taken) (ap (λ (x : ℕ). at-loop .at + x) (at-width-of .ensures)) _ _ refl (c .run-words .ensures .0) in omega (arith, s .few, s .inside)
+    let s = run.run-stretch (at-start .args .ws .now) (at-start .args .first) (at-loop .at) _ (at-loop .top) (at-loop .inv) (at-start .pre .0) (at-loop-test .taken) (ap (λ (x : ℕ). at-loop .at + x) (at-width-of .ensures)) _ _ refl (at-run-words .ensures .0) in omega (arith, s .few, s .inside)
 
 with-run-requires : tie.Need-with-run-requires Inv-loop μ-loop
 with-run-requires c κs =
+    let at-run-words = c .run-words in
     let at-width-of = c .before .before .width-of in
     let at-loop-test = c .before .before .before .before .loop-test in
     let at-loop = c .before .before .before .before .before .loop in
     let at-start = c .before .before .before .before .before .before .before in
-    (run.run-stretch (at-start .args .ws .now) (at-start .args .first) (at-loop .at) _ (at-loop .top) (at-loop .inv) (at-start .pre .0) (at-loop-test .taken) (ap (λ (x : ℕ). at-loop .at + x) (at-width-of .ensures)) _ _ refl (c .run-words .ensures .0), (at-loop .inv) .kept)
+    (run.run-stretch (at-start .args .ws .now) (at-start .args .first) (at-loop .at) _ (at-loop .top) (at-loop .inv) (at-start .pre .0) (at-loop-test .taken) (ap (λ (x : ℕ). at-loop .at + x) (at-width-of .ensures)) _ _ refl (at-run-words .ensures .0), (at-loop .inv) .kept)
 
 loop-less : tie.Need-loop-less Inv-loop μ-loop
 loop-less c =
@@ -101,18 +107,20 @@ loop-less c =
 
 loop-again : tie.Need-loop-again Inv-loop μ-loop
 loop-again c =
+    let at-with-run = c .with-run in
     let at-run-words = c .before .run-words in
     let at-width-of = c .before .before .before .width-of in
     let at-loop-test = c .before .before .before .before .before .loop-test in
     let at-loop = c .before .before .before .before .before .before .loop in
     let at-start = c .before .before .before .before .before .before .before .before in
-    run.asked-more (at-start .args .ws .now) (at-start .args .first) (at-loop .at) _ (at-loop .top) (at-loop .inv) (at-start .pre .0) (at-loop-test .taken) (ap (λ (x : ℕ). at-loop .at + x) (at-width-of .ensures)) _ _ refl (at-run-words .ensures .0) (c .with-run .result) (c .with-run .ensures .0) (c .with-run .ensures .1)
+    run.asked-more (at-start .args .ws .now) (at-start .args .first) (at-loop .at) _ (at-loop .top) (at-loop .inv) (at-start .pre .0) (at-loop-test .taken) (ap (λ (x : ℕ). at-loop .at + x) (at-width-of .ensures)) _ _ refl (at-run-words .ensures .0) (at-with-run .result) (at-with-run .ensures .0) (at-with-run .ensures .1)
 
 returns : tie.Need-returns Inv-loop μ-loop
 returns c =
+    let at-loop-test = c .loop-test in
     let at-loop = c .before .loop in
     let at-start = c .before .before .before in
-    run.asked-all (at-start .args .ws .now) (at-start .args .first) (at-loop .at) (at-loop .top) (at-loop .inv) (c .loop-test .left)
+    run.asked-all (at-start .args .ws .now) (at-start .args .first) (at-loop .at) (at-loop .top) (at-loop .inv) (at-loop-test .left)
 
 pub later-runs-spec : {M : Type 1} → statement M
 later-runs-spec =

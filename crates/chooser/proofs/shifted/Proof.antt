@@ -27,20 +27,23 @@ enum-told-2 c = search needs
 
 returns : tie.Need-returns
 returns c =
+    let at-enum-told = c .enum-told in
     let at-start = c .before .before in
-    law.nothing-shifted (at-start .args .p) (at-start .args .from) (at-start .args .n) (c .enum-told .given .1)
+    law.nothing-shifted (at-start .args .p) (at-start .args .from) (at-start .args .n) (at-enum-told .given .1)
 
 returns-2 : tie.Need-returns-2
 returns-2 c =
+    let at-smaller2 = c .smaller2 in
     let at-smaller = c .before .smaller in
     let at-p = c .before .before .before .p in
     let at-start = c .before .before .before .before .before in
-    law.taken-shifted (at-start .args .p) (at-start .args .from) (at-start .args .n) _ _ _ _ _ (at-p .given .1) (at-smaller .ensures) (c .smaller2 .ensures)
+    law.taken-shifted (at-start .args .p) (at-start .args .from) (at-start .args .n) _ _ _ _ _ (at-p .given .1) (at-smaller .ensures) (at-smaller2 .ensures)
 
 returns-3 : tie.Need-returns-3
 returns-3 c =
+    let at-enum-told2 = c .enum-told2 in
     let at-start = c .before .before in
-    law.full-shifted (at-start .args .p) (at-start .args .from) (at-start .args .n) (c .enum-told2 .given .1)
+    law.full-shifted (at-start .args .p) (at-start .args .from) (at-start .args .n) (at-enum-told2 .given .1)
 
 pub shifted-spec : {M : Type 1} → statement M
 shifted-spec =

@@ -7,13 +7,15 @@ use Rattle.compiledoor.proofs.compile.Tie as tie
 
 returns : tie.Need-returns
 returns c =
+    let at-if1 = c .if1 in
     let at-start = c .before .before .before .before in
-    law.door-small (at-start .args .text .now) (at-start .args .forward .now) (at-start .args .reverse .now) (law.small-first (at-start .args .forward .now) (at-start .args .reverse .now) (c .if1 .taken))
+    law.door-small (at-start .args .text .now) (at-start .args .forward .now) (at-start .args .reverse .now) (law.small-first (at-start .args .forward .now) (at-start .args .reverse .now) (at-if1 .taken))
 
 returns-2 : tie.Need-returns-2
 returns-2 c =
+    let at-if2 = c .if2 in
     let at-start = c .before .before .before .before .before in
-    law.door-small (at-start .args .text .now) (at-start .args .forward .now) (at-start .args .reverse .now) (law.small-second (at-start .args .forward .now) (at-start .args .reverse .now) (c .if2 .taken))
+    law.door-small (at-start .args .text .now) (at-start .args .forward .now) (at-start .args .reverse .now) (law.small-second (at-start .args .forward .now) (at-start .args .reverse .now) (at-if2 .taken))
 
 compile-text-requires : tie.Need-compile-text-requires
 compile-text-requires c κs = search needs

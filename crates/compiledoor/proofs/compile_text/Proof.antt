@@ -65,6 +65,7 @@ same-length-2 c = search needs
 
 returns : tie.Need-returns
 returns c =
+    let at-answer-of = c .answer-of in
     let at-compile-tokens = c .before .before .before .before .before .compile-tokens in
     let at-r = c .before .before .before .before .before .before .before .before .before .before .before .r in
     let at-read = c .before .before .before .before .before .before .before .before .before .before .before .before .before .before .read in
@@ -78,11 +79,11 @@ returns c =
     (at-r .given .0 .1 .0)
     (at-r .given .1) in law.text-compiled
     (at-start .args .text .now) _ (g .tokens)
-    (at-compile-tokens .result) (said (c .answer-of .result))
+    (at-compile-tokens .result) (said (at-answer-of .result))
     (at-start .args .forward .now)
     (at-compile-tokens .last .1 .0)
     (at-start .args .reverse .now)
-    (at-compile-tokens .last .1 .1 .0) (g .outcome) (c .answer-of .ensures)
+    (at-compile-tokens .last .1 .1 .0) (g .outcome) (at-answer-of .ensures)
     (at-compile-tokens .ensures (g .tokens) (g .words) (g .spelled))
 
 same-length-3 : tie.Need-same-length-3

@@ -23,10 +23,11 @@ loop-holds c =
 
 cast-starts : tie.Need-cast-starts Inv-loop μ-loop
 cast-starts c =
+    let at-loop-test = c .loop-test in
     let at-loop = c .before .loop in
     let at-start = c .before .before .before .before in
     let s = alts.size-least (at-start .args .ws .now) (at-loop .at) in
-    let f = law.marked-fits (at-start .args .ws .now) (at-start .args .starts .now) (at-loop .starts) (at-loop .at) (at-loop .n) ((at-start .pre .0) .tokens) (c .loop-test .taken)
+    let f = law.marked-fits (at-start .args .ws .now) (at-start .args .starts .now) (at-loop .starts) (at-loop .at) (at-loop .n) ((at-start .pre .0) .tokens) (at-loop-test .taken)
     (at-loop .inv .1 ((at-start .pre .0) .tokens) ((at-start .pre .0) .entered)) in
     let l = (at-start .pre .0) .short in
     let g = (at-loop .inv .1 ((at-start .pre .0) .tokens) ((at-start .pre .0) .entered)) .few in
@@ -34,10 +35,11 @@ cast-starts c =
 
 mul-starts : tie.Need-mul-starts Inv-loop μ-loop
 mul-starts c =
+    let at-loop-test = c .loop-test in
     let at-loop = c .before .loop in
     let at-start = c .before .before .before .before in
     let s = alts.size-least (at-start .args .ws .now) (at-loop .at) in
-    let f = law.marked-fits (at-start .args .ws .now) (at-start .args .starts .now) (at-loop .starts) (at-loop .at) (at-loop .n) ((at-start .pre .0) .tokens) (c .loop-test .taken)
+    let f = law.marked-fits (at-start .args .ws .now) (at-start .args .starts .now) (at-loop .starts) (at-loop .at) (at-loop .n) ((at-start .pre .0) .tokens) (at-loop-test .taken)
     (at-loop .inv .1 ((at-start .pre .0) .tokens) ((at-start .pre .0) .entered)) in
     let l = (at-start .pre .0) .short in
     let g = (at-loop .inv .1 ((at-start .pre .0) .tokens) ((at-start .pre .0) .entered)) .few in
@@ -45,10 +47,11 @@ mul-starts c =
 
 slice-write-starts : tie.Need-slice-write-starts Inv-loop μ-loop
 slice-write-starts c =
+    let at-loop-test = c .loop-test in
     let at-loop = c .before .loop in
     let at-start = c .before .before .before .before in
     let s = alts.size-least (at-start .args .ws .now) (at-loop .at) in
-    let f = law.marked-fits (at-start .args .ws .now) (at-start .args .starts .now) (at-loop .starts) (at-loop .at) (at-loop .n) ((at-start .pre .0) .tokens) (c .loop-test .taken)
+    let f = law.marked-fits (at-start .args .ws .now) (at-start .args .starts .now) (at-loop .starts) (at-loop .at) (at-loop .n) ((at-start .pre .0) .tokens) (at-loop-test .taken)
     (at-loop .inv .1 ((at-start .pre .0) .tokens) ((at-start .pre .0) .entered)) in
     let l = (at-start .pre .0) .short in
     let g = (at-loop .inv .1 ((at-start .pre .0) .tokens) ((at-start .pre .0) .entered)) .few in
@@ -56,10 +59,11 @@ slice-write-starts c =
 
 add-n : tie.Need-add-n Inv-loop μ-loop
 add-n c =
+    let at-loop-test = c .loop-test in
     let at-loop = c .before .loop in
     let at-start = c .before .before .before .before in
     let s = alts.size-least (at-start .args .ws .now) (at-loop .at) in
-    let f = law.marked-fits (at-start .args .ws .now) (at-start .args .starts .now) (at-loop .starts) (at-loop .at) (at-loop .n) ((at-start .pre .0) .tokens) (c .loop-test .taken)
+    let f = law.marked-fits (at-start .args .ws .now) (at-start .args .starts .now) (at-loop .starts) (at-loop .at) (at-loop .n) ((at-start .pre .0) .tokens) (at-loop-test .taken)
     (at-loop .inv .1 ((at-start .pre .0) .tokens) ((at-start .pre .0) .entered)) in
     let l = (at-start .pre .0) .short in
     let g = (at-loop .inv .1 ((at-start .pre .0) .tokens) ((at-start .pre .0) .entered)) .few in
@@ -67,10 +71,11 @@ add-n c =
 
 token-size-requires : tie.Need-token-size-requires Inv-loop μ-loop
 token-size-requires c κs =
+    let at-loop-test = c .loop-test in
     let at-loop = c .before .loop in
     let at-start = c .before .before .before .before in
     let s = alts.size-least (at-start .args .ws .now) (at-loop .at) in
-    let f = law.marked-fits (at-start .args .ws .now) (at-start .args .starts .now) (at-loop .starts) (at-loop .at) (at-loop .n) ((at-start .pre .0) .tokens) (c .loop-test .taken)
+    let f = law.marked-fits (at-start .args .ws .now) (at-start .args .starts .now) (at-loop .starts) (at-loop .at) (at-loop .n) ((at-start .pre .0) .tokens) (at-loop-test .taken)
     (at-loop .inv .1 ((at-start .pre .0) .tokens) ((at-start .pre .0) .entered)) in
     let l = (at-start .pre .0) .short in
     let g = (at-loop .inv .1 ((at-start .pre .0) .tokens) ((at-start .pre .0) .entered)) .few in
@@ -78,6 +83,7 @@ token-size-requires c κs =
 
 add-at : tie.Need-add-at Inv-loop μ-loop
 add-at c =
+    let at-token-size = c .token-size in
     let at-loop-test = c .before .loop-test in
     let at-loop = c .before .before .loop in
     let at-start = c .before .before .before .before .before in
@@ -86,10 +92,11 @@ add-at c =
     (at-loop .inv .1 ((at-start .pre .0) .tokens) ((at-start .pre .0) .entered)) in
     let l = (at-start .pre .0) .short in
     let g = (at-loop .inv .1 ((at-start .pre .0) .tokens) ((at-start .pre .0) .entered)) .few in
-    let r = at-start .pre .1 in omega (arith, c .token-size .ensures)
+    let r = at-start .pre .1 in omega (arith, at-token-size .ensures)
 
 loop-less : tie.Need-loop-less Inv-loop μ-loop
 loop-less c =
+    let at-token-size = c .token-size in
     let at-loop-test = c .before .loop-test in
     let at-loop = c .before .before .loop in
     let at-start = c .before .before .before .before .before in
@@ -98,10 +105,11 @@ loop-less c =
     (at-loop .inv .1 ((at-start .pre .0) .tokens) ((at-start .pre .0) .entered)) in
     let l = (at-start .pre .0) .short in
     let g = (at-loop .inv .1 ((at-start .pre .0) .tokens) ((at-start .pre .0) .entered)) .few in
-    let r = at-start .pre .1 in omega (arith, c .token-size .ensures)
+    let r = at-start .pre .1 in omega (arith, at-token-size .ensures)
 
 loop-again : tie.Need-loop-again Inv-loop μ-loop
 loop-again c =
+    let at-token-size = c .token-size in
     let at-loop-test = c .before .loop-test in
     let at-loop = c .before .before .loop in
     let at-start = c .before .before .before .before .before in
@@ -115,7 +123,7 @@ loop-again c =
           ∙ at-loop .inv .0,
       λ ts e. subst
           (λ (k : ℕ). law.Marked (at-start .args .ws .now) (at-start .args .starts .now) (set (at-loop .starts) (at-loop .n) (at-loop .at)) ((at-loop .at) + k) ((at-loop .n) + 1) ts)
-          (sym (c .token-size .ensures))
+          (sym (at-token-size .ensures))
           (law.marked-step (at-start .args .ws .now) (at-start .args .starts .now) (at-loop .starts) (at-loop .at) (at-loop .n) ts (at-loop-test .taken) (omega arith) (at-loop .inv .1 ts e)),
     )
 
@@ -126,9 +134,10 @@ same-length c =
 
 returns : tie.Need-returns Inv-loop μ-loop
 returns c =
+    let at-loop-test = c .loop-test in
     let at-loop = c .before .loop in
     let at-start = c .before .before .before .before in
-    λ ts e. law.marked-end (at-start .args .ws .now) (at-start .args .starts .now) (at-loop .starts) (at-loop .at) (at-loop .n) ts (c .loop-test .left) (at-loop .inv .1 ts e)
+    λ ts e. law.marked-end (at-start .args .ws .now) (at-start .args .starts .now) (at-loop .starts) (at-loop .at) (at-loop .n) ts (at-loop-test .left) (at-loop .inv .1 ts e)
 
 pub find-starts-spec : {M : Type 1} → statement M
 find-starts-spec =

@@ -6,11 +6,15 @@ use Rattle.compiler.proofs.jump_near.Tie as tie
 
 returns : tie.Need-returns
 unfolding jumpNear
-returns c = rw (c .if1 .taken)
+returns c =
+    let at-if1 = c .if1 in
+    rw (at-if1 .taken)
 
 returns-2 : tie.Need-returns-2
 unfolding jumpNear
-returns-2 c = rw (ne-eqb _ _ (c .if1 .left))
+returns-2 c =
+    let at-if1 = c .if1 in
+    rw (ne-eqb _ _ (at-if1 .left))
 
 pub jump-near-spec : {M : Type 1} → statement M
 jump-near-spec = tie.close (tie.spec returns returns-2)

@@ -36,10 +36,11 @@ plain-entry-requires c κs = search needs
 
 returns : tie.Need-returns Inv-loop μ-loop
 returns c =
+    let at-if1 = c .if1 in
     let at-plain-entry = c .before .plain-entry in
     let at-loop-test = c .before .before .before .before .before .before .loop-test in
     let at-loop = c .before .before .before .before .before .before .before .loop in
-    sym (at-loop .inv .1 ∙ law.plain-step (at-loop .rest .now) (at-loop-test .taken) ∙ ap (λ (t : Bool). t && (plainEntries (take (length (at-loop .rest .now) - 4) (drop 4 (at-loop .rest .now))))) (sym (sym (c .if1 .left) ∙ at-plain-entry .ensures)))
+    sym (at-loop .inv .1 ∙ law.plain-step (at-loop .rest .now) (at-loop-test .taken) ∙ ap (λ (t : Bool). t && (plainEntries (take (length (at-loop .rest .now) - 4) (drop 4 (at-loop .rest .now))))) (sym (sym (at-if1 .left) ∙ at-plain-entry .ensures)))
 
 sub-rest : tie.Need-sub-rest Inv-loop μ-loop
 sub-rest c = search needs
@@ -63,8 +64,9 @@ loop-again c =
 
 returns-2 : tie.Need-returns-2 Inv-loop μ-loop
 returns-2 c =
+    let at-loop-test = c .loop-test in
     let at-loop = c .before .loop in
-    sym (at-loop .inv .1 ∙ law.plain-end (at-loop .rest .now) (c .loop-test .left))
+    sym (at-loop .inv .1 ∙ law.plain-end (at-loop .rest .now) (at-loop-test .left))
 
 pub plain-entries-spec : {M : Type 1} → statement M
 plain-entries-spec =

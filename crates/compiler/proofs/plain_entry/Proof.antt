@@ -12,20 +12,24 @@ jump-near-requires c κs = search needs
 returns : tie.Need-returns
 unfolding plainEntry
 returns c =
+    let at-if2 = c .if2 in
     let at-jump-near = c .before .jump-near in
     let at-if1 = c .before .before .if1 in
-    rw (at-if1 .taken, sym (sym (c .if2 .taken) ∙ at-jump-near .ensures))
+    rw (at-if1 .taken, sym (sym (at-if2 .taken) ∙ at-jump-near .ensures))
 
 returns-2 : tie.Need-returns-2
 unfolding plainEntry
 returns-2 c =
+    let at-if2 = c .if2 in
     let at-jump-near = c .before .jump-near in
     let at-if1 = c .before .before .if1 in
-    rw (at-if1 .taken, sym (sym (c .if2 .left) ∙ at-jump-near .ensures))
+    rw (at-if1 .taken, sym (sym (at-if2 .left) ∙ at-jump-near .ensures))
 
 returns-3 : tie.Need-returns-3
 unfolding plainEntry
-returns-3 c = rw (ne-eqb _ _ (c .if1 .left))
+returns-3 c =
+    let at-if1 = c .if1 in
+    rw (ne-eqb _ _ (at-if1 .left))
 
 pub plain-entry-spec : {M : Type 1} → statement M
 plain-entry-spec = tie.close (tie.spec jump-near-requires returns returns-2 returns-3)

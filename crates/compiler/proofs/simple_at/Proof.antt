@@ -88,11 +88,12 @@ plain-entries-requires c κs = search needs
 returns : tie.Need-returns
 unfolding simpleAt
 returns c =
+    let at-plain-entries = c .plain-entries in
     let at-if1 = c .before .before .before .if1 in
     let at-start = c .before .before .before .before .before .before in
     let e : (at-start .args .at) + 4 + 4 * getD (at-start .args .ws .now) ((at-start .args .at) + 2) 0 - ((at-start .args .at) + 4) ≡ 4 * getD (at-start .args .ws .now)
     ((at-start .args .at) + 2) 0 = omega arith in rw (eq-eqb (getD (at-start .args .ws .now) (at-start .args .at) 0) 5 (at-if1 .taken))
-    (c .plain-entries .ensures ∙ ap (λ (n : ℕ). plainEntries (take n (drop ((at-start .args .at) + 4) (at-start .args .ws .now)))) e)
+    (at-plain-entries .ensures ∙ ap (λ (n : ℕ). plainEntries (take n (drop ((at-start .args .at) + 4) (at-start .args .ws .now)))) e)
 
 add-jump-near : tie.Need-add-jump-near
 add-jump-near c =
@@ -130,14 +131,16 @@ jump-near-requires c κs = search needs
 returns-2 : tie.Need-returns-2
 unfolding simpleAt
 returns-2 c =
+    let at-jump-near = c .jump-near in
     let at-if2 = c .before .before .before .if2 in
-    rw (at-if2 .taken) (c .jump-near .ensures)
+    rw (at-if2 .taken) (at-jump-near .ensures)
 
 returns-3 : tie.Need-returns-3
 unfolding simpleAt
 returns-3 c =
+    let at-if2 = c .if2 in
     let at-if1 = c .before .if1 in
-    rw (ne-eqb _ _ (at-if1 .left), ne-eqb _ _ (c .if2 .left))
+    rw (ne-eqb _ _ (at-if1 .left), ne-eqb _ _ (at-if2 .left))
 
 pub simple-at-spec : {M : Type 1} → statement M
 simple-at-spec =

@@ -24,18 +24,21 @@ shared-slice-read-result c = search needs
 
 cast-result : tie.Need-cast-result
 cast-result c =
+    let at-shared-slice-known2 = c .shared-slice-known2 in
     let at-start = c .before .before .before in
-    omega (arith, c .shared-slice-known2 .given ((at-start .args .at) + 2))
+    omega (arith, at-shared-slice-known2 .given ((at-start .args .at) + 2))
 
 mul-result-2 : tie.Need-mul-result-2
 mul-result-2 c =
+    let at-shared-slice-known2 = c .shared-slice-known2 in
     let at-start = c .before .before .before in
-    omega (arith, c .shared-slice-known2 .given ((at-start .args .at) + 2))
+    omega (arith, at-shared-slice-known2 .given ((at-start .args .at) + 2))
 
 add-result-2 : tie.Need-add-result-2
 add-result-2 c =
+    let at-shared-slice-known2 = c .shared-slice-known2 in
     let at-start = c .before .before .before in
-    omega (arith, c .shared-slice-known2 .given ((at-start .args .at) + 2))
+    omega (arith, at-shared-slice-known2 .given ((at-start .args .at) + 2))
 
 returns : tie.Need-returns
 returns c =
@@ -45,8 +48,9 @@ returns c =
 
 returns-2 : tie.Need-returns-2
 returns-2 c =
+    let at-if1 = c .if1 in
     let at-start = c .before .before in
-    sym (law.size-other (at-start .args .ws .now) (at-start .args .at) (c .if1 .left))
+    sym (law.size-other (at-start .args .ws .now) (at-start .args .at) (at-if1 .left))
 
 pub token-size-spec : {M : Type 1} → statement M
 token-size-spec =

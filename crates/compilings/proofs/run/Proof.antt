@@ -51,7 +51,9 @@ loop-less c = search needs
 
 -- src/main.rt:104:5
 loop-again : tie.Need-loop-again Inv-loop μ-loop
-loop-again c = ⊎-elim (λ w. omega arith) (λ w. omega arith) (c .if1 .came)
+loop-again c =
+    let at-if1 = c .if1 in
+    ⊎-elim (λ w. omega arith) (λ w. omega arith) (at-if1 .came)
 
 -- src/main.rt:101:1
 returns : tie.Need-returns Inv-loop μ-loop

@@ -18,11 +18,12 @@ same-length c = search needs
 
 returns : tie.Need-returns
 returns c =
+    let at-enum-told = c .enum-told in
     let at-list-pattern = c .before .before .before .before .list-pattern in
     let at-start = c .before .before .before .before .before .before .before .before in
     let d = at-list-pattern in
     let a = at-start .args in
-    absurd (never-short (a .text .now) (a .out .now) (d .last .1 .0) (d .result) (c .enum-told .given .0 .0) (at-start .pre) (d .ensures) (c .enum-told .given .1))
+    absurd (never-short (a .text .now) (a .out .now) (d .last .1 .0) (d .result) (at-enum-told .given .0 .0) (at-start .pre) (d .ensures) (at-enum-told .given .1))
 
 same-length-2 : tie.Need-same-length-2
 same-length-2 c = search needs

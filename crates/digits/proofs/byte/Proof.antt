@@ -26,10 +26,11 @@ enum-told c = search needs
 
 returns : tie.Need-returns
 returns c =
+    let at-enum-told = c .enum-told in
     let at-hex-digit = c .before .before .hex-digit in
     let at-peek = c .before .before .before .peek in
     let at-start = c .before .before .before .before .before in
-    sym (byte-none (at-start .args .text .now) (at-start .args .at) (ap digit (sym (at-peek .ensures)) ∙ sym (at-hex-digit .ensures) ∙ ap valueOf (c .enum-told .given .1)))
+    sym (byte-none (at-start .args .text .now) (at-start .args .at) (ap digit (sym (at-peek .ensures)) ∙ sym (at-hex-digit .ensures) ∙ ap valueOf (at-enum-told .given .1)))
 
 add-peek : tie.Need-add-peek
 add-peek c =
@@ -53,13 +54,14 @@ enum-told-2 c = search needs
 
 returns-2 : tie.Need-returns-2
 returns-2 c =
+    let at-enum-told2 = c .enum-told2 in
     let at-hex-digit2 = c .before .before .hex-digit2 in
     let at-peek2 = c .before .before .before .peek2 in
     let at-high = c .before .before .before .before .before .high in
     let at-hex-digit = c .before .before .before .before .before .before .before .hex-digit in
     let at-peek = c .before .before .before .before .before .before .before .before .peek in
     let at-start = c .before .before .before .before .before .before .before .before .before .before in
-    sym (byte-half (at-start .args .text .now) (at-start .args .at) (ap digit (sym (at-peek .ensures)) ∙ sym (at-hex-digit .ensures) ∙ ap valueOf (at-high .given .1)) (ap digit (sym (at-peek2 .ensures)) ∙ sym (at-hex-digit2 .ensures) ∙ ap valueOf (c .enum-told2 .given .1)))
+    sym (byte-half (at-start .args .text .now) (at-start .args .at) (ap digit (sym (at-peek .ensures)) ∙ sym (at-hex-digit .ensures) ∙ ap valueOf (at-high .given .1)) (ap digit (sym (at-peek2 .ensures)) ∙ sym (at-hex-digit2 .ensures) ∙ ap valueOf (at-enum-told2 .given .1)))
 
 mul-t6 : tie.Need-mul-t6
 mul-t6 c =
@@ -107,6 +109,7 @@ skip-blanks-requires c κs = search needs
 
 returns-3 : tie.Need-returns-3
 returns-3 c =
+    let at-skip-blanks = c .skip-blanks in
     let at-low = c .before .before .low in
     let at-hex-digit2 = c .before .before .before .before .hex-digit2 in
     let at-peek2 = c .before .before .before .before .before .peek2 in
@@ -114,7 +117,7 @@ returns-3 c =
     let at-hex-digit = c .before .before .before .before .before .before .before .before .before .hex-digit in
     let at-peek = c .before .before .before .before .before .before .before .before .before .before .peek in
     let at-start = c .before .before .before .before .before .before .before .before .before .before .before .before in
-    ap (λ (e : ℕ). found (whole (16 * (at-high .given .0 .0) + at-low .given .0 .0)) ((at-start .args .at) + 2) e) (c .skip-blanks .ensures)
+    ap (λ (e : ℕ). found (whole (16 * (at-high .given .0 .0) + at-low .given .0 .0)) ((at-start .args .at) + 2) e) (at-skip-blanks .ensures)
     ∙ sym (byte-both (at-start .args .text .now) (at-start .args .at) (ap digit (sym (at-peek .ensures)) ∙ sym (at-hex-digit .ensures) ∙ ap valueOf (at-high .given .1))
     (ap digit (sym (at-peek2 .ensures)) ∙ sym (at-hex-digit2 .ensures) ∙ ap valueOf (at-low .given .1)))
 

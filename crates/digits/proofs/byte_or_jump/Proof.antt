@@ -41,10 +41,11 @@ returns-2 c =
 returns-3 : tie.Need-returns-3
 unfolding plainly _else_
 returns-3 c =
+    let at-jump = c .jump in
     let at-enum-told = c .before .enum-told in
     let at-hex-byte = c .before .before .before .hex-byte in
     let at-start = c .before .before .before .before .before in
-    c .jump .ensures ∙ sym (byte-else (at-start .args .text .now) (at-start .args .at) (sym (at-hex-byte .ensures) ∙ ap spelled (at-enum-told .given .1)) (jumped (at-start .args .inside) (at-start .args .at) (rangeAt (at-start .args .text .now) (at-start .args .at))))
+    at-jump .ensures ∙ sym (byte-else (at-start .args .text .now) (at-start .args .at) (sym (at-hex-byte .ensures) ∙ ap spelled (at-enum-told .given .1)) (jumped (at-start .args .inside) (at-start .args .at) (rangeAt (at-start .args .text .now) (at-start .args .at))))
 
 pub byte-or-jump-spec : {M : Type 1} → statement M
 byte-or-jump-spec =

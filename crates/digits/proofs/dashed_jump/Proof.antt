@@ -15,15 +15,17 @@ peek-requires c κs = search needs
 
 returns : tie.Need-returns
 returns c =
+    let at-if1 = c .if1 in
     let at-peek = c .before .peek in
     let at-start = c .before .before .before in
-    sym (dash-else (at-start .args .text .now) (at-start .args .at) (at-start .args .from) (at-start .args .x) (λ z. c .if1 .taken (at-peek .ensures ∙ z)))
+    sym (dash-else (at-start .args .text .now) (at-start .args .at) (at-start .args .from) (at-start .args .x) (λ z. at-if1 .taken (at-peek .ensures ∙ z)))
 
 add-skip-blanks : tie.Need-add-skip-blanks
 add-skip-blanks c =
+    let at-if1 = c .if1 in
     let at-peek = c .before .peek in
     let at-start = c .before .before .before in
-    omega (arith, here-at (at-start .args .text .now) (at-start .args .x) 45 (sym (at-peek .ensures) ∙ c .if1 .left) (omega arith))
+    omega (arith, here-at (at-start .args .text .now) (at-start .args .x) 45 (sym (at-peek .ensures) ∙ at-if1 .left) (omega arith))
 
 skip-blanks-requires : tie.Need-skip-blanks-requires
 skip-blanks-requires c κs = search needs
@@ -49,34 +51,37 @@ enum-told-2 c = search needs
 returns-2 : tie.Need-returns-2
 unfolding upperAt
 returns-2 c =
+    let at-closed-jump = c .closed-jump in
     let at-to = c .before .before .to in
     let at-number = c .before .before .before .before .number in
     let at-skip-blanks = c .before .before .before .before .before .skip-blanks in
     let at-if1 = c .before .before .before .before .before .before .if1 in
     let at-peek = c .before .before .before .before .before .before .before .peek in
     let at-start = c .before .before .before .before .before .before .before .before .before in
-    c .closed-jump .ensures ∙ sym (dash-at (at-start .args .text .now) (at-start .args .at) (at-start .args .from) (at-start .args .x) (at-skip-blanks .result) (sym (at-peek .ensures) ∙ at-if1 .left) (at-skip-blanks .ensures) (sym (at-number .ensures) ∙ ap (numbered (at-skip-blanks .result)) (at-to .given .1)))
+    at-closed-jump .ensures ∙ sym (dash-at (at-start .args .text .now) (at-start .args .at) (at-start .args .from) (at-start .args .x) (at-skip-blanks .result) (sym (at-peek .ensures) ∙ at-if1 .left) (at-skip-blanks .ensures) (sym (at-number .ensures) ∙ ap (numbered (at-skip-blanks .result)) (at-to .given .1)))
 
 returns-3 : tie.Need-returns-3
 unfolding upperAt
 returns-3 c =
+    let at-closed-jump2 = c .closed-jump2 in
     let at-enum-told = c .before .enum-told in
     let at-number = c .before .before .before .number in
     let at-skip-blanks = c .before .before .before .before .skip-blanks in
     let at-if1 = c .before .before .before .before .before .if1 in
     let at-peek = c .before .before .before .before .before .before .peek in
     let at-start = c .before .before .before .before .before .before .before .before in
-    c .closed-jump2 .ensures ∙ sym (dash-at (at-start .args .text .now) (at-start .args .at) (at-start .args .from) (at-start .args .x) (at-skip-blanks .result) (sym (at-peek .ensures) ∙ at-if1 .left) (at-skip-blanks .ensures) (sym (at-number .ensures) ∙ ap (numbered (at-skip-blanks .result)) (at-enum-told .given .1)))
+    at-closed-jump2 .ensures ∙ sym (dash-at (at-start .args .text .now) (at-start .args .at) (at-start .args .from) (at-start .args .x) (at-skip-blanks .result) (sym (at-peek .ensures) ∙ at-if1 .left) (at-skip-blanks .ensures) (sym (at-number .ensures) ∙ ap (numbered (at-skip-blanks .result)) (at-enum-told .given .1)))
 
 returns-4 : tie.Need-returns-4
 unfolding upperAt
 returns-4 c =
+    let at-enum-told2 = c .enum-told2 in
     let at-number = c .before .before .number in
     let at-skip-blanks = c .before .before .before .skip-blanks in
     let at-if1 = c .before .before .before .before .if1 in
     let at-peek = c .before .before .before .before .before .peek in
     let at-start = c .before .before .before .before .before .before .before in
-    sym (dash-at (at-start .args .text .now) (at-start .args .at) (at-start .args .from) (at-start .args .x) (at-skip-blanks .result) (sym (at-peek .ensures) ∙ at-if1 .left) (at-skip-blanks .ensures) (sym (at-number .ensures) ∙ ap (numbered (at-skip-blanks .result)) (c .enum-told2 .given .1)))
+    sym (dash-at (at-start .args .text .now) (at-start .args .at) (at-start .args .from) (at-start .args .x) (at-skip-blanks .result) (sym (at-peek .ensures) ∙ at-if1 .left) (at-skip-blanks .ensures) (sym (at-number .ensures) ∙ ap (numbered (at-skip-blanks .result)) (at-enum-told2 .given .1)))
 
 pub dashed-jump-spec : {M : Type 1} → statement M
 dashed-jump-spec =

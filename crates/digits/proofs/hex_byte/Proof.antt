@@ -23,10 +23,11 @@ enum-known-b-2 c = search needs
 
 returns : tie.Need-returns
 returns c =
+    let at-masked-byte = c .masked-byte in
     let at-enum-told = c .before .enum-told in
     let at-byte = c .before .before .before .byte in
     let at-start = c .before .before .before .before .before in
-    c .masked-byte .ensures ∙ sym (hex-masked (at-start .args .text .now) (at-start .args .at) (sym (at-byte .ensures) ∙ ap spelled (at-enum-told .given .1)))
+    at-masked-byte .ensures ∙ sym (hex-masked (at-start .args .text .now) (at-start .args .at) (sym (at-byte .ensures) ∙ ap spelled (at-enum-told .given .1)))
 
 returns-2 : tie.Need-returns-2
 returns-2 c =

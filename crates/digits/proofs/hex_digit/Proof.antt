@@ -13,61 +13,68 @@ in-range-requires c κs = search needs
 
 sub-t3 : tie.Need-sub-t3
 sub-t3 c =
+    let at-if1 = c .if1 in
     let at-in-range = c .before .in-range in
     let at-start = c .before .before in
-    omega (arith, within-true 48 57 (at-start .args .c) (sym (at-in-range .ensures) ∙ c .if1 .taken))
+    omega (arith, within-true 48 57 (at-start .args .c) (sym (at-in-range .ensures) ∙ at-if1 .taken))
 
 returns : tie.Need-returns
 unfolding digit
 returns c =
+    let at-if1 = c .if1 in
     let at-in-range = c .before .in-range in
-    sym (rw (sym (at-in-range .ensures) ∙ c .if1 .taken))
+    sym (rw (sym (at-in-range .ensures) ∙ at-if1 .taken))
 
 in-range-requires-2 : tie.Need-in-range-requires-2
 in-range-requires-2 c κs = search needs
 
 sub-t5 : tie.Need-sub-t5
 sub-t5 c =
+    let at-if2 = c .if2 in
     let at-in-range2 = c .before .in-range2 in
     let at-start = c .before .before .before .before in
-    omega (arith, within-true 65 70 (at-start .args .c) (sym (at-in-range2 .ensures) ∙ c .if2 .taken))
+    omega (arith, within-true 65 70 (at-start .args .c) (sym (at-in-range2 .ensures) ∙ at-if2 .taken))
 
 returns-2 : tie.Need-returns-2
 unfolding digit
 returns-2 c =
+    let at-if2 = c .if2 in
     let at-in-range2 = c .before .in-range2 in
     let at-if1 = c .before .before .if1 in
     let at-in-range = c .before .before .before .in-range in
-    sym (rw ((sym (at-in-range .ensures) ∙ at-if1 .left), (sym (at-in-range2 .ensures) ∙ c .if2 .taken)))
+    sym (rw ((sym (at-in-range .ensures) ∙ at-if1 .left), (sym (at-in-range2 .ensures) ∙ at-if2 .taken)))
 
 in-range-requires-3 : tie.Need-in-range-requires-3
 in-range-requires-3 c κs = search needs
 
 sub-t7 : tie.Need-sub-t7
 sub-t7 c =
+    let at-if3 = c .if3 in
     let at-in-range3 = c .before .in-range3 in
     let at-start = c .before .before .before .before .before .before in
-    omega (arith, within-true 97 102 (at-start .args .c) (sym (at-in-range3 .ensures) ∙ c .if3 .taken))
+    omega (arith, within-true 97 102 (at-start .args .c) (sym (at-in-range3 .ensures) ∙ at-if3 .taken))
 
 returns-3 : tie.Need-returns-3
 unfolding digit
 returns-3 c =
+    let at-if3 = c .if3 in
     let at-in-range3 = c .before .in-range3 in
     let at-if2 = c .before .before .if2 in
     let at-in-range2 = c .before .before .before .in-range2 in
     let at-if1 = c .before .before .before .before .if1 in
     let at-in-range = c .before .before .before .before .before .in-range in
-    sym (rw ((sym (at-in-range .ensures) ∙ at-if1 .left), (sym (at-in-range2 .ensures) ∙ at-if2 .left), (sym (at-in-range3 .ensures) ∙ c .if3 .taken)))
+    sym (rw ((sym (at-in-range .ensures) ∙ at-if1 .left), (sym (at-in-range2 .ensures) ∙ at-if2 .left), (sym (at-in-range3 .ensures) ∙ at-if3 .taken)))
 
 returns-4 : tie.Need-returns-4
 unfolding digit
 returns-4 c =
+    let at-if3 = c .if3 in
     let at-in-range3 = c .before .in-range3 in
     let at-if2 = c .before .before .if2 in
     let at-in-range2 = c .before .before .before .in-range2 in
     let at-if1 = c .before .before .before .before .if1 in
     let at-in-range = c .before .before .before .before .before .in-range in
-    sym (rw ((sym (at-in-range .ensures) ∙ at-if1 .left), (sym (at-in-range2 .ensures) ∙ at-if2 .left), (sym (at-in-range3 .ensures) ∙ c .if3 .left)))
+    sym (rw ((sym (at-in-range .ensures) ∙ at-if1 .left), (sym (at-in-range2 .ensures) ∙ at-if2 .left), (sym (at-in-range3 .ensures) ∙ at-if3 .left)))
 
 pub hex-digit-spec : {M : Type 1} → statement M
 hex-digit-spec =

@@ -5,7 +5,9 @@ use Rattle.digits.proofs.inside_too_big.Statement.{statement}
 use Rattle.digits.proofs.inside_too_big.Tie as tie
 
 returns : tie.Need-returns
-returns c = rw (c .if1 .taken)
+returns c =
+    let at-if1 = c .if1 in
+    rw (at-if1 .taken)
 
 returns-2 : tie.Need-returns-2
 returns-2 c = search needs

@@ -24,6 +24,7 @@ enum-told c = search needs
 
 returns : tie.Need-returns
 returns c =
+    let at-if1 = c .if1 in
     let at-enum-told = c .before .enum-told in
     let at-b = c .before .before .before .before .b in
     let at-range = c .before .before .before .before .before .before .range in
@@ -31,10 +32,11 @@ returns c =
     sym (ap (jumped (at-start .args .inside) (at-start .args .at))
     (sym (at-range .ensures) ∙ ap ranged (at-b .given .1)
     ∙ ap (λ (u : Upper). found (between (at-b .given .0 .0) (upperOf u)) (at-b .given .0 .1 .1 .0) (at-b .given .0 .1 .1 .1 .0)) (at-enum-told .given .1))
-    ∙ jumped-unbounded (at-start .args .at) (at-b .given .0 .0) (at-b .given .0 .1 .1 .0) (at-b .given .0 .1 .1 .1 .0) (at-start .args .inside) (c .if1 .taken))
+    ∙ jumped-unbounded (at-start .args .at) (at-b .given .0 .0) (at-b .given .0 .1 .1 .0) (at-b .given .0 .1 .1 .1 .0) (at-start .args .inside) (at-if1 .taken))
 
 returns-2 : tie.Need-returns-2
 returns-2 c =
+    let at-if1 = c .if1 in
     let at-enum-told = c .before .enum-told in
     let at-b = c .before .before .before .before .b in
     let at-range = c .before .before .before .before .before .before .range in
@@ -42,13 +44,14 @@ returns-2 c =
     sym (ap (jumped (at-start .args .inside) (at-start .args .at))
     (sym (at-range .ensures) ∙ ap ranged (at-b .given .1)
     ∙ ap (λ (u : Upper). found (between (at-b .given .0 .0) (upperOf u)) (at-b .given .0 .1 .1 .0) (at-b .given .0 .1 .1 .1 .0)) (at-enum-told .given .1))
-    ∙ jumped-open (at-start .args .at) (at-b .given .0 .0) (at-b .given .0 .1 .1 .0) (at-b .given .0 .1 .1 .1 .0) (at-start .args .inside) (c .if1 .left))
+    ∙ jumped-open (at-start .args .at) (at-b .given .0 .0) (at-b .given .0 .1 .1 .0) (at-b .given .0 .1 .1 .1 .0) (at-start .args .inside) (at-if1 .left))
 
 inside-too-big-requires : tie.Need-inside-too-big-requires
 inside-too-big-requires c κs = search needs
 
 returns-3 : tie.Need-returns-3
 returns-3 c =
+    let at-if2 = c .if2 in
     let at-inside-too-big = c .before .inside-too-big in
     let at-to = c .before .before .before .to in
     let at-b = c .before .before .before .before .before .before .b in
@@ -58,7 +61,7 @@ returns-3 c =
     (sym (at-range .ensures) ∙ ap ranged (at-b .given .1)
     ∙ ap (λ (u : Upper). found (between (at-b .given .0 .0) (upperOf u)) (at-b .given .0 .1 .1 .0) (at-b .given .0 .1 .1 .1 .0)) (at-to .given .1))
     ∙ jumped-big (at-start .args .at) (at-b .given .0 .0) (at-b .given .0 .1 .1 .0) (at-b .given .0 .1 .1 .1 .0) (at-start .args .inside) (at-to .given .0 .0)
-    (sym (at-inside-too-big .ensures) ∙ c .if2 .taken))
+    (sym (at-inside-too-big .ensures) ∙ at-if2 .taken))
 
 one-jump-requires : tie.Need-one-jump-requires
 one-jump-requires c κs = search needs
@@ -71,13 +74,14 @@ enum-known-b-2 c = search needs
 
 returns-4 : tie.Need-returns-4
 returns-4 c =
+    let at-one-jump = c .one-jump in
     let at-if2 = c .before .if2 in
     let at-inside-too-big = c .before .before .inside-too-big in
     let at-to = c .before .before .before .before .to in
     let at-b = c .before .before .before .before .before .before .before .b in
     let at-range = c .before .before .before .before .before .before .before .before .before .range in
     let at-start = c .before .before .before .before .before .before .before .before .before .before .before in
-    ap (λ (k : Token). found k (at-b .given .0 .1 .1 .0) (at-b .given .0 .1 .1 .1 .0)) (c .one-jump .ensures)
+    ap (λ (k : Token). found k (at-b .given .0 .1 .1 .0) (at-b .given .0 .1 .1 .1 .0)) (at-one-jump .ensures)
     ∙ sym (ap (jumped (at-start .args .inside) (at-start .args .at))
     (sym (at-range .ensures) ∙ ap ranged (at-b .given .1)
     ∙ ap (λ (u : Upper). found (between (at-b .given .0 .0) (upperOf u)) (at-b .given .0 .1 .1 .0) (at-b .given .0 .1 .1 .1 .0)) (at-to .given .1))
@@ -87,9 +91,10 @@ returns-4 c =
 returns-5 : tie.Need-returns-5
 unfolding jumped
 returns-5 c =
+    let at-enum-told2 = c .enum-told2 in
     let at-range = c .before .before .range in
     let at-start = c .before .before .before .before in
-    sym (ap (jumped (at-start .args .inside) (at-start .args .at)) (sym (at-range .ensures) ∙ ap ranged (c .enum-told2 .given .1)))
+    sym (ap (jumped (at-start .args .inside) (at-start .args .at)) (sym (at-range .ensures) ∙ ap ranged (at-enum-told2 .given .1)))
 
 returns-6 : tie.Need-returns-6
 unfolding jumped

@@ -17,15 +17,17 @@ peek-requires c κs = search needs
 
 returns : tie.Need-returns
 returns c =
+    let at-if1 = c .if1 in
     let at-peek = c .before .peek in
     let at-start = c .before .before .before in
-    sym (not-else (at-start .args .text .now) (at-start .args .at) (λ z. c .if1 .taken (at-peek .ensures ∙ z)))
+    sym (not-else (at-start .args .text .now) (at-start .args .at) (λ z. at-if1 .taken (at-peek .ensures ∙ z)))
 
 add-hex-byte : tie.Need-add-hex-byte
 add-hex-byte c =
+    let at-if1 = c .if1 in
     let at-peek = c .before .peek in
     let at-start = c .before .before .before in
-    omega (arith, here-at (at-start .args .text .now) (at-start .args .at) 126 (sym (at-peek .ensures) ∙ c .if1 .left) (omega arith))
+    omega (arith, here-at (at-start .args .text .now) (at-start .args .at) 126 (sym (at-peek .ensures) ∙ at-if1 .left) (omega arith))
 
 hex-byte-requires : tie.Need-hex-byte-requires
 hex-byte-requires c κs = search needs
@@ -68,41 +70,45 @@ returns-2 c =
 returns-3 : tie.Need-returns-3
 unfolding negated
 returns-3 c =
+    let at-enum-told = c .enum-told in
     let at-h2 = c .before .before .before .h2 in
     let at-hex-byte = c .before .before .before .before .before .hex-byte in
     let at-if1 = c .before .before .before .before .before .before .if1 in
     let at-peek = c .before .before .before .before .before .before .before .peek in
     let at-start = c .before .before .before .before .before .before .before .before .before in
-    sym (not-hex (at-start .args .text .now) (at-start .args .at) (sym (at-peek .ensures) ∙ at-if1 .left) (sym (at-hex-byte .ensures) ∙ ap spelled (at-h2 .given .1 ∙ ap (λ (m : Mask). spelling.Masked (at-h2 .given .0 .0) m (at-h2 .given .0 .1 .1 .0) (at-h2 .given .0 .1 .1 .1 .0)) (c .enum-told .given .1))))
+    sym (not-hex (at-start .args .text .now) (at-start .args .at) (sym (at-peek .ensures) ∙ at-if1 .left) (sym (at-hex-byte .ensures) ∙ ap spelled (at-h2 .given .1 ∙ ap (λ (m : Mask). spelling.Masked (at-h2 .given .0 .0) m (at-h2 .given .0 .1 .1 .0) (at-h2 .given .0 .1 .1 .1 .0)) (at-enum-told .given .1))))
 
 returns-4 : tie.Need-returns-4
 unfolding negated
 returns-4 c =
+    let at-enum-told2 = c .enum-told2 in
     let at-h2 = c .before .before .before .h2 in
     let at-hex-byte = c .before .before .before .before .before .hex-byte in
     let at-if1 = c .before .before .before .before .before .before .if1 in
     let at-peek = c .before .before .before .before .before .before .before .peek in
     let at-start = c .before .before .before .before .before .before .before .before .before in
-    sym (not-hex (at-start .args .text .now) (at-start .args .at) (sym (at-peek .ensures) ∙ at-if1 .left) (sym (at-hex-byte .ensures) ∙ ap spelled (at-h2 .given .1 ∙ ap (λ (m : Mask). spelling.Masked (at-h2 .given .0 .0) m (at-h2 .given .0 .1 .1 .0) (at-h2 .given .0 .1 .1 .1 .0)) (c .enum-told2 .given .1))))
+    sym (not-hex (at-start .args .text .now) (at-start .args .at) (sym (at-peek .ensures) ∙ at-if1 .left) (sym (at-hex-byte .ensures) ∙ ap spelled (at-h2 .given .1 ∙ ap (λ (m : Mask). spelling.Masked (at-h2 .given .0 .0) m (at-h2 .given .0 .1 .1 .0) (at-h2 .given .0 .1 .1 .1 .0)) (at-enum-told2 .given .1))))
 
 returns-5 : tie.Need-returns-5
 unfolding negated
 returns-5 c =
+    let at-enum-told3 = c .enum-told3 in
     let at-h2 = c .before .before .before .h2 in
     let at-hex-byte = c .before .before .before .before .before .hex-byte in
     let at-if1 = c .before .before .before .before .before .before .if1 in
     let at-peek = c .before .before .before .before .before .before .before .peek in
     let at-start = c .before .before .before .before .before .before .before .before .before in
-    sym (not-hex (at-start .args .text .now) (at-start .args .at) (sym (at-peek .ensures) ∙ at-if1 .left) (sym (at-hex-byte .ensures) ∙ ap spelled (at-h2 .given .1 ∙ ap (λ (m : Mask). spelling.Masked (at-h2 .given .0 .0) m (at-h2 .given .0 .1 .1 .0) (at-h2 .given .0 .1 .1 .1 .0)) (c .enum-told3 .given .1))))
+    sym (not-hex (at-start .args .text .now) (at-start .args .at) (sym (at-peek .ensures) ∙ at-if1 .left) (sym (at-hex-byte .ensures) ∙ ap spelled (at-h2 .given .1 ∙ ap (λ (m : Mask). spelling.Masked (at-h2 .given .0 .0) m (at-h2 .given .0 .1 .1 .0) (at-h2 .given .0 .1 .1 .1 .0)) (at-enum-told3 .given .1))))
 
 returns-6 : tie.Need-returns-6
 unfolding negated
 returns-6 c =
+    let at-enum-told4 = c .enum-told4 in
     let at-hex-byte = c .before .before .hex-byte in
     let at-if1 = c .before .before .before .if1 in
     let at-peek = c .before .before .before .before .peek in
     let at-start = c .before .before .before .before .before .before in
-    sym (not-hex (at-start .args .text .now) (at-start .args .at) (sym (at-peek .ensures) ∙ at-if1 .left) (sym (at-hex-byte .ensures) ∙ ap spelled (c .enum-told4 .given .1)))
+    sym (not-hex (at-start .args .text .now) (at-start .args .at) (sym (at-peek .ensures) ∙ at-if1 .left) (sym (at-hex-byte .ensures) ∙ ap spelled (at-enum-told4 .given .1)))
 
 pub not-token-spec : {M : Type 1} → statement M
 not-token-spec =

@@ -26,10 +26,11 @@ in-range-requires c κs = search needs
 
 returns : tie.Need-returns Inv-loop μ-loop
 returns c =
+    let at-if1 = c .if1 in
     let at-in-range = c .before .in-range in
     let at-peek = c .before .before .peek in
     let at-start = c .before .before .before .before in
-    sym (number-absent (at-start .args .text .now) (at-start .args .at) (ap (within 48 57) (sym (at-peek .ensures)) ∙ sym (at-in-range .ensures) ∙ not-true (at-in-range .result) (c .if1 .taken)))
+    sym (number-absent (at-start .args .text .now) (at-start .args .at) (ap (within 48 57) (sym (at-peek .ensures)) ∙ sym (at-in-range .ensures) ∙ not-true (at-in-range .result) (at-if1 .taken)))
 
 loop-holds : tie.Need-loop-holds Inv-loop μ-loop
 loop-holds c = (refl, refl, omega arith)
@@ -50,6 +51,7 @@ skip-blanks-requires c κs = search needs
 
 returns-2 : tie.Need-returns-2 Inv-loop μ-loop
 returns-2 c =
+    let at-skip-blanks = c .skip-blanks in
     let at-if2 = c .before .if2 in
     let at-in-range2 = c .before .before .in-range2 in
     let at-peek2 = c .before .before .before .peek2 in
@@ -62,7 +64,7 @@ returns-2 c =
     (ap (within 48 57) (sym (at-peek2 .ensures)) ∙ sym (at-in-range2 .ensures) ∙ not-true (at-in-range2 .result) (at-if2 .taken)) in
     let w = at-loop .inv .1 in
     let q : (at-start .args .at) + decimals (drop (at-start .args .at) (at-start .args .text .now)) ≡ (at-loop .i) = omega arith in ap (λ (e : ℕ). found (at-loop .value) (at-loop .i) e)
-    (c .skip-blanks .ensures)
+    (at-skip-blanks .ensures)
     ∙ sym (number-found (at-start .args .text .now) (at-start .args .at) (ap (within 48 57) (sym (at-peek .ensures)) ∙ sym (at-in-range .ensures) ∙ not-false (at-in-range .result) (at-if1 .left))
     (at-loop .inv .0 ∙ z .1) q (at-loop .inv .2))
 
@@ -73,26 +75,29 @@ mul-value c =
 
 sub-wide : tie.Need-sub-wide Inv-loop μ-loop
 sub-wide c =
+    let at-if2 = c .if2 in
     let at-in-range2 = c .before .in-range2 in
     let at-peek2 = c .before .before .peek2 in
     let at-loop = c .before .before .before .loop in
     let at-start = c .before .before .before .before .before .before .before .before in
-    let p = at-peek2 .ensures in let d = within-true 48 57 (getD (at-start .args .text .now) (at-loop .i) 0) (ap (within 48 57) (sym (at-peek2 .ensures)) ∙ sym (at-in-range2 .ensures) ∙ not-false (at-in-range2 .result) (c .if2 .left)) in let l = at-loop .inv .2 in omega arith
+    let p = at-peek2 .ensures in let d = within-true 48 57 (getD (at-start .args .text .now) (at-loop .i) 0) (ap (within 48 57) (sym (at-peek2 .ensures)) ∙ sym (at-in-range2 .ensures) ∙ not-false (at-in-range2 .result) (at-if2 .left)) in let l = at-loop .inv .2 in omega arith
 
 wide-requires : tie.Need-wide-requires Inv-loop μ-loop
 wide-requires c κs = search needs
 
 add-value : tie.Need-add-value Inv-loop μ-loop
 add-value c =
+    let at-wide = c .wide in
     let at-if2 = c .before .if2 in
     let at-in-range2 = c .before .before .in-range2 in
     let at-peek2 = c .before .before .before .peek2 in
     let at-loop = c .before .before .before .before .loop in
     let at-start = c .before .before .before .before .before .before .before .before .before in
-    let p = at-peek2 .ensures in let d = within-true 48 57 (getD (at-start .args .text .now) (at-loop .i) 0) (ap (within 48 57) (sym (at-peek2 .ensures)) ∙ sym (at-in-range2 .ensures) ∙ not-false (at-in-range2 .result) (at-if2 .left)) in let l = at-loop .inv .2 in let w = c .wide .ensures in omega arith
+    let p = at-peek2 .ensures in let d = within-true 48 57 (getD (at-start .args .text .now) (at-loop .i) 0) (ap (within 48 57) (sym (at-peek2 .ensures)) ∙ sym (at-in-range2 .ensures) ∙ not-false (at-in-range2 .result) (at-if2 .left)) in let l = at-loop .inv .2 in let w = at-wide .ensures in omega arith
 
 returns-3 : tie.Need-returns-3 Inv-loop μ-loop
 returns-3 c =
+    let at-if3 = c .if3 in
     let at-wide = c .before .wide in
     let at-if2 = c .before .before .if2 in
     let at-in-range2 = c .before .before .before .in-range2 in
@@ -111,7 +116,7 @@ returns-3 c =
     (ap (within 48 57) (sym (at-peek2 .ensures)) ∙ sym (at-in-range2 .ensures) ∙ not-false (at-in-range2 .result) (at-if2 .left)) in
     let m = numeral-from (10 * (at-loop .value) + (getD (at-start .args .text .now) (at-loop .i) 0 - 48)) (drop ((at-loop .i) + 1) (at-start .args .text .now)) in
     let k = at-loop .inv .0 in
-    let h = c .if3 .taken in
+    let h = at-if3 .taken in
     let b : 4294967295 < numeral 0 (drop (at-start .args .at) (at-start .args .text .now)) = omega arith in sym
     (number-big (at-start .args .text .now) (at-start .args .at) (ap (within 48 57) (sym (at-peek .ensures)) ∙ sym (at-in-range .ensures) ∙ not-false (at-in-range .result) (at-if1 .left)) b)
 
@@ -135,6 +140,7 @@ loop-less c =
 
 loop-again : tie.Need-loop-again Inv-loop μ-loop
 loop-again c =
+    let at-if3 = c .if3 in
     let at-wide = c .before .wide in
     let at-if2 = c .before .before .if2 in
     let at-in-range2 = c .before .before .before .in-range2 in
@@ -150,7 +156,7 @@ loop-again c =
     (ap (within 48 57) (sym (at-peek2 .ensures)) ∙ sym (at-in-range2 .ensures) ∙ not-false (at-in-range2 .result) (at-if2 .left)) in
     let k = at-loop .inv .1 in
     let q : 10 * (at-loop .value) + (getD (at-start .args .text .now) (at-loop .i) 0 - 48) ≡ 10 * (at-loop .value) + at-wide .result = omega arith in
-    (at-loop .inv .0 ∙ n .1 ∙ ap (λ (m : ℕ). numeral m (drop ((at-loop .i) + 1) (at-start .args .text .now))) q, omega arith, c .if3 .left)
+    (at-loop .inv .0 ∙ n .1 ∙ ap (λ (m : ℕ). numeral m (drop ((at-loop .i) + 1) (at-start .args .text .now))) q, omega arith, at-if3 .left)
 
 pub number-spec : {M : Type 1} → statement M
 number-spec =

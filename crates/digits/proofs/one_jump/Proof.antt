@@ -12,14 +12,16 @@ both-are-requires c κs = search needs
 returns : tie.Need-returns
 unfolding jumpToken
 returns c =
+    let at-if1 = c .if1 in
     let at-both-are = c .before .both-are in
-    sym (rw (sym (at-both-are .ensures) ∙ c .if1 .taken))
+    sym (rw (sym (at-both-are .ensures) ∙ at-if1 .taken))
 
 returns-2 : tie.Need-returns-2
 unfolding jumpToken
 returns-2 c =
+    let at-if1 = c .if1 in
     let at-both-are = c .before .both-are in
-    sym (rw (sym (at-both-are .ensures) ∙ c .if1 .left))
+    sym (rw (sym (at-both-are .ensures) ∙ at-if1 .left))
 
 pub one-jump-spec : {M : Type 1} → statement M
 one-jump-spec = tie.close (tie.spec both-are-requires returns returns-2)

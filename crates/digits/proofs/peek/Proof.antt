@@ -14,8 +14,9 @@ returns c = search needs
 
 returns-2 : tie.Need-returns-2
 returns-2 c =
+    let at-if1 = c .if1 in
     let at-start = c .before in
-    sym (List·getD-eq-default (at-start .args .text .now) 0 (c .if1 .left))
+    sym (List·getD-eq-default (at-start .args .text .now) 0 (at-if1 .left))
 
 pub peek-spec : {M : Type 1} → statement M
 peek-spec = tie.close (tie.spec shared-slice-read-result returns returns-2)

@@ -33,10 +33,11 @@ returns c =
 returns-2 : tie.Need-returns-2
 unfolding _else_
 returns-2 c =
+    let at-byte-or-jump = c .byte-or-jump in
     let at-enum-told = c .before .enum-told in
     let at-not-token = c .before .before .before .not-token in
     let at-start = c .before .before .before .before .before in
-    c .byte-or-jump .ensures ∙ sym (plain-not (at-start .args .text .now) (at-start .args .at) (at-start .args .inside) (sym (at-not-token .ensures) ∙ ap pieceOf (at-enum-told .given .1)))
+    at-byte-or-jump .ensures ∙ sym (plain-not (at-start .args .text .now) (at-start .args .at) (at-start .args .inside) (sym (at-not-token .ensures) ∙ ap pieceOf (at-enum-told .given .1)))
 
 returns-3 : tie.Need-returns-3
 unfolding _else_

@@ -15,15 +15,17 @@ peek-requires c κs = search needs
 
 returns : tie.Need-returns
 returns c =
+    let at-if1 = c .if1 in
     let at-peek = c .before .peek in
     let at-start = c .before .before .before in
-    sym (range-else (at-start .args .text .now) (at-start .args .at) (λ z. c .if1 .taken (at-peek .ensures ∙ z)))
+    sym (range-else (at-start .args .text .now) (at-start .args .at) (λ z. at-if1 .taken (at-peek .ensures ∙ z)))
 
 add-skip-blanks : tie.Need-add-skip-blanks
 add-skip-blanks c =
+    let at-if1 = c .if1 in
     let at-peek = c .before .peek in
     let at-start = c .before .before .before in
-    omega (arith, here-at (at-start .args .text .now) (at-start .args .at) 91 (sym (at-peek .ensures) ∙ c .if1 .left) (omega arith))
+    omega (arith, here-at (at-start .args .text .now) (at-start .args .at) 91 (sym (at-peek .ensures) ∙ at-if1 .left) (omega arith))
 
 skip-blanks-requires : tie.Need-skip-blanks-requires
 skip-blanks-requires c κs = search needs
@@ -39,16 +41,18 @@ peek-requires-2 c κs = search needs
 
 add-checked-jump : tie.Need-add-checked-jump
 add-checked-jump c =
+    let at-if2 = c .if2 in
     let at-peek2 = c .before .peek2 in
     let at-from = c .before .before .before .from in
     let at-start = c .before .before .before .before .before .before .before .before .before .before in
-    omega (arith, here-at (at-start .args .text .now) (at-from .given .0 .1 .1 .0) 93 (sym (at-peek2 .ensures) ∙ c .if2 .taken) (omega arith))
+    omega (arith, here-at (at-start .args .text .now) (at-from .given .0 .1 .1 .0) 93 (sym (at-peek2 .ensures) ∙ at-if2 .taken) (omega arith))
 
 checked-jump-requires : tie.Need-checked-jump-requires
 checked-jump-requires c κs = search needs
 
 returns-2 : tie.Need-returns-2
 returns-2 c =
+    let at-checked-jump = c .checked-jump in
     let at-if2 = c .before .if2 in
     let at-peek2 = c .before .before .peek2 in
     let at-from = c .before .before .before .before .from in
@@ -57,7 +61,7 @@ returns-2 c =
     let at-if1 = c .before .before .before .before .before .before .before .before .if1 in
     let at-peek = c .before .before .before .before .before .before .before .before .before .peek in
     let at-start = c .before .before .before .before .before .before .before .before .before .before .before in
-    c .checked-jump .ensures
+    at-checked-jump .ensures
     ∙ sym (range-at (at-start .args .text .now) (at-start .args .at) (at-skip-blanks .result) (sym (at-peek .ensures) ∙ at-if1 .left) (at-skip-blanks .ensures)
     (sym (at-number .ensures) ∙ ap (numbered (at-skip-blanks .result)) (at-from .given .1))
     ∙ lower-closed (at-start .args .text .now) (at-start .args .at) (at-skip-blanks .result) (at-from .given .0 .0) (at-from .given .0 .1 .0) (at-from .given .0 .1 .1 .0)
@@ -77,6 +81,7 @@ enum-told-2 c = search needs
 
 returns-3 : tie.Need-returns-3
 returns-3 c =
+    let at-dashed-jump = c .dashed-jump in
     let at-if2 = c .before .if2 in
     let at-peek2 = c .before .before .peek2 in
     let at-from = c .before .before .before .before .from in
@@ -85,7 +90,7 @@ returns-3 c =
     let at-if1 = c .before .before .before .before .before .before .before .before .if1 in
     let at-peek = c .before .before .before .before .before .before .before .before .before .peek in
     let at-start = c .before .before .before .before .before .before .before .before .before .before .before in
-    c .dashed-jump .ensures
+    at-dashed-jump .ensures
     ∙ sym (range-at (at-start .args .text .now) (at-start .args .at) (at-skip-blanks .result) (sym (at-peek .ensures) ∙ at-if1 .left) (at-skip-blanks .ensures)
     (sym (at-number .ensures) ∙ ap (numbered (at-skip-blanks .result)) (at-from .given .1))
     ∙ lower-dash (at-start .args .text .now) (at-start .args .at) (at-skip-blanks .result) (at-from .given .0 .0) (at-from .given .0 .1 .0) (at-from .given .0 .1 .1 .0)
@@ -94,23 +99,25 @@ returns-3 c =
 returns-4 : tie.Need-returns-4
 unfolding lowerAt
 returns-4 c =
+    let at-dashed-jump2 = c .dashed-jump2 in
     let at-enum-told = c .before .enum-told in
     let at-number = c .before .before .before .number in
     let at-skip-blanks = c .before .before .before .before .skip-blanks in
     let at-if1 = c .before .before .before .before .before .if1 in
     let at-peek = c .before .before .before .before .before .before .peek in
     let at-start = c .before .before .before .before .before .before .before .before in
-    c .dashed-jump2 .ensures ∙ sym (range-at (at-start .args .text .now) (at-start .args .at) (at-skip-blanks .result) (sym (at-peek .ensures) ∙ at-if1 .left) (at-skip-blanks .ensures) (sym (at-number .ensures) ∙ ap (numbered (at-skip-blanks .result)) (at-enum-told .given .1)))
+    at-dashed-jump2 .ensures ∙ sym (range-at (at-start .args .text .now) (at-start .args .at) (at-skip-blanks .result) (sym (at-peek .ensures) ∙ at-if1 .left) (at-skip-blanks .ensures) (sym (at-number .ensures) ∙ ap (numbered (at-skip-blanks .result)) (at-enum-told .given .1)))
 
 returns-5 : tie.Need-returns-5
 unfolding lowerAt
 returns-5 c =
+    let at-enum-told2 = c .enum-told2 in
     let at-number = c .before .before .number in
     let at-skip-blanks = c .before .before .before .skip-blanks in
     let at-if1 = c .before .before .before .before .if1 in
     let at-peek = c .before .before .before .before .before .peek in
     let at-start = c .before .before .before .before .before .before .before in
-    sym (range-at (at-start .args .text .now) (at-start .args .at) (at-skip-blanks .result) (sym (at-peek .ensures) ∙ at-if1 .left) (at-skip-blanks .ensures) (sym (at-number .ensures) ∙ ap (numbered (at-skip-blanks .result)) (c .enum-told2 .given .1)))
+    sym (range-at (at-start .args .text .now) (at-start .args .at) (at-skip-blanks .result) (sym (at-peek .ensures) ∙ at-if1 .left) (at-skip-blanks .ensures) (sym (at-number .ensures) ∙ ap (numbered (at-skip-blanks .result)) (at-enum-told2 .given .1)))
 
 pub range-spec : {M : Type 1} → statement M
 range-spec =

@@ -28,35 +28,39 @@ is-blank-requires c κs = search needs
 
 returns : tie.Need-returns Inv-loop μ-loop
 returns c =
+    let at-if1 = c .if1 in
     let at-is-blank = c .before .is-blank in
     let at-peek = c .before .before .peek in
     let at-loop = c .before .before .before .loop in
     let at-start = c .before .before .before .before .before in
-    skip-none (at-start .args .text .now) (at-loop .i) (ap blank (sym (at-peek .ensures)) ∙ sym (at-is-blank .ensures) ∙ not-true (at-is-blank .result) (c .if1 .taken)) ∙ sym (at-loop .inv)
+    skip-none (at-start .args .text .now) (at-loop .i) (ap blank (sym (at-peek .ensures)) ∙ sym (at-is-blank .ensures) ∙ not-true (at-is-blank .result) (at-if1 .taken)) ∙ sym (at-loop .inv)
 
 add-i : tie.Need-add-i Inv-loop μ-loop
 add-i c =
+    let at-if1 = c .if1 in
     let at-is-blank = c .before .is-blank in
     let at-peek = c .before .before .peek in
     let at-loop = c .before .before .before .loop in
     let at-start = c .before .before .before .before .before in
-    omega (arith, here-in (at-start .args .text .now) (at-loop .i) (omega (arith, blank-pos (getD (at-start .args .text .now) (at-loop .i) 0) (ap blank (sym (at-peek .ensures)) ∙ sym (at-is-blank .ensures) ∙ not-false (at-is-blank .result) (c .if1 .left)))))
+    omega (arith, here-in (at-start .args .text .now) (at-loop .i) (omega (arith, blank-pos (getD (at-start .args .text .now) (at-loop .i) 0) (ap blank (sym (at-peek .ensures)) ∙ sym (at-is-blank .ensures) ∙ not-false (at-is-blank .result) (at-if1 .left)))))
 
 loop-less : tie.Need-loop-less Inv-loop μ-loop
 loop-less c =
+    let at-if1 = c .if1 in
     let at-is-blank = c .before .is-blank in
     let at-peek = c .before .before .peek in
     let at-loop = c .before .before .before .loop in
     let at-start = c .before .before .before .before .before in
-    omega (arith, here-in (at-start .args .text .now) (at-loop .i) (omega (arith, blank-pos (getD (at-start .args .text .now) (at-loop .i) 0) (ap blank (sym (at-peek .ensures)) ∙ sym (at-is-blank .ensures) ∙ not-false (at-is-blank .result) (c .if1 .left)))))
+    omega (arith, here-in (at-start .args .text .now) (at-loop .i) (omega (arith, blank-pos (getD (at-start .args .text .now) (at-loop .i) 0) (ap blank (sym (at-peek .ensures)) ∙ sym (at-is-blank .ensures) ∙ not-false (at-is-blank .result) (at-if1 .left)))))
 
 loop-again : tie.Need-loop-again Inv-loop μ-loop
 loop-again c =
+    let at-if1 = c .if1 in
     let at-is-blank = c .before .is-blank in
     let at-peek = c .before .before .peek in
     let at-loop = c .before .before .before .loop in
     let at-start = c .before .before .before .before .before in
-    at-loop .inv ∙ skip-next (at-start .args .text .now) (at-loop .i) (ap blank (sym (at-peek .ensures)) ∙ sym (at-is-blank .ensures) ∙ not-false (at-is-blank .result) (c .if1 .left))
+    at-loop .inv ∙ skip-next (at-start .args .text .now) (at-loop .i) (ap blank (sym (at-peek .ensures)) ∙ sym (at-is-blank .ensures) ∙ not-false (at-is-blank .result) (at-if1 .left))
 
 pub skip-blanks-spec : {M : Type 1} → statement M
 skip-blanks-spec =

@@ -24,8 +24,9 @@ shared-slice-read-lists c =
 
 cast-lists : tie.Need-cast-lists
 cast-lists c =
+    let at-shared-slice-known2 = c .shared-slice-known2 in
     let at-start = c .before .before .before in
-    omega (arith, c .shared-slice-known2 .given ((at-start .args .at) + 1))
+    omega (arith, at-shared-slice-known2 .given ((at-start .args .at) + 1))
 
 add-from : tie.Need-add-from
 add-from c =
@@ -133,13 +134,14 @@ same-length c = search needs
 
 returns : tie.Need-returns
 returns c =
+    let at-node-word = c .node-word in
     let at-add-lists = c .before .before .before .add-lists in
     let at-start = c .before .before .before .before .before .before .before .before .before .before in
     let f = law.alt-fits (at-start .args .tokens .now) (at-start .args .at) (at-start .pre .0) (at-start .pre .1) in
     let s = law.size-five (at-start .args .tokens .now) (at-start .args .at) (at-start .pre .1) in
     let pre = at-start .pre in law.alternation (at-start .args .tokens .now) (at-start .args .at) (at-start .pre .0) (at-start .pre .1) (at-start .args .backwards) (at-start .args .out .now)
-    (at-add-lists .last .1 .1 .1 .0) (at-add-lists .result .count) (c .node-word .result) (at-add-lists .result .long) (omega arith) (at-add-lists .ensures .0) (at-add-lists .ensures .1)
-    (at-add-lists .ensures .2) (c .node-word .ensures)
+    (at-add-lists .last .1 .1 .1 .0) (at-add-lists .result .count) (at-node-word .result) (at-add-lists .result .long) (omega arith) (at-add-lists .ensures .0) (at-add-lists .ensures .1)
+    (at-add-lists .ensures .2) (at-node-word .ensures)
 
 pub add-alternation-spec : {M : Type 1} → statement M
 add-alternation-spec =

@@ -72,10 +72,11 @@ same-length-3 c = search needs
 
 returns-3 : tie.Need-returns-3
 returns-3 c =
+    let at-node-word = c .node-word in
     let at-if1 = c .before .if1 in
     let at-last = c .before .before .before .last in
     let at-start = c .before .before .before .before .before .before in
-    let q = law.put-grown (at-start .args .out .now) (at-start .args .n) (at-start .args .last) (at-start .args .len) (at-last .given .0 .0) (at-last .given .1) (at-if1 .left) in (q .0, q .1, ap (λ (w : ℕ). set (at-start .args .out .now) (at-start .args .n - 1) w) (c .node-word .ensures) ∙ q .2)
+    let q = law.put-grown (at-start .args .out .now) (at-start .args .n) (at-start .args .last) (at-start .args .len) (at-last .given .0 .0) (at-last .given .1) (at-if1 .left) in (q .0, q .1, ap (λ (w : ℕ). set (at-start .args .out .now) (at-start .args .n - 1) w) (at-node-word .ensures) ∙ q .2)
 
 pub add-jump-spec : {M : Type 1} → statement M
 add-jump-spec =

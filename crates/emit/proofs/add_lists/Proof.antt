@@ -20,15 +20,17 @@ loop-holds c =
 
 add-count : tie.Need-add-count Inv-loop μ-loop
 add-count c =
+    let at-loop-test = c .loop-test in
     let at-loop = c .before .loop in
     let at-start = c .before .before .before .before in
-    let f = law.list-fits (at-start .args .backwards) (at-start .args .lists) (at-start .args .entries .now) (at-start .args .out .now) (at-loop .out) (at-loop .x) (at-loop .n) (at-loop .l) (at-loop .long) (at-loop .inv) (c .loop-test .taken) in let g = at-loop .inv .few in let w = at-loop .inv .within in let s = at-loop .inv .same in let pre = at-start .pre in omega arith
+    let f = law.list-fits (at-start .args .backwards) (at-start .args .lists) (at-start .args .entries .now) (at-start .args .out .now) (at-loop .out) (at-loop .x) (at-loop .n) (at-loop .l) (at-loop .long) (at-loop .inv) (at-loop-test .taken) in let g = at-loop .inv .few in let w = at-loop .inv .within in let s = at-loop .inv .same in let pre = at-start .pre in omega arith
 
 mul-count : tie.Need-mul-count Inv-loop μ-loop
 mul-count c =
+    let at-loop-test = c .loop-test in
     let at-loop = c .before .loop in
     let at-start = c .before .before .before .before in
-    let f = law.list-fits (at-start .args .backwards) (at-start .args .lists) (at-start .args .entries .now) (at-start .args .out .now) (at-loop .out) (at-loop .x) (at-loop .n) (at-loop .l) (at-loop .long) (at-loop .inv) (c .loop-test .taken) in let g = at-loop .inv .few in let w = at-loop .inv .within in let s = at-loop .inv .same in let pre = at-start .pre in omega arith
+    let f = law.list-fits (at-start .args .backwards) (at-start .args .lists) (at-start .args .entries .now) (at-start .args .out .now) (at-loop .out) (at-loop .x) (at-loop .n) (at-loop .l) (at-loop .long) (at-loop .inv) (at-loop-test .taken) in let g = at-loop .inv .few in let w = at-loop .inv .within in let s = at-loop .inv .same in let pre = at-start .pre in omega arith
 
 shared-slice-read-count : tie.Need-shared-slice-read-count Inv-loop μ-loop
 shared-slice-read-count c =
@@ -191,23 +193,25 @@ loop-less c = search needs
 
 loop-again : tie.Need-loop-again Inv-loop μ-loop
 loop-again c =
+    let at-longer = c .longer in
     let at-branch-word = c .before .branch-word in
     let at-add-list = c .before .before .before .before .add-list in
     let at-loop-test = c .before .before .before .before .before .before .before .before .loop-test in
     let at-loop = c .before .before .before .before .before .before .before .before .before .loop in
     let at-start = c .before .before .before .before .before .before .before .before .before .before .before .before in
     law.left-more (at-start .args .backwards) (at-start .args .lists) (at-start .args .entries .now) (at-start .args .out .now) (at-loop .out) (at-loop .x) (at-loop .n) (at-loop .l) (at-loop .long)
-    (at-loop .inv) (at-loop-test .taken) (at-add-list .last .1 .1 .0) (at-add-list .result) (at-branch-word .result) (c .longer .result) (at-start .pre .2) (at-add-list .ensures .0)
-    (at-add-list .ensures .1) (at-branch-word .ensures) (c .longer .ensures)
+    (at-loop .inv) (at-loop-test .taken) (at-add-list .last .1 .1 .0) (at-add-list .result) (at-branch-word .result) (at-longer .result) (at-start .pre .2) (at-add-list .ensures .0)
+    (at-add-list .ensures .1) (at-branch-word .ensures) (at-longer .ensures)
 
 same-length : tie.Need-same-length Inv-loop μ-loop
 same-length c = search needs
 
 returns : tie.Need-returns Inv-loop μ-loop
 returns c =
+    let at-loop-test = c .loop-test in
     let at-loop = c .before .loop in
     let at-start = c .before .before .before .before in
-    law.left-end (at-start .args .backwards) (at-start .args .lists) (at-start .args .entries .now) (at-start .args .out .now) (at-loop .out) (at-loop .x) (at-loop .n) (at-loop .l) (at-loop .long) (c .loop-test .left) (at-loop .inv)
+    law.left-end (at-start .args .backwards) (at-start .args .lists) (at-start .args .entries .now) (at-start .args .out .now) (at-loop .out) (at-loop .x) (at-loop .n) (at-loop .l) (at-loop .long) (at-loop-test .left) (at-loop .inv)
 
 pub add-lists-spec : {M : Type 1} → statement M
 add-lists-spec =

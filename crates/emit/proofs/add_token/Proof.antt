@@ -59,6 +59,7 @@ same-length c = search needs
 
 returns : tie.Need-returns
 returns c =
+    let at-either = c .either in
     let at-add-alternation = c .before .before .before .before .add-alternation in
     let at-if1 = c .before .before .before .before .before .before .if1 in
     let at-start = c .before .before .before .before .before .before .before .before .before .before in
@@ -66,9 +67,9 @@ returns c =
     let f = at-start .pre .0 .fits in
     let pre = at-start .pre in law.step-alt (at-start .args .out .now) (at-start .args .n) (at-start .args .last) (at-start .args .long)
     (altAt (at-start .args .backwards) (at-start .args .tokens .now) (at-start .args .at)) (tokenAt (at-start .args .backwards) (at-start .args .tokens .now) (at-start .args .at))
-    (at-add-alternation .last .1 .1 .1 .0) (at-add-alternation .result .count) (at-add-alternation .result .long) (c .either .result)
+    (at-add-alternation .last .1 .1 .1 .0) (at-add-alternation .result .count) (at-add-alternation .result .long) (at-either .result)
     (law.token-five (at-start .args .tokens .now) (at-start .args .at) (at-start .args .backwards) (at-if1 .taken)) (omega arith) (at-add-alternation .ensures .0) (at-add-alternation .ensures .1)
-    (c .either .ensures) (at-add-alternation .ensures .2)
+    (at-either .ensures) (at-add-alternation .ensures .2)
 
 add-entry-piece : tie.Need-add-entry-piece
 add-entry-piece c =

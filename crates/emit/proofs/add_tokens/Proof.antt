@@ -32,8 +32,9 @@ shared-slice-read-at c = search needs
 
 cast-at : tie.Need-cast-at Inv-loop μ-loop
 cast-at c =
+    let at-shared-slice-known3 = c .shared-slice-known3 in
     let at-place = c .before .place in
-    omega (arith, c .shared-slice-known3 .given (at-place .result))
+    omega (arith, at-shared-slice-known3 .given (at-place .result))
 
 add-token-requires : tie.Need-add-token-requires Inv-loop μ-loop
 add-token-requires c κs =
@@ -81,9 +82,10 @@ same-length c =
 
 returns : tie.Need-returns Inv-loop μ-loop
 returns c =
+    let at-loop-test = c .loop-test in
     let at-loop = c .before .loop in
     let at-start = c .before .before .before .before .before in
-    let q = law.done-all (at-start .args .backwards) (at-start .args .tokens .now) (at-start .args .starts .now) (at-start .args .out .now) (at-loop .out) (at-loop .n) (at-loop .last) (at-loop .long) (at-loop .k) (at-loop .inv) (c .loop-test .left) in (q .0, q .1, q .2 .front)
+    let q = law.done-all (at-start .args .backwards) (at-start .args .tokens .now) (at-start .args .starts .now) (at-start .args .out .now) (at-loop .out) (at-loop .n) (at-loop .last) (at-loop .long) (at-loop .k) (at-loop .inv) (at-loop-test .left) in (q .0, q .1, q .2 .front)
 
 pub add-tokens-spec : {M : Type 1} → statement M
 add-tokens-spec =

@@ -23,8 +23,9 @@ same-length c = search needs
 
 returns : tie.Need-returns
 returns c =
+    let at-node-word = c .node-word in
     let at-start = c .before .before in
-    (refl, refl, ap (λ (w : ℕ). set (at-start .args .out .now) (at-start .args .n) w) (c .node-word .ensures))
+    (refl, refl, ap (λ (w : ℕ). set (at-start .args .out .now) (at-start .args .n) w) (at-node-word .ensures))
 
 pub append-jump-spec : {M : Type 1} → statement M
 append-jump-spec =

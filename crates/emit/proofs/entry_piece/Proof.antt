@@ -32,32 +32,37 @@ jump-piece-requires c κs = search needs
 returns : tie.Need-returns
 unfolding pieceOf wordFor entryItem
 returns c =
+    let at-node-word = c .node-word in
     let at-match = c .before .match in
-    rw (at-match .keys1) (ap Word (c .node-word .ensures))
+    rw (at-match .keys1) (ap Word (at-node-word .ensures))
 
 returns-2 : tie.Need-returns-2
 unfolding pieceOf wordFor entryItem
 returns-2 c =
+    let at-node-word2 = c .node-word2 in
     let at-match = c .before .match in
-    rw (at-match .keys2) (ap Word (c .node-word2 .ensures))
+    rw (at-match .keys2) (ap Word (at-node-word2 .ensures))
 
 returns-3 : tie.Need-returns-3
 unfolding entryItem
 returns-3 c =
+    let at-mask-piece = c .mask-piece in
     let at-match = c .before .match in
-    rw (at-match .keys3) (c .mask-piece .ensures)
+    rw (at-match .keys3) (at-mask-piece .ensures)
 
 returns-4 : tie.Need-returns-4
 unfolding entryItem
 returns-4 c =
+    let at-not-mask-piece = c .not-mask-piece in
     let at-match = c .before .match in
-    rw (at-match .keys4) (c .not-mask-piece .ensures)
+    rw (at-match .keys4) (at-not-mask-piece .ensures)
 
 returns-5 : tie.Need-returns-5
 unfolding entryItem
 returns-5 c =
+    let at-jump-piece = c .jump-piece in
     let at-match = c .before .match in
-    rw (ne-eqb _ 0 (at-match .rest .0 .0 .0 .1), ne-eqb _ 1 (at-match .rest .0 .0 .1), ne-eqb _ 2 (at-match .rest .0 .1), ne-eqb _ 3 (at-match .rest .1)) (c .jump-piece .ensures)
+    rw (ne-eqb _ 0 (at-match .rest .0 .0 .0 .1), ne-eqb _ 1 (at-match .rest .0 .0 .1), ne-eqb _ 2 (at-match .rest .0 .1), ne-eqb _ 3 (at-match .rest .1)) (at-jump-piece .ensures)
 
 pub entry-piece-spec : {M : Type 1} → statement M
 entry-piece-spec =

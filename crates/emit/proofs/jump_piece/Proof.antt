@@ -14,12 +14,15 @@ node-word-requires c κs = search needs
 returns : tie.Need-returns
 unfolding pieceOf wordFor jumpItem
 returns c =
+    let at-node-word = c .node-word in
     let at-if1 = c .before .if1 in
-    rw (lt-ltb _ _ (at-if1 .taken)) (ap Word (c .node-word .ensures))
+    rw (lt-ltb _ _ (at-if1 .taken)) (ap Word (at-node-word .ensures))
 
 returns-2 : tie.Need-returns-2
 unfolding pieceOf wordFor jumpItem
-returns-2 c = rw (le-ltb _ _ (c .if1 .left))
+returns-2 c =
+    let at-if1 = c .if1 in
+    rw (le-ltb _ _ (at-if1 .left))
 
 pub jump-piece-spec : {M : Type 1} → statement M
 jump-piece-spec = tie.close (tie.spec node-word-requires returns returns-2)

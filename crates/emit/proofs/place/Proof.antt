@@ -13,11 +13,15 @@ sub-result-2 c = search needs
 
 returns : tie.Need-returns
 unfolding placeOf
-returns c = (rw (c .if1 .taken), omega arith)
+returns c =
+    let at-if1 = c .if1 in
+    (rw (at-if1 .taken), omega arith)
 
 returns-2 : tie.Need-returns-2
 unfolding placeOf
-returns-2 c = (rw (c .if1 .left), omega arith)
+returns-2 c =
+    let at-if1 = c .if1 in
+    (rw (at-if1 .left), omega arith)
 
 pub place-spec : {M : Type 1} → statement M
 place-spec = tie.close (tie.spec sub-result sub-result-2 returns returns-2)

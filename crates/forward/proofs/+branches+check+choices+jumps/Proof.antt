@@ -243,6 +243,7 @@ module _ (t : ℕ) where
 
   branches-loop-again : branches-lts.Need-loop-again (branches-claims t) (branches-at t) branches.Post branches-Inv-loop branches-μ-loop branches-Inv-branches branches-μ-branches
   branches-loop-again c =
+      let at-enum-told2 = c .enum-told2 in
       let at-check = c .before .before .check in
       let at-if1 = c .before .before .before .before .before .if1 in
       let at-loop-test = c .before .before .before .before .before .before .loop-test in
@@ -255,7 +256,7 @@ module _ (t : ℕ) where
       let T = at-start .args .to in
       let R = at-start .args .rest .now in
       let tried = at-check .ensures ∙ ap (λ (l : List ℕ). answer (forward (prog l) (from (at-loop .n) N))) (whole R) in
-      at-loop .inv ∙ ranges.range-next p N _ (at-loop .n) T (to-end (at-loop .n) N) (at-loop-test .taken) (at-if1 .left) (sym (c .enum-told2 .given .1) ∙ tried)
+      at-loop .inv ∙ ranges.range-next p N _ (at-loop .n) T (to-end (at-loop .n) N) (at-loop-test .taken) (at-if1 .left) (sym (at-enum-told2 .given .1) ∙ tried)
 
   branches-enum-told-3 : branches-lts.Need-enum-told-3 (branches-claims t) (branches-at t) branches.Post branches-Inv-loop branches-μ-loop branches-Inv-branches branches-μ-branches
   branches-enum-told-3 c = search needs
@@ -327,6 +328,7 @@ module _ (t : ℕ) where
 
   branches-returns : branches-lts.Need-returns (branches-claims t) (branches-at t) branches.Post branches-Inv-loop branches-μ-loop branches-Inv-branches branches-μ-branches
   branches-returns c =
+      let at-enum-told = c .enum-told in
       let at-first-word = c .before .before .first-word in
       let at-branches = c .before .before .before .branches in
       let at-start = c .before .before .before .before .before .before .before in
@@ -334,7 +336,7 @@ module _ (t : ℕ) where
       let p = prog (at-start .args .rest .now) in
       let q = range (at-start .args .from) (at-start .args .to) ▹ p in
       let M = at-start .args .mem .now in
-      ap answer (sym (at-branches .inv .1 ∙ alts.heads-over short L q M (sym (at-first-word .ensures) ∙ c .enum-told .given .1)))
+      ap answer (sym (at-branches .inv .1 ∙ alts.heads-over short L q M (sym (at-first-word .ensures) ∙ at-enum-told .given .1)))
 
   branches-returns-2 : branches-lts.Need-returns-2 (branches-claims t) (branches-at t) branches.Post branches-Inv-loop branches-μ-loop branches-Inv-branches branches-μ-branches
   branches-returns-2 c =
@@ -379,12 +381,13 @@ module _ (t : ℕ) where
 
   check-returns : check-lts.Need-returns (check-claims t) (check-at t) check.Post check-Inv-loop check-μ-loop
   check-returns c =
+      let at-enum-told = c .enum-told in
       let at-first-word = c .before .before .first-word in
       let at-loop = c .before .before .before .loop in
       let inv = at-loop .inv .2 in
       let L = at-loop .ns .now in
       let M = at-loop .m .now in
-      ap answer (sym (inv ∙ turns.end-left short L M (sym (at-first-word .ensures) ∙ c .enum-told .given .1)))
+      ap answer (sym (inv ∙ turns.end-left short L M (sym (at-first-word .ensures) ∙ at-enum-told .given .1)))
 
   check-sub-ns : check-lts.Need-sub-ns (check-claims t) (check-at t) check.Post check-Inv-loop check-μ-loop
   check-sub-ns c =
@@ -423,6 +426,7 @@ module _ (t : ℕ) where
 
   check-returns-2 : check-lts.Need-returns-2 (check-claims t) (check-at t) check.Post check-Inv-loop check-μ-loop
   check-returns-2 c =
+      let at-enum-told2 = c .enum-told2 in
       let at-first-byte = c .before .before .first-byte in
       let at-if1 = c .before .before .before .if1 in
       let at-tests-byte = c .before .before .before .before .tests-byte in
@@ -435,7 +439,7 @@ module _ (t : ℕ) where
       let e = sym (at-first-word .ensures) ∙ at-w .given .1 in
       let M = at-loop .m .now in
       let test = is-test W (sym (at-if1 .taken) ∙ at-tests-byte .ensures) in
-      ap answer (sym (inv ∙ turns.stop-short L W e short M (test .0) (test .1) (sym (at-first-byte .ensures) ∙ c .enum-told2 .given .1)))
+      ap answer (sym (inv ∙ turns.stop-short L W e short M (test .0) (test .1) (sym (at-first-byte .ensures) ∙ at-enum-told2 .given .1)))
 
   check-sub-m : check-lts.Need-sub-m (check-claims t) (check-at t) check.Post check-Inv-loop check-μ-loop
   check-sub-m c =
@@ -475,6 +479,7 @@ module _ (t : ℕ) where
 
   check-loop-again : check-lts.Need-loop-again (check-claims t) (check-at t) check.Post check-Inv-loop check-μ-loop
   check-loop-again c =
+      let at-if2 = c .if2 in
       let at-word-passes = c .before .word-passes in
       let at-b = c .before .before .before .before .b in
       let at-first-byte = c .before .before .before .before .before .before .first-byte in
@@ -492,10 +497,11 @@ module _ (t : ℕ) where
       let M = at-loop .m .now in
       let B = at-b .given .0 .0 in
       let f = sym (at-first-byte .ensures) ∙ at-b .given .1 in
-      (omega (arith, word-pos L W e, length-from 1 L, at-loop .inv .0), turns.tail-sound L W e (test .1) sound, inv ∙ turns.turn-one L W e short M _ (to-end 1 M) (test .0) B (test .1) f (passes-as W B (test .0) (test .1) (sym (c .if2 .taken) ∙ at-word-passes .ensures)))
+      (omega (arith, word-pos L W e, length-from 1 L, at-loop .inv .0), turns.tail-sound L W e (test .1) sound, inv ∙ turns.turn-one L W e short M _ (to-end 1 M) (test .0) B (test .1) f (passes-as W B (test .0) (test .1) (sym (at-if2 .taken) ∙ at-word-passes .ensures)))
 
   check-returns-3 : check-lts.Need-returns-3 (check-claims t) (check-at t) check.Post check-Inv-loop check-μ-loop
   check-returns-3 c =
+      let at-if2 = c .if2 in
       let at-word-passes = c .before .word-passes in
       let at-b = c .before .before .before .before .b in
       let at-first-byte = c .before .before .before .before .before .before .first-byte in
@@ -512,13 +518,14 @@ module _ (t : ℕ) where
       let test = is-test W (sym (at-if1 .taken) ∙ at-tests-byte .ensures) in
       let B = at-b .given .0 .0 in
       let f = sym (at-first-byte .ensures) ∙ at-b .given .1 in
-      ap answer (sym (inv ∙ turns.stop-one L W e short M (test .0) B (test .1) f (passes-as W B (test .0) (test .1) (sym (c .if2 .left) ∙ at-word-passes .ensures))))
+      ap answer (sym (inv ∙ turns.stop-one L W e short M (test .0) B (test .1) f (passes-as W B (test .0) (test .1) (sym (at-if2 .left) ∙ at-word-passes .ensures))))
 
   check-cast-n : check-lts.Need-cast-n (check-claims t) (check-at t) check.Post check-Inv-loop check-μ-loop
   check-cast-n c = search needs
 
   check-returns-4 : check-lts.Need-returns-4 (check-claims t) (check-at t) check.Post check-Inv-loop check-μ-loop
   check-returns-4 c =
+      let at-if4 = c .if4 in
       let at-if3 = c .before .if3 in
       let at-w = c .before .before .before .before .before .before .w in
       let at-first-word = c .before .before .before .before .before .before .before .before .first-word in
@@ -529,7 +536,7 @@ module _ (t : ℕ) where
       let e = sym (at-first-word .ensures) ∙ at-w .given .1 in
       let M = at-loop .m .now in
       let kind = kind-jump W (at-if3 .taken) in
-      ap answer (sym (inv ∙ turns.stop-jump L W e short M _ kind (c .if4 .taken)))
+      ap answer (sym (inv ∙ turns.stop-jump L W e short M _ kind (at-if4 .taken)))
 
   check-sub-m-2 : check-lts.Need-sub-m-2 (check-claims t) (check-at t) check.Post check-Inv-loop check-μ-loop
   check-sub-m-2 c = search needs
@@ -601,6 +608,7 @@ module _ (t : ℕ) where
 
   check-returns-5 : check-lts.Need-returns-5 (check-claims t) (check-at t) check.Post check-Inv-loop check-μ-loop
   check-returns-5 c =
+      let at-choices = c .choices in
       let at-w = c .before .before .before .before .before .before .before .before .w in
       let at-first-word = c .before .before .before .before .before .before .before .before .before .before .first-word in
       let at-loop = c .before .before .before .before .before .before .before .before .before .before .before .loop in
@@ -609,7 +617,7 @@ module _ (t : ℕ) where
       let e = sym (at-first-word .ensures) ∙ at-w .given .1 in
       let M = at-loop .m .now in
       let inv = at-loop .inv .2 in
-      c .choices .ensures ∙ ap₂ (λ (x y : List ℕ). answer (forward (prog x) y)) (word-whole L W e) (whole M) ∙ ap answer (sym inv)
+      at-choices .ensures ∙ ap₂ (λ (x y : List ℕ). answer (forward (prog x) y)) (word-whole L W e) (whole M) ∙ ap answer (sym inv)
 
   choices-cast-from : choices-lts.Need-cast-from (choices-claims t) (choices-at t) choices.Post
   choices-cast-from c = search needs
@@ -646,12 +654,13 @@ module _ (t : ℕ) where
 
   choices-returns : choices-lts.Need-returns (choices-claims t) (choices-at t) choices.Post
   choices-returns c =
+      let at-jumps = c .jumps in
       let at-if1 = c .before .before .before .if1 in
       let at-start = c .before .before .before .before .before .before in
       let W = at-start .args .w in
       let R = at-start .args .rest .now in
       let M = at-start .args .mem .now in
-      c .jumps .ensures ∙ ap answer (choice.range-alone W R (at-if1 .taken) short M _ (whole M))
+      at-jumps .ensures ∙ ap answer (choice.range-alone W R (at-if1 .taken) short M _ (whole M))
 
   choices-cast-count : choices-lts.Need-cast-count (choices-claims t) (choices-at t) choices.Post
   choices-cast-count c = search needs
@@ -661,20 +670,22 @@ module _ (t : ℕ) where
 
   choices-sub-after : choices-lts.Need-sub-after (choices-claims t) (choices-at t) choices.Post
   choices-sub-after c =
+      let at-if1 = c .if1 in
       let at-start = c .before .before .before in
       let W = at-start .args .w in
       let R = at-start .args .rest .now in
-      let k = choice.is-alt W (at-start .pre .1 .1) (c .if1 .left) in
+      let k = choice.is-alt W (at-start .pre .1 .1) (at-if1 .left) in
       let sound = at-start .pre .1 .0 in
       let opened = choice.opened W R k sound in
       opened .fits
 
   choices-part-after-start : choices-lts.Need-part-after-start (choices-claims t) (choices-at t) choices.Post
   choices-part-after-start c =
+      let at-if1 = c .if1 in
       let at-start = c .before .before .before in
       let W = at-start .args .w in
       let R = at-start .args .rest .now in
-      let k = choice.is-alt W (at-start .pre .1 .1) (c .if1 .left) in
+      let k = choice.is-alt W (at-start .pre .1 .1) (at-if1 .left) in
       let sound = at-start .pre .1 .0 in
       let opened = choice.opened W R k sound in
       opened .fits
@@ -761,6 +772,7 @@ module _ (t : ℕ) where
 
   choices-returns-2 : choices-lts.Need-returns-2 (choices-claims t) (choices-at t) choices.Post
   choices-returns-2 c =
+      let at-branches = c .branches in
       let at-if2 = c .before .before .before .before .if2 in
       let at-x = c .before .before .before .before .before .before .x in
       let at-first-word = c .before .before .before .before .before .before .before .before .first-word in
@@ -772,7 +784,7 @@ module _ (t : ℕ) where
       let X = at-x .given .0 .0 in
       let e = sym (at-first-word .ensures) ∙ at-x .given .1 in
       let M = at-start .args .mem .now in
-      c .branches .ensures ∙ ap answer (choice.alt-range W R k X e (at-if2 .taken) short M _ (whole M))
+      at-branches .ensures ∙ ap answer (choice.alt-range W R k X e (at-if2 .taken) short M _ (whole M))
 
   choices-enum-told : choices-lts.Need-enum-told (choices-claims t) (choices-at t) choices.Post
   choices-enum-told c = search needs
@@ -821,13 +833,14 @@ module _ (t : ℕ) where
 
   choices-returns-3 : choices-lts.Need-returns-3 (choices-claims t) (choices-at t) choices.Post
   choices-returns-3 c =
+      let at-branches2 = c .branches2 in
       let at-if1 = c .before .before .before .before .before .before .before .if1 in
       let at-start = c .before .before .before .before .before .before .before .before .before .before in
       let W = at-start .args .w in
       let R = at-start .args .rest .now in
       let k = choice.is-alt W (at-start .pre .1 .1) (at-if1 .left) in
       let M = at-start .args .mem .now in
-      c .branches2 .ensures ∙ ap answer (choice.alt-alone W R k short M _ (whole M))
+      at-branches2 .ensures ∙ ap answer (choice.alt-alone W R k short M _ (whole M))
 
   jumps-loop-holds : jumps-lts.Need-loop-holds (jumps-claims t) (jumps-at t) jumps.Post jumps-Inv-loop jumps-μ-loop
   jumps-loop-holds c = refl
@@ -858,6 +871,7 @@ module _ (t : ℕ) where
 
   jumps-loop-again : jumps-lts.Need-loop-again (jumps-claims t) (jumps-at t) jumps.Post jumps-Inv-loop jumps-μ-loop
   jumps-loop-again c =
+      let at-enum-told = c .enum-told in
       let at-check = c .before .before .check in
       let at-if2 = c .before .before .before .before .if2 in
       let at-if1 = c .before .before .before .before .before .if1 in
@@ -868,10 +882,11 @@ module _ (t : ℕ) where
       let M = at-start .args .mem .now in
       let N = at-loop .n in
       let T = at-start .args .to in
-      inv ∙ ranges.range-next p M _ N T (to-end N M) (at-if1 .left) (at-if2 .left) (sym (c .enum-told .given .1) ∙ at-check .ensures)
+      inv ∙ ranges.range-next p M _ N T (to-end N M) (at-if1 .left) (at-if2 .left) (sym (at-enum-told .given .1) ∙ at-check .ensures)
 
   jumps-returns : jumps-lts.Need-returns (jumps-claims t) (jumps-at t) jumps.Post jumps-Inv-loop jumps-μ-loop
   jumps-returns c =
+      let at-if1 = c .if1 in
       let at-loop = c .before .loop in
       let at-start = c .before .before .before .before in
       let inv = at-loop .inv in
@@ -879,10 +894,11 @@ module _ (t : ℕ) where
       let M = at-start .args .mem .now in
       let N = at-loop .n in
       let T = at-start .args .to in
-      ap answer (sym (inv ∙ run-range-empty p M short N T (c .if1 .taken)))
+      ap answer (sym (inv ∙ run-range-empty p M short N T (at-if1 .taken)))
 
   jumps-returns-2 : jumps-lts.Need-returns-2 (jumps-claims t) (jumps-at t) jumps.Post jumps-Inv-loop jumps-μ-loop
   jumps-returns-2 c =
+      let at-if2 = c .if2 in
       let at-loop = c .before .before .loop in
       let at-start = c .before .before .before .before .before in
       let inv = at-loop .inv in
@@ -890,7 +906,7 @@ module _ (t : ℕ) where
       let M = at-start .args .mem .now in
       let N = at-loop .n in
       let T = at-start .args .to in
-      ap answer (sym (inv ∙ ranges.range-short p M N T (c .if2 .taken)))
+      ap answer (sym (inv ∙ ranges.range-short p M N T (at-if2 .taken)))
 
   jumps-returns-3 : jumps-lts.Need-returns-3 (jumps-claims t) (jumps-at t) jumps.Post jumps-Inv-loop jumps-μ-loop
   jumps-returns-3 c =

@@ -36,12 +36,13 @@ enum-told c = search needs
 
 returns : tie.Need-returns Inv-loop μ-loop
 returns c =
+    let at-enum-told = c .enum-told in
     let at-first-word = c .before .before .first-word in
     let at-loop = c .before .before .before .loop in
     let inv = at-loop .inv .1 in
     let L = at-loop .ns .now in
     let M = at-loop .m .now in
-    ap answer (sym (inv ∙ turns.end-left short L M (sym (at-first-word .ensures) ∙ c .enum-told .given .1)))
+    ap answer (sym (inv ∙ turns.end-left short L M (sym (at-first-word .ensures) ∙ at-enum-told .given .1)))
 
 sub-ns : tie.Need-sub-ns Inv-loop μ-loop
 sub-ns c =
@@ -71,6 +72,7 @@ cast-n c = search needs
 
 returns-2 : tie.Need-returns-2 Inv-loop μ-loop
 returns-2 c =
+    let at-if2 = c .if2 in
     let at-if1 = c .before .if1 in
     let at-w = c .before .before .before .before .w in
     let at-first-word = c .before .before .before .before .before .before .first-word in
@@ -81,7 +83,7 @@ returns-2 c =
     let e = sym (at-first-word .ensures) ∙ at-w .given .1 in
     let M = at-loop .m .now in
     let kind = kind-jump W (at-if1 .taken) in
-    ap answer (sym (inv ∙ turns.stop-jump L W e short M _ kind (c .if2 .taken)))
+    ap answer (sym (inv ∙ turns.stop-jump L W e short M _ kind (at-if2 .taken)))
 
 sub-m : tie.Need-sub-m Inv-loop μ-loop
 sub-m c = search needs
@@ -129,6 +131,7 @@ enum-told-2 c = search needs
 
 returns-3 : tie.Need-returns-3 Inv-loop μ-loop
 returns-3 c =
+    let at-enum-told2 = c .enum-told2 in
     let at-first-byte = c .before .before .first-byte in
     let at-if1 = c .before .before .before .if1 in
     let at-w = c .before .before .before .before .before .before .w in
@@ -141,7 +144,7 @@ returns-3 c =
     let M = at-loop .m .now in
     let plain = at-loop .inv .0 in
     let test = turns.plain-test L W e plain (at-if1 .left) in
-    ap answer (sym (inv ∙ turns.stop-short L W e short M (test .0) (test .1) (sym (at-first-byte .ensures) ∙ c .enum-told2 .given .1)))
+    ap answer (sym (inv ∙ turns.stop-short L W e short M (test .0) (test .1) (sym (at-first-byte .ensures) ∙ at-enum-told2 .given .1)))
 
 sub-m-2 : tie.Need-sub-m-2 Inv-loop μ-loop
 sub-m-2 c =
@@ -181,6 +184,7 @@ loop-less-2 c =
 
 loop-again-2 : tie.Need-loop-again-2 Inv-loop μ-loop
 loop-again-2 c =
+    let at-if3 = c .if3 in
     let at-word-passes = c .before .word-passes in
     let at-b = c .before .before .before .before .b in
     let at-first-byte = c .before .before .before .before .before .before .first-byte in
@@ -197,10 +201,11 @@ loop-again-2 c =
     let test = turns.plain-test L W e plain (at-if1 .left) in
     let B = at-b .given .0 .0 in
     let f = sym (at-first-byte .ensures) ∙ at-b .given .1 in
-    (turns.plain-tail L W e plain, inv ∙ turns.turn-one L W e short M _ (to-end 1 M) (test .0) B (test .1) f (passes-as W B (test .0) (test .1) (sym (c .if3 .taken) ∙ at-word-passes .ensures)))
+    (turns.plain-tail L W e plain, inv ∙ turns.turn-one L W e short M _ (to-end 1 M) (test .0) B (test .1) f (passes-as W B (test .0) (test .1) (sym (at-if3 .taken) ∙ at-word-passes .ensures)))
 
 returns-4 : tie.Need-returns-4 Inv-loop μ-loop
 returns-4 c =
+    let at-if3 = c .if3 in
     let at-word-passes = c .before .word-passes in
     let at-b = c .before .before .before .before .b in
     let at-first-byte = c .before .before .before .before .before .before .first-byte in
@@ -217,7 +222,7 @@ returns-4 c =
     let test = turns.plain-test L W e plain (at-if1 .left) in
     let B = at-b .given .0 .0 in
     let f = sym (at-first-byte .ensures) ∙ at-b .given .1 in
-    ap answer (sym (inv ∙ turns.stop-one L W e short M (test .0) B (test .1) f (passes-as W B (test .0) (test .1) (sym (c .if3 .left) ∙ at-word-passes .ensures))))
+    ap answer (sym (inv ∙ turns.stop-one L W e short M (test .0) B (test .1) f (passes-as W B (test .0) (test .1) (sym (at-if3 .left) ∙ at-word-passes .ensures))))
 
 pub flat-spec : {M : Type 1} → statement M
 flat-spec =

@@ -34,22 +34,24 @@ loop-less c = search needs
 
 loop-again : tie.Need-loop-again Inv-loop μ-loop
 loop-again c =
+    let at-length-at = c .length-at in
     let at-loop-test = c .before .loop-test in
     let at-loop = c .before .before .loop in
     let at-start = c .before .before .before .before in
     let s = at-start in
     let l = at-loop in
     let t = at-loop-test .taken in
-    let w = c .length-at in
+    let w = at-length-at in
     (omega (arith, t), omega (arith, w .ensures .1, l .inv .1), law.total-more (tokensIn (s .args .ws .now)) (s .args .n) (s .pre .1) (l .k) (l .total) (w .result) t (w .ensures .0) (l .inv .2))
 
 returns : tie.Need-returns Inv-loop μ-loop
 returns c =
+    let at-loop-test = c .loop-test in
     let at-loop = c .before .loop in
     let at-start = c .before .before .before in
     let s = at-start in
     let l = at-loop in
-    law.total-all (tokensIn (s .args .ws .now)) (s .args .n) (s .pre .1) (l .k) (l .total) (c .loop-test .left) (l .inv .2)
+    law.total-all (tokensIn (s .args .ws .now)) (s .args .n) (s .pre .1) (l .k) (l .total) (at-loop-test .left) (l .inv .2)
 
 pub total-of-spec : {M : Type 1} → statement M
 total-of-spec =

@@ -13,21 +13,23 @@ tally-tokens-requires c κs = search needs
 
 returns : tie.Need-returns
 returns c =
+    let at-if1 = c .if1 in
     let at-tally-tokens = c .before .tally-tokens in
     let at-start = c .before .before .before .before .before in
     let s = at-start in
     let t = at-tally-tokens in
-    law.too-short (literals (tokensIn (s .args .ws .now))) (s .args .bytes .now) (s .args .lengths .now) (inl (omega (arith, c .if1 .taken, law.exact (tokensIn (s .args .ws .now)) (t .result .literals) (t .ensures .literals-are) (s .pre .1))))
+    law.too-short (literals (tokensIn (s .args .ws .now))) (s .args .bytes .now) (s .args .lengths .now) (inl (omega (arith, at-if1 .taken, law.exact (tokensIn (s .args .ws .now)) (t .result .literals) (t .ensures .literals-are) (s .pre .1))))
 
 total-of-requires : tie.Need-total-of-requires
 total-of-requires c κs = search needs
 
 returns-2 : tie.Need-returns-2
 returns-2 c =
+    let at-if2 = c .if2 in
     let at-total-of = c .before .total-of in
     let at-start = c .before .before .before .before .before .before .before in
     let s = at-start in
-    law.too-short (literals (tokensIn (s .args .ws .now))) (s .args .bytes .now) (s .args .lengths .now) (inr (omega (arith, c .if2 .taken, at-total-of .ensures)))
+    law.too-short (literals (tokensIn (s .args .ws .now))) (s .args .bytes .now) (s .args .lengths .now) (inr (omega (arith, at-if2 .taken, at-total-of .ensures)))
 
 write-each-requires : tie.Need-write-each-requires
 write-each-requires c κs = search needs

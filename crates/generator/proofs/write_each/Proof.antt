@@ -22,19 +22,21 @@ loop-holds c =
 
 sub-write-literal : tie.Need-sub-write-literal Inv-loop μ-loop
 sub-write-literal c =
+    let at-loop-test = c .loop-test in
     let at-loop = c .before .loop in
     let at-start = c .before .before .before .before .before in
     let s = at-start in
     let l = at-loop in
-    law.next-room (tokensIn (s .args .ws .now)) (s .args .n) (s .pre .1) (l .k) (l .at) (s .args .bytes .now) (s .args .lengths .now) (l .bytes) (l .lengths) (l .inv .1) (c .loop-test .taken) (s .pre .4) .0
+    law.next-room (tokensIn (s .args .ws .now)) (s .args .n) (s .pre .1) (l .k) (l .at) (s .args .bytes .now) (s .args .lengths .now) (l .bytes) (l .lengths) (l .inv .1) (at-loop-test .taken) (s .pre .4) .0
 
 part-write-literal-start : tie.Need-part-write-literal-start Inv-loop μ-loop
 part-write-literal-start c =
+    let at-loop-test = c .loop-test in
     let at-loop = c .before .loop in
     let at-start = c .before .before .before .before .before in
     let s = at-start in
     let l = at-loop in
-    law.next-room (tokensIn (s .args .ws .now)) (s .args .n) (s .pre .1) (l .k) (l .at) (s .args .bytes .now) (s .args .lengths .now) (l .bytes) (l .lengths) (l .inv .1) (c .loop-test .taken) (s .pre .4) .0
+    law.next-room (tokensIn (s .args .ws .now)) (s .args .n) (s .pre .1) (l .k) (l .at) (s .args .bytes .now) (s .args .lengths .now) (l .bytes) (l .lengths) (l .inv .1) (at-loop-test .taken) (s .pre .4) .0
 
 part-write-literal-end : tie.Need-part-write-literal-end Inv-loop μ-loop
 part-write-literal-end c = search needs
@@ -122,11 +124,12 @@ same-length-2 c =
 
 returns : tie.Need-returns Inv-loop μ-loop
 returns c =
+    let at-loop-test = c .loop-test in
     let at-loop = c .before .loop in
     let at-start = c .before .before .before .before .before in
     let s = at-start in
     let l = at-loop in
-    let e = c .loop-test .left in
+    let e = at-loop-test .left in
     (law.part-all-bytes (tokensIn (s .args .ws .now)) (s .args .n) (s .pre .1) (l .k) (l .at) (s .args .bytes .now) (s .args .lengths .now) (l .bytes) (l .lengths) (l .inv .1) e, law.part-all-lengths (tokensIn (s .args .ws .now)) (s .args .n) (s .pre .1) (l .k) (l .at) (s .args .bytes .now) (s .args .lengths .now) (l .bytes) (l .lengths) (l .inv .1) e)
 
 pub write-each-spec : {M : Type 1} → statement M

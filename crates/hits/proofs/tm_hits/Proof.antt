@@ -26,11 +26,12 @@ is-sound-requires c κs = search needs
 
 returns : tie.Need-returns Inv-loop μ-loop
 returns c =
+    let at-if1 = c .if1 in
     let at-is-sound = c .before .is-sound in
     let at-start = c .before .before .before .before in
     let W = at-start .args .words .now in
     let H = at-start .args .hay .now in
-    law.unsound-start W H (length H) (sym (not-true _ (c .if1 .taken)) ∙ at-is-sound .ensures)
+    law.unsound-start W H (length H) (sym (not-true _ (at-if1 .taken)) ∙ at-is-sound .ensures)
 
 loop-holds : tie.Need-loop-holds Inv-loop μ-loop
 unfolding startIn
@@ -64,13 +65,14 @@ loop-less c = search needs
 
 loop-again : tie.Need-loop-again Inv-loop μ-loop
 loop-again c =
+    let at-enum-told = c .enum-told in
     let at-check = c .before .before .check in
     let at-loop = c .before .before .before .before .before .loop in
     let at-start = c .before .before .before .before .before .before .before .before .before .before in
     let W = at-start .args .words .now in
     let H = at-start .args .hay .now in
     let I = at-loop .i in
-    (omega arith, law.start-hit W H I _ (sym (c .enum-told .given .1) ∙ at-check .ensures ∙ ap (λ l. answer (forward (prog W) l)) (to-end I H)))
+    (omega arith, law.start-hit W H I _ (sym (at-enum-told .given .1) ∙ at-check .ensures ∙ ap (λ l. answer (forward (prog W) l)) (to-end I H)))
 
 enum-told-2 : tie.Need-enum-told-2 Inv-loop μ-loop
 enum-told-2 c = search needs
@@ -80,16 +82,18 @@ loop-less-2 c = search needs
 
 loop-again-2 : tie.Need-loop-again-2 Inv-loop μ-loop
 loop-again-2 c =
+    let at-enum-told2 = c .enum-told2 in
     let at-check = c .before .before .check in
     let at-loop = c .before .before .before .before .before .loop in
     let at-start = c .before .before .before .before .before .before .before .before .before .before in
     let W = at-start .args .words .now in
     let H = at-start .args .hay .now in
     let I = at-loop .i in
-    (omega arith, law.start-miss W H I _ (at-loop .inv .1) (sym (c .enum-told2 .given .1) ∙ at-check .ensures ∙ ap (λ l. answer (forward (prog W) l)) (to-end I H)))
+    (omega arith, law.start-miss W H I _ (at-loop .inv .1) (sym (at-enum-told2 .given .1) ∙ at-check .ensures ∙ ap (λ l. answer (forward (prog W) l)) (to-end I H)))
 
 returns-2 : tie.Need-returns-2 Inv-loop μ-loop
 returns-2 c =
+    let at-loop-test = c .loop-test in
     let at-loop = c .before .loop in
     let at-if1 = c .before .before .if1 in
     let at-is-sound = c .before .before .before .is-sound in
@@ -97,7 +101,7 @@ returns-2 c =
     let W = at-start .args .words .now in
     let H = at-start .args .hay .now in
     let I = at-loop .i in
-    at-loop .inv .1 ∙ ap (startIn W H) (law.at-end I (length H) (at-loop .inv .0) (c .loop-test .left)) ∙ law.sound-start W H (length H) (sym (not-false _ (at-if1 .left)) ∙ at-is-sound .ensures)
+    at-loop .inv .1 ∙ ap (startIn W H) (law.at-end I (length H) (at-loop .inv .0) (at-loop-test .left)) ∙ law.sound-start W H (length H) (sym (not-false _ (at-if1 .left)) ∙ at-is-sound .ensures)
 
 pub tm-hits-spec : {M : Type 1} → statement M
 tm-hits-spec =

@@ -21,11 +21,12 @@ same-length c = search needs
 
 returns : tie.Need-returns
 returns c =
+    let at-room-for = c .room-for in
     let at-put-listing = c .before .before .before .put-listing in
     let at-start = c .before .before .before .before .before .before .before in
     let a = at-start .args in
     let w = at-put-listing .ensures in
-    let e = c .room-for .ensures in
+    let e = at-room-for .ensures in
     (e ∙ ap (λ (x : ℕ). listedOf x (length (at-put-listing .last .1 .0))) (w .next ∙ zero-add (length (listingOf (a .text .now)))) ∙ ap (listedOf (length (listingOf (a .text .now)))) (put-length w), w .holds)
 
 pub list-pattern-spec : {M : Type 1} → statement M

@@ -15,15 +15,17 @@ is-plain-requires c κs = search needs
 
 returns : tie.Need-returns
 returns c =
+    let at-if1 = c .if1 in
     let at-is-plain = c .before .is-plain in
     let at-start = c .before .before .before .before .before in
-    law.not-plain (at-start .args .reached) (tokensIn (at-start .args .ws .now)) (at-start .args .bytes .now) (at-start .args .lengths .now) (sym (at-is-plain .ensures) ∙ not-true _ (c .if1 .taken))
+    law.not-plain (at-start .args .reached) (tokensIn (at-start .args .ws .now)) (at-start .args .bytes .now) (at-start .args .lengths .now) (sym (at-is-plain .ensures) ∙ not-true _ (at-if1 .taken))
 
 choose-requires : tie.Need-choose-requires
 choose-requires c κs =
+    let at-if1 = c .if1 in
     let at-is-plain = c .before .is-plain in
     let at-start = c .before .before .before .before .before in
-    let p = at-start .pre in (p .0, p .1, p .2 (sym (at-is-plain .ensures) ∙ not-false _ (c .if1 .left)))
+    let p = at-start .pre in (p .0, p .1, p .2 (sym (at-is-plain .ensures) ∙ not-false _ (at-if1 .left)))
 
 write-choice-requires : tie.Need-write-choice-requires
 write-choice-requires c κs =

@@ -51,8 +51,9 @@ enum-told-2 c = search needs
 
 returns : tie.Need-returns
 returns c =
+    let at-enum-told = c .enum-told in
     let at-start = c .before .before .before .before .before in
-    law.nothing-chosen (at-start .args .reached) (at-start .args .ws .now) (at-start .args .choice) (at-start .args .bytes .now) (at-start .args .lengths .now) (c .enum-told .given .1)
+    law.nothing-chosen (at-start .args .reached) (at-start .args .ws .now) (at-start .args .choice) (at-start .args .bytes .now) (at-start .args .lengths .now) (at-enum-told .given .1)
 
 same-length : tie.Need-same-length
 same-length c = search needs
@@ -69,8 +70,9 @@ returns-2 c =
 
 returns-3 : tie.Need-returns-3
 returns-3 c =
+    let at-enum-told2 = c .enum-told2 in
     let at-start = c .before .before .before .before .before in
-    law.too-many (at-start .args .reached) (at-start .args .ws .now) (at-start .args .choice) (at-start .args .bytes .now) (at-start .args .lengths .now) (c .enum-told2 .given .1)
+    law.too-many (at-start .args .reached) (at-start .args .ws .now) (at-start .args .choice) (at-start .args .bytes .now) (at-start .args .lengths .now) (at-enum-told2 .given .1)
 
 pub write-choice-spec : {M : Type 1} → statement M
 write-choice-spec =

@@ -37,9 +37,10 @@ same-length-4 c = search needs
 
 returns-2 : tie.Need-returns-2
 returns-2 c =
+    let at-enum-told = c .enum-told in
     let at-write-all = c .before .before .before .before .before .before .write-all in
     let at-start = c .before .before .before .before .before .before .before .before .before .before .before .before in
-    law.none-written (at-start .args .reached) (literalsOf (tokensIn (at-start .args .ws .now))) (at-start .args .rank) (at-write-all .result) (at-start .args .bytes .now) (at-start .args .lengths .now) (at-write-all .last .1 .0) (at-write-all .last .1 .1 .0) (at-write-all .ensures) (c .enum-told .given .1)
+    law.none-written (at-start .args .reached) (literalsOf (tokensIn (at-start .args .ws .now))) (at-start .args .rank) (at-write-all .result) (at-start .args .bytes .now) (at-start .args .lengths .now) (at-write-all .last .1 .0) (at-write-all .last .1 .1 .0) (at-write-all .ensures) (at-enum-told .given .1)
 
 pub write-taken-spec : {M : Type 1} → statement M
 write-taken-spec =

@@ -25,8 +25,9 @@ returns-2 c =
 
 returns-3 : tie.Need-returns-3
 returns-3 c =
+    let at-enum-told2 = c .enum-told2 in
     let at-start = c .before .before in
-    λ e. pick.full-beats (at-start .args .best) (at-start .args .rank) (c .enum-told2 .given .1)
+    λ e. pick.full-beats (at-start .args .best) (at-start .args .rank) (at-enum-told2 .given .1)
 
 pub beaten-spec : {M : Type 1} → statement M
 beaten-spec =

@@ -21,17 +21,20 @@ loop-holds c =
     law.weighed-start (at-start .args .run .now) ((at-start .pre) .0) ((at-start .pre) .1)
 
 sub-loop : tie.Need-sub-loop Inv-loop μ-loop
-sub-loop c = (c .loop .inv) .inside
+sub-loop c =
+    let at-loop = c .loop in
+    (at-loop .inv) .inside
 
 is-full-requires : tie.Need-is-full-requires Inv-loop μ-loop
 is-full-requires c κs = search needs
 
 returns : tie.Need-returns Inv-loop μ-loop
 returns c =
+    let at-if1 = c .if1 in
     let at-is-full = c .before .is-full in
     let at-loop = c .before .before .before .loop in
     let at-start = c .before .before .before .before .before in
-    law.weighed-full (at-start .args .run .now) ((at-start .pre) .0) (at-loop .prior) (at-loop .at) (at-loop .top) (at-loop .inv) (at-is-full .ensures (c .if1 .taken))
+    law.weighed-full (at-start .args .run .now) ((at-start .pre) .0) (at-loop .prior) (at-loop .at) (at-loop .top) (at-loop .inv) (at-is-full .ensures (at-if1 .taken))
 
 longer-slices-requires : tie.Need-longer-slices-requires Inv-loop μ-loop
 longer-slices-requires c κs =
@@ -67,10 +70,11 @@ part-words-requires c κs =
 
 add-e : tie.Need-add-e Inv-loop μ-loop
 add-e c =
+    let at-part-words = c .part-words in
     let at-loop-test = c .before .before .before .before .before .loop-test in
     let at-loop = c .before .before .before .before .before .before .loop in
     let at-start = c .before .before .before .before .before .before .before .before in
-    omega (arith, (law.here-inside (at-start .args .run .now) ((at-start .pre) .0) (at-loop .prior) (at-loop .at) (at-loop .top) (at-loop .inv) (at-loop-test .taken) (c .part-words .result) (c .part-words .ensures)) .0)
+    omega (arith, (law.here-inside (at-start .args .run .now) ((at-start .pre) .0) (at-loop .prior) (at-loop .at) (at-loop .top) (at-loop .inv) (at-loop-test .taken) (at-part-words .result) (at-part-words .ensures)) .0)
 
 mul-literal-start : tie.Need-mul-literal-start Inv-loop μ-loop
 mul-literal-start c =
@@ -101,18 +105,20 @@ loop-less c =
 
 loop-again : tie.Need-loop-again Inv-loop μ-loop
 loop-again c =
+    let at-literal-start = c .literal-start in
     let at-part-words = c .before .before .part-words in
     let at-longer-slices = c .before .before .before .before .longer-slices in
     let at-loop-test = c .before .before .before .before .before .before .before .loop-test in
     let at-loop = c .before .before .before .before .before .before .before .before .loop in
     let at-start = c .before .before .before .before .before .before .before .before .before .before in
-    law.weighed-on (at-start .args .run .now) ((at-start .pre) .0) (at-loop .prior) (at-loop .at) (at-loop .top) (at-loop .inv) (at-loop-test .taken) (at-part-words .result) (at-loop .at + at-part-words .result) (c .literal-start .result) (at-longer-slices .result) (at-part-words .ensures) refl (c .literal-start .ensures) (at-longer-slices .ensures)
+    law.weighed-on (at-start .args .run .now) ((at-start .pre) .0) (at-loop .prior) (at-loop .at) (at-loop .top) (at-loop .inv) (at-loop-test .taken) (at-part-words .result) (at-loop .at + at-part-words .result) (at-literal-start .result) (at-longer-slices .result) (at-part-words .ensures) refl (at-literal-start .ensures) (at-longer-slices .ensures)
 
 returns-2 : tie.Need-returns-2 Inv-loop μ-loop
 returns-2 c =
+    let at-loop-test = c .loop-test in
     let at-loop = c .before .loop in
     let at-start = c .before .before .before in
-    law.weighed-done (at-start .args .run .now) ((at-start .pre) .0) (at-loop .prior) (at-loop .at) (at-loop .top) (at-loop .inv) (c .loop-test .left)
+    law.weighed-done (at-start .args .run .now) ((at-start .pre) .0) (at-loop .prior) (at-loop .at) (at-loop .top) (at-loop .inv) (at-loop-test .left)
 
 pub best-slice-spec : {M : Type 1} → statement M
 best-slice-spec =

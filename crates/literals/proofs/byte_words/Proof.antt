@@ -25,9 +25,10 @@ shared-slice-read-if1 c = search needs
 
 returns : tie.Need-returns Inv-loop μ-loop
 returns c =
+    let at-if1 = c .if1 in
     let at-loop-test = c .before .before .loop-test in
     let at-loop = c .before .before .before .loop in
-    (omega (arith, at-loop .inv .1, parts.byte-end-other (at-loop .rest .now) (at-loop-test .taken) (c .if1 .taken)), omega (arith, at-loop .inv .0))
+    (omega (arith, at-loop .inv .1, parts.byte-end-other (at-loop .rest .now) (at-loop-test .taken) (at-if1 .taken)), omega (arith, at-loop .inv .0))
 
 add-n : tie.Need-add-n Inv-loop μ-loop
 add-n c =
@@ -59,8 +60,9 @@ loop-again c =
 
 returns-2 : tie.Need-returns-2 Inv-loop μ-loop
 returns-2 c =
+    let at-loop-test = c .loop-test in
     let at-loop = c .before .loop in
-    (omega (arith, at-loop .inv .1, parts.byte-end-none (at-loop .rest .now) (omega (arith, c .loop-test .left))), omega (arith, at-loop .inv .0))
+    (omega (arith, at-loop .inv .1, parts.byte-end-none (at-loop .rest .now) (omega (arith, at-loop-test .left))), omega (arith, at-loop .inv .0))
 
 pub byte-words-spec : {M : Type 1} → statement M
 byte-words-spec =

@@ -9,8 +9,9 @@ shared-slice-read-if1 c = search needs
 
 returns : tie.Need-returns
 returns c =
+    let at-if1 = c .if1 in
     let at-start = c .before .before .before in
-    law.inside-open (at-start .args .ws .now) (c .if1 .taken)
+    law.inside-open (at-start .args .ws .now) (at-if1 .taken)
 
 shared-slice-read-plain-entry : tie.Need-shared-slice-read-plain-entry
 shared-slice-read-plain-entry c = search needs
@@ -23,9 +24,10 @@ plain-entry-requires c κs = search needs
 
 returns-2 : tie.Need-returns-2
 returns-2 c =
+    let at-plain-entry = c .plain-entry in
     let at-if1 = c .before .before .before .if1 in
     let at-start = c .before .before .before .before .before .before in
-    law.entry-closes (at-start .args .ws .now) (at-if1 .left) (c .plain-entry .result) (c .plain-entry .ensures)
+    law.entry-closes (at-start .args .ws .now) (at-if1 .left) (at-plain-entry .result) (at-plain-entry .ensures)
 
 pub closes-run-spec : {M : Type 1} → statement M
 closes-run-spec =

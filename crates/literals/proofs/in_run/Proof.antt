@@ -22,10 +22,11 @@ enum-told-2 c = search needs
 
 returns : tie.Need-returns
 returns c =
+    let at-best-slice = c .best-slice in
     let at-enum-told = c .before .enum-told in
     let at-strong-part = c .before .before .before .strong-part in
     let at-start = c .before .before .before .before .before in
-    law.run-slice (at-start .args .run .now) (at-strong-part .result) (c .best-slice .result) (at-strong-part .ensures) (at-enum-told .given .1) (c .best-slice .ensures)
+    law.run-slice (at-start .args .run .now) (at-strong-part .result) (at-best-slice .result) (at-strong-part .ensures) (at-enum-told .given .1) (at-best-slice .ensures)
 
 returns-2 : tie.Need-returns-2
 returns-2 c =
@@ -36,9 +37,10 @@ returns-2 c =
 
 returns-3 : tie.Need-returns-3
 returns-3 c =
+    let at-enum-told2 = c .enum-told2 in
     let at-strong-part = c .before .before .strong-part in
     let at-start = c .before .before .before .before in
-    law.run-full (at-start .args .run .now) (at-strong-part .result) (c .enum-told2 .given .1) (at-strong-part .ensures)
+    law.run-full (at-start .args .run .now) (at-strong-part .result) (at-enum-told2 .given .1) (at-strong-part .ensures)
 
 pub in-run-spec : {M : Type 1} → statement M
 in-run-spec =

@@ -22,7 +22,9 @@ returns-2 : tie.Need-returns-2
 returns-2 c = false-true
 
 returns-3 : tie.Need-returns-3
-returns-3 c = λ e run. ap (choiceSays run) (c .enum-told3 .given .1)
+returns-3 c =
+    let at-enum-told3 = c .enum-told3 in
+    λ e run. ap (choiceSays run) (at-enum-told3 .given .1)
 
 pub is-full-spec : {M : Type 1} → statement M
 is-full-spec = tie.close (tie.spec enum-told enum-told-2 enum-told-3 returns returns-2 returns-3)

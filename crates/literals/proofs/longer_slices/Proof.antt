@@ -43,25 +43,35 @@ part-words-requires c κs =
 
 add-to : tie.Need-add-to Inv-loop μ-loop
 add-to c =
+    let at-part-words = c .part-words in
     let at-start = c .before .before .before in
-    omega (arith, law.going-start (at-start .args .run .now) (at-start .args .prior) (at-start .args .at) (at-start .pre) (c .part-words .result) (choiceSays (at-start .args .run .now) (at-start .args .best)) (c .part-words .ensures) .inside)
+    omega (arith, law.going-start (at-start .args .run .now) (at-start .args .prior) (at-start .args .at) (at-start .pre) (at-part-words .result) (choiceSays (at-start .args .run .now) (at-start .args .best)) (at-part-words .ensures) .inside)
 
 loop-holds : tie.Need-loop-holds Inv-loop μ-loop
 loop-holds c =
+    let at-part-words = c .part-words in
     let at-start = c .before .before .before in
-    law.going-start (at-start .args .run .now) (at-start .args .prior) (at-start .args .at) (at-start .pre) (c .part-words .result) (choiceSays (at-start .args .run .now) (at-start .args .best)) (c .part-words .ensures)
+    law.going-start (at-start .args .run .now) (at-start .args .prior) (at-start .args .at) (at-start .pre) (at-part-words .result) (choiceSays (at-start .args .run .now) (at-start .args .best)) (at-part-words .ensures)
 
 mul-rank-of : tie.Need-mul-rank-of Inv-loop μ-loop
-mul-rank-of c = omega (arith, (c .loop .inv) .ahead, (c .loop .inv) .inside)
+mul-rank-of c =
+    let at-loop = c .loop in
+    omega (arith, (at-loop .inv) .ahead, (at-loop .inv) .inside)
 
 sub-rank-of : tie.Need-sub-rank-of Inv-loop μ-loop
-sub-rank-of c = omega (arith, (c .loop .inv) .ahead)
+sub-rank-of c =
+    let at-loop = c .loop in
+    omega (arith, (at-loop .inv) .ahead)
 
 part-rank-of-start : tie.Need-part-rank-of-start Inv-loop μ-loop
-part-rank-of-start c = omega (arith, (c .loop .inv) .ahead)
+part-rank-of-start c =
+    let at-loop = c .loop in
+    omega (arith, (at-loop .inv) .ahead)
 
 part-rank-of-end : tie.Need-part-rank-of-end Inv-loop μ-loop
-part-rank-of-end c = (c .loop .inv) .inside
+part-rank-of-end c =
+    let at-loop = c .loop in
+    (at-loop .inv) .inside
 
 rank-of-requires : tie.Need-rank-of-requires Inv-loop μ-loop
 rank-of-requires c κs =
@@ -92,15 +102,17 @@ byte-words-requires c κs = search needs
 
 add-ranked-against : tie.Need-add-ranked-against Inv-loop μ-loop
 add-ranked-against c =
+    let at-byte-words = c .byte-words in
     let at-loop = c .before .before .before .before .loop in
     let at-start = c .before .before .before .before .before .before .before .before in
-    omega (arith, c .byte-words .ensures .1, part-long (at-loop .to) (at-start .args .run .now), (at-loop .inv) .inside)
+    omega (arith, at-byte-words .ensures .1, part-long (at-loop .to) (at-start .args .run .now), (at-loop .inv) .inside)
 
 ranked-against-requires : tie.Need-ranked-against-requires Inv-loop μ-loop
 ranked-against-requires c κs = search needs
 
 returns : tie.Need-returns Inv-loop μ-loop
 returns c =
+    let at-if1 = c .if1 in
     let at-ranked-against = c .before .ranked-against in
     let at-byte-words = c .before .before .byte-words in
     let at-rank-of = c .before .before .before .before .rank-of in
@@ -109,7 +121,7 @@ returns c =
     λ own ps k. sym
     ((law.weighed (at-start .args .run .now) (at-start .args .prior) (at-start .args .at) (at-loop .to) (at-loop .len) (choiceSays (at-start .args .run .now) (at-start .args .best))
     (at-loop .top) (at-start .pre) (at-loop .inv) (at-ranked-against .result) (at-byte-words .result) (at-rank-of .result) (at-byte-words .ensures .0) (at-rank-of .ensures)
-    (at-ranked-against .ensures)) own ps k ∙ slices.further-long _ _ _ _ _ (c .if1 .taken))
+    (at-ranked-against .ensures)) own ps k ∙ slices.further-long _ _ _ _ _ (at-if1 .taken))
 
 sub-if2 : tie.Need-sub-if2 Inv-loop μ-loop
 sub-if2 c =
@@ -118,6 +130,7 @@ sub-if2 c =
 
 returns-2 : tie.Need-returns-2 Inv-loop μ-loop
 returns-2 c =
+    let at-if2 = c .if2 in
     let at-ranked-against = c .before .before .ranked-against in
     let at-byte-words = c .before .before .before .byte-words in
     let at-rank-of = c .before .before .before .before .before .rank-of in
@@ -127,7 +140,7 @@ returns-2 c =
     ((law.weighed (at-start .args .run .now) (at-start .args .prior) (at-start .args .at) (at-loop .to) (at-loop .len) (choiceSays (at-start .args .run .now) (at-start .args .best))
     (at-loop .top) (at-start .pre) (at-loop .inv) (at-ranked-against .result) (at-byte-words .result) (at-rank-of .result) (at-byte-words .ensures .0) (at-rank-of .ensures)
     (at-ranked-against .ensures)) own ps k
-    ∙ slices.further-none _ (drop (at-loop .to) (at-start .args .run .now)) _ _ _ (omega (arith, length-drop (at-loop .to) (at-start .args .run .now), c .if2 .taken)))
+    ∙ slices.further-none _ (drop (at-loop .to) (at-start .args .run .now)) _ _ _ (omega (arith, length-drop (at-loop .to) (at-start .args .run .now), at-if2 .taken)))
 
 mul-part-words-2 : tie.Need-mul-part-words-2 Inv-loop μ-loop
 mul-part-words-2 c =
@@ -156,10 +169,11 @@ part-words-requires-2 c κs =
 
 add-e : tie.Need-add-e Inv-loop μ-loop
 add-e c =
+    let at-part-words2 = c .part-words2 in
     let at-if2 = c .before .before .if2 in
     let at-loop = c .before .before .before .before .before .before .before .before .before .loop in
     let at-start = c .before .before .before .before .before .before .before .before .before .before .before .before .before in
-    omega (arith, law.part-inside (at-start .args .run .now) (at-start .args .prior) (at-start .args .at) (at-loop .to) (at-loop .len) (choiceSays (at-start .args .run .now) (at-start .args .best)) (at-loop .top) (at-start .pre) (at-loop .inv) (c .part-words2 .result) (c .part-words2 .ensures) (at-if2 .left) .0)
+    omega (arith, law.part-inside (at-start .args .run .now) (at-start .args .prior) (at-start .args .at) (at-loop .to) (at-loop .len) (choiceSays (at-start .args .run .now) (at-start .args .best)) (at-loop .top) (at-start .pre) (at-loop .inv) (at-part-words2 .result) (at-part-words2 .ensures) (at-if2 .left) .0)
 
 mul-length-of : tie.Need-mul-length-of Inv-loop μ-loop
 mul-length-of c =
@@ -174,21 +188,23 @@ part-length-of-start c = omega arith
 
 part-length-of-end : tie.Need-part-length-of-end Inv-loop μ-loop
 part-length-of-end c =
+    let at-part-words2 = c .part-words2 in
     let at-if2 = c .before .before .if2 in
     let at-loop = c .before .before .before .before .before .before .before .before .before .loop in
     let at-start = c .before .before .before .before .before .before .before .before .before .before .before .before .before in
-    law.part-inside (at-start .args .run .now) (at-start .args .prior) (at-start .args .at) (at-loop .to) (at-loop .len) (choiceSays (at-start .args .run .now) (at-start .args .best)) (at-loop .top) (at-start .pre) (at-loop .inv) (c .part-words2 .result) (c .part-words2 .ensures) (at-if2 .left) .0
+    law.part-inside (at-start .args .run .now) (at-start .args .prior) (at-start .args .at) (at-loop .to) (at-loop .len) (choiceSays (at-start .args .run .now) (at-start .args .best)) (at-loop .top) (at-start .pre) (at-loop .inv) (at-part-words2 .result) (at-part-words2 .ensures) (at-if2 .left) .0
 
 length-of-requires : tie.Need-length-of-requires Inv-loop μ-loop
 length-of-requires c κs = search needs
 
 add-len : tie.Need-add-len Inv-loop μ-loop
 add-len c =
+    let at-length-of = c .length-of in
     let at-part-words2 = c .before .before .part-words2 in
     let at-if1 = c .before .before .before .before .before .if1 in
     let at-loop = c .before .before .before .before .before .before .before .before .before .before .before .loop in
     let at-start = c .before .before .before .before .before .before .before .before .before .before .before .before .before .before .before in
-    omega (arith, at-if1 .left, c .length-of .ensures .1, length-take (at-loop .to + at-part-words2 .result - at-loop .to) (drop (at-loop .to) (at-start .args .run .now)), length-drop (at-loop .to) (at-start .args .run .now), (at-start .pre) .few)
+    omega (arith, at-if1 .left, at-length-of .ensures .1, length-take (at-loop .to + at-part-words2 .result - at-loop .to) (drop (at-loop .to) (at-start .args .run .now)), length-drop (at-loop .to) (at-start .args .run .now), (at-start .pre) .few)
 
 loop-less : tie.Need-loop-less Inv-loop μ-loop
 loop-less c =
@@ -207,6 +223,7 @@ loop-less c =
 
 loop-again : tie.Need-loop-again Inv-loop μ-loop
 loop-again c =
+    let at-length-of = c .length-of in
     let at-part-words2 = c .before .before .part-words2 in
     let at-if2 = c .before .before .before .before .if2 in
     let at-if1 = c .before .before .before .before .before .if1 in
@@ -216,8 +233,8 @@ loop-again c =
     let at-loop = c .before .before .before .before .before .before .before .before .before .before .before .loop in
     let at-start = c .before .before .before .before .before .before .before .before .before .before .before .before .before .before .before in
     law.going-on (at-start .args .run .now) (at-start .args .prior) (at-start .args .at) (at-loop .to) (at-loop .len) (choiceSays (at-start .args .run .now) (at-start .args .best)) (at-loop .top)
-    (at-start .pre) (at-loop .inv) (at-ranked-against .result) (at-part-words2 .result) (c .length-of .result) (at-loop .to + at-part-words2 .result) (at-part-words2 .ensures) (at-if2 .left)
-    (at-if1 .left) refl (c .length-of .ensures .0) (c .length-of .ensures .1)
+    (at-start .pre) (at-loop .inv) (at-ranked-against .result) (at-part-words2 .result) (at-length-of .result) (at-loop .to + at-part-words2 .result) (at-part-words2 .ensures) (at-if2 .left)
+    (at-if1 .left) refl (at-length-of .ensures .0) (at-length-of .ensures .1)
     (law.weighed (at-start .args .run .now) (at-start .args .prior) (at-start .args .at) (at-loop .to) (at-loop .len) (choiceSays (at-start .args .run .now) (at-start .args .best)) (at-loop .top)
     (at-start .pre) (at-loop .inv) (at-ranked-against .result) (at-byte-words .result) (at-rank-of .result) (at-byte-words .ensures .0) (at-rank-of .ensures) (at-ranked-against .ensures))
 

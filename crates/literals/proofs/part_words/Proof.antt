@@ -17,15 +17,17 @@ width-of-requires c κs = search needs
 
 returns : tie.Need-returns
 returns c =
+    let at-byte-words = c .byte-words in
     let at-if1 = c .before .if1 in
     let at-start = c .before .before .before .before in
-    c .byte-words .ensures .0 ∙ parts.part-end-bytes (at-start .args .ws .now) (at-if1 .taken)
+    at-byte-words .ensures .0 ∙ parts.part-end-bytes (at-start .args .ws .now) (at-if1 .taken)
 
 returns-2 : tie.Need-returns-2
 returns-2 c =
+    let at-width-of = c .width-of in
     let at-if1 = c .before .if1 in
     let at-start = c .before .before .before .before in
-    c .width-of .ensures ∙ parts.part-end-token (at-start .args .ws .now) (at-if1 .left)
+    at-width-of .ensures ∙ parts.part-end-token (at-start .args .ws .now) (at-if1 .left)
 
 pub part-words-spec : {M : Type 1} → statement M
 part-words-spec =

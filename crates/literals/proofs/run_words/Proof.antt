@@ -27,37 +27,42 @@ closes-run-requires c κs = search needs
 
 returns : tie.Need-returns Inv-loop μ-loop
 returns c =
+    let at-if1 = c .if1 in
     let at-closes-run = c .before .closes-run in
     let at-loop-test = c .before .before .loop-test in
     let at-loop = c .before .before .before .loop in
-    (omega (arith, at-loop .inv .1, law.run-end-closed (at-loop .rest .now) (at-loop-test .taken) (sym (at-closes-run .ensures) ∙ c .if1 .taken)), omega (arith, at-loop .inv .0))
+    (omega (arith, at-loop .inv .1, law.run-end-closed (at-loop .rest .now) (at-loop-test .taken) (sym (at-closes-run .ensures) ∙ at-if1 .taken)), omega (arith, at-loop .inv .0))
 
 width-of-requires : tie.Need-width-of-requires Inv-loop μ-loop
 width-of-requires c κs = search needs
 
 add-n : tie.Need-add-n Inv-loop μ-loop
 add-n c =
+    let at-width-of = c .width-of in
     let at-loop-test = c .before .before .before .loop-test in
     let at-loop = c .before .before .before .before .loop in
-    omega (arith, at-loop .inv .0, (c .width-of .ensures), (step.width-le (at-loop .rest .now) (at-loop-test .taken)))
+    omega (arith, at-loop .inv .0, (at-width-of .ensures), (step.width-le (at-loop .rest .now) (at-loop-test .taken)))
 
 mul-rest : tie.Need-mul-rest Inv-loop μ-loop
 mul-rest c =
+    let at-width-of = c .width-of in
     let at-loop-test = c .before .before .before .loop-test in
     let at-loop = c .before .before .before .before .loop in
-    omega (arith, (c .width-of .ensures), (step.width-le (at-loop .rest .now) (at-loop-test .taken)), at-loop .inv .0)
+    omega (arith, (at-width-of .ensures), (step.width-le (at-loop .rest .now) (at-loop-test .taken)), at-loop .inv .0)
 
 sub-rest : tie.Need-sub-rest Inv-loop μ-loop
 sub-rest c =
+    let at-width-of = c .width-of in
     let at-loop-test = c .before .before .before .loop-test in
     let at-loop = c .before .before .before .before .loop in
-    omega (arith, (c .width-of .ensures), (step.width-le (at-loop .rest .now) (at-loop-test .taken)))
+    omega (arith, (at-width-of .ensures), (step.width-le (at-loop .rest .now) (at-loop-test .taken)))
 
 part-rest-start : tie.Need-part-rest-start Inv-loop μ-loop
 part-rest-start c =
+    let at-width-of = c .width-of in
     let at-loop-test = c .before .before .before .loop-test in
     let at-loop = c .before .before .before .before .loop in
-    omega (arith, (c .width-of .ensures), (step.width-le (at-loop .rest .now) (at-loop-test .taken)))
+    omega (arith, (at-width-of .ensures), (step.width-le (at-loop .rest .now) (at-loop-test .taken)))
 
 part-rest-end : tie.Need-part-rest-end Inv-loop μ-loop
 part-rest-end c = search needs
@@ -85,8 +90,9 @@ loop-again c =
 
 returns-2 : tie.Need-returns-2 Inv-loop μ-loop
 returns-2 c =
+    let at-loop-test = c .loop-test in
     let at-loop = c .before .loop in
-    (omega (arith, at-loop .inv .1, law.run-end-none (at-loop .rest .now) (omega (arith, c .loop-test .left))), omega (arith, at-loop .inv .0))
+    (omega (arith, at-loop .inv .1, law.run-end-none (at-loop .rest .now) (omega (arith, at-loop-test .left))), omega (arith, at-loop .inv .0))
 
 pub run-words-spec : {M : Type 1} → statement M
 run-words-spec =

@@ -38,8 +38,9 @@ literal-score-requires c κs = search needs
 
 returns : tie.Need-returns
 returns c =
+    let at-literal-score = c .literal-score in
     let at-write-literal = c .before .before .before .before .write-literal in
-    c .literal-score .ensures ∙ ap literalScore (law.scratch-front _ _ _ _ (at-write-literal .ensures))
+    at-literal-score .ensures ∙ ap literalScore (law.scratch-front _ _ _ _ (at-write-literal .ensures))
 
 pub score-at-spec : {M : Type 1} → statement M
 score-at-spec =

@@ -20,7 +20,9 @@ loop-holds c =
     law.passed-start (at-start .args .run .now) ((at-start .pre) .0) ((at-start .pre) .1)
 
 sub-loop : tie.Need-sub-loop Inv-loop μ-loop
-sub-loop c = (c .loop .inv) .inside
+sub-loop c =
+    let at-loop = c .loop in
+    (at-loop .inv) .inside
 
 mul-part-words : tie.Need-mul-part-words Inv-loop μ-loop
 mul-part-words c =
@@ -49,10 +51,11 @@ part-words-requires c κs =
 
 add-e : tie.Need-add-e Inv-loop μ-loop
 add-e c =
+    let at-part-words = c .part-words in
     let at-loop-test = c .before .before .loop-test in
     let at-loop = c .before .before .before .loop in
     let at-start = c .before .before .before .before .before in
-    omega (arith, (law.front-inside (at-start .args .run .now) ((at-start .pre) .0) (at-loop .at) (at-loop .inv) (at-loop-test .taken) (c .part-words .result) (c .part-words .ensures)) .0)
+    omega (arith, (law.front-inside (at-start .args .run .now) ((at-start .pre) .0) (at-loop .at) (at-loop .inv) (at-loop-test .taken) (at-part-words .result) (at-part-words .ensures)) .0)
 
 mul-if1 : tie.Need-mul-if1 Inv-loop μ-loop
 mul-if1 c =
@@ -99,13 +102,14 @@ score-at-requires c κs =
 
 returns : tie.Need-returns Inv-loop μ-loop
 returns c =
+    let at-if2 = c .if2 in
     let at-score-at = c .before .score-at in
     let at-if1 = c .before .before .before .if1 in
     let at-part-words = c .before .before .before .before .before .part-words in
     let at-loop-test = c .before .before .before .before .before .before .before .loop-test in
     let at-loop = c .before .before .before .before .before .before .before .before .loop in
     let at-start = c .before .before .before .before .before .before .before .before .before .before in
-    law.alone-wins (at-start .args .run .now) ((at-start .pre) .0) (at-loop .at) (at-loop .inv) (at-loop-test .taken) (at-part-words .result) (at-part-words .ensures) (at-if1 .taken) (at-score-at .result) (at-score-at .ensures) (c .if2 .taken)
+    law.alone-wins (at-start .args .run .now) ((at-start .pre) .0) (at-loop .at) (at-loop .inv) (at-loop-test .taken) (at-part-words .result) (at-part-words .ensures) (at-if1 .taken) (at-score-at .result) (at-score-at .ensures) (at-if2 .taken)
 
 loop-less : tie.Need-loop-less Inv-loop μ-loop
 loop-less c =
@@ -117,13 +121,14 @@ loop-less c =
 
 loop-again : tie.Need-loop-again Inv-loop μ-loop
 loop-again c =
+    let at-if2 = c .if2 in
     let at-score-at = c .before .score-at in
     let at-if1 = c .before .before .before .if1 in
     let at-part-words = c .before .before .before .before .before .part-words in
     let at-loop-test = c .before .before .before .before .before .before .before .loop-test in
     let at-loop = c .before .before .before .before .before .before .before .before .loop in
     let at-start = c .before .before .before .before .before .before .before .before .before .before in
-    law.passed-weak (at-start .args .run .now) ((at-start .pre) .0) (at-loop .at) (at-loop .inv) (at-loop-test .taken) (at-part-words .result) (at-part-words .ensures) (at-if1 .taken) (at-score-at .result) (at-score-at .ensures) (c .if2 .left)
+    law.passed-weak (at-start .args .run .now) ((at-start .pre) .0) (at-loop .at) (at-loop .inv) (at-loop-test .taken) (at-part-words .result) (at-part-words .ensures) (at-if1 .taken) (at-score-at .result) (at-score-at .ensures) (at-if2 .left)
 
 loop-less-2 : tie.Need-loop-less-2 Inv-loop μ-loop
 loop-less-2 c =
@@ -135,17 +140,19 @@ loop-less-2 c =
 
 loop-again-2 : tie.Need-loop-again-2 Inv-loop μ-loop
 loop-again-2 c =
+    let at-if1 = c .if1 in
     let at-part-words = c .before .before .part-words in
     let at-loop-test = c .before .before .before .before .loop-test in
     let at-loop = c .before .before .before .before .before .loop in
     let at-start = c .before .before .before .before .before .before .before in
-    law.passed-other (at-start .args .run .now) ((at-start .pre) .0) (at-loop .at) (at-loop .inv) (at-loop-test .taken) (at-part-words .result) (at-part-words .ensures) (c .if1 .left)
+    law.passed-other (at-start .args .run .now) ((at-start .pre) .0) (at-loop .at) (at-loop .inv) (at-loop-test .taken) (at-part-words .result) (at-part-words .ensures) (at-if1 .left)
 
 returns-2 : tie.Need-returns-2 Inv-loop μ-loop
 returns-2 c =
+    let at-loop-test = c .loop-test in
     let at-loop = c .before .loop in
     let at-start = c .before .before .before in
-    law.passed-done (at-start .args .run .now) ((at-start .pre) .0) (at-loop .at) (at-loop .inv) (c .loop-test .left)
+    law.passed-done (at-start .args .run .now) ((at-start .pre) .0) (at-loop .at) (at-loop .inv) (at-loop-test .left)
 
 pub strong-part-spec : {M : Type 1} → statement M
 strong-part-spec =

@@ -9,8 +9,9 @@ use Rattle.mirror.proofs.mirror.Tie as tie
 
 returns : tie.Need-returns
 returns c =
+    let at-if1 = c .if1 in
     let at-start = c .before .before .before in
-    law.no-room (at-start .args .words .now) (at-start .args .pool .now) (c .if1 .taken)
+    law.no-room (at-start .args .words .now) (at-start .args .pool .now) (at-if1 .taken)
 
 zero-words-requires : tie.Need-zero-words-requires
 zero-words-requires c κs = search needs

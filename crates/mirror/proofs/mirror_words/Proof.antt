@@ -33,11 +33,12 @@ same-length c = search needs
 
 returns : tie.Need-returns Inv-loop μ-loop
 returns c =
+    let at-enum-told = c .enum-told in
     let at-first-word = c .before .before .first-word in
     let at-loop = c .before .before .before .loop in
     let at-start = c .before .before .before .before .before .before in
     let l = at-loop in
-    law.items-end (at-start .args .words .now) (l .out) (l .ns .now) (l .inv) (sym (at-first-word .ensures) ∙ c .enum-told .given .1)
+    law.items-end (at-start .args .words .now) (l .out) (l .ns .now) (l .inv) (sym (at-first-word .ensures) ∙ at-enum-told .given .1)
 
 item-inside-requires : tie.Need-item-inside-requires Inv-loop μ-loop
 item-inside-requires c κs = search needs
@@ -53,6 +54,7 @@ same-length-2 c = search needs
 
 returns-2 : tie.Need-returns-2 Inv-loop μ-loop
 returns-2 c =
+    let at-enum-told2 = c .enum-told2 in
     let at-item-inside = c .before .before .item-inside in
     let at-w = c .before .before .before .before .w in
     let at-first-word = c .before .before .before .before .before .before .first-word in
@@ -60,7 +62,7 @@ returns-2 c =
     let l = at-loop in
     let w = at-w .given in
     let first = sym (at-first-word .ensures) ∙ w .1 in
-    law.items-unfit (l .ns .now) (w .0 .0) (l .inv .sound) first (sym (at-item-inside .ensures) ∙ c .enum-told2 .given .1)
+    law.items-unfit (l .ns .now) (w .0 .0) (l .inv .sound) first (sym (at-item-inside .ensures) ∙ at-enum-told2 .given .1)
 
 cast-whole : tie.Need-cast-whole Inv-loop μ-loop
 cast-whole c = search needs

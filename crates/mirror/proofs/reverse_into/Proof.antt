@@ -17,9 +17,10 @@ abbrev μ-loop : tie.MeasureT-loop
 
 loop-holds : tie.Need-loop-holds Inv-loop μ-loop
 loop-holds c =
-    let src = c .args .src .now in
-    let dst = c .args .dst .now in
-    let same = c .pre in
+    let at-start = c in
+    let src = at-start .args .src .now in
+    let dst = at-start .args .dst .now in
+    let same = at-start .pre in
     (omega arith, same, law.reversed-none src dst same)
 
 sub-to : tie.Need-sub-to Inv-loop μ-loop

@@ -52,13 +52,15 @@ returns c = search needs
 
 returns-2 : tie.Need-returns-2
 returns-2 c =
+    let at-made = c .made in
     let at-n2 = c .before .before .n2 in
-    c .made .ensures ∙ rw (at-n2 .given .1)
+    at-made .ensures ∙ rw (at-n2 .given .1)
 
 returns-3 : tie.Need-returns-3
 returns-3 c =
+    let at-made2 = c .made2 in
     let at-n3 = c .before .before .n3 in
-    c .made2 .ensures ∙ rw (at-n3 .given .1)
+    at-made2 .ensures ∙ rw (at-n3 .given .1)
 
 returns-4 : tie.Need-returns-4
 returns-4 c =
@@ -67,8 +69,9 @@ returns-4 c =
 
 returns-5 : tie.Need-returns-5
 returns-5 c =
+    let at-made3 = c .made3 in
     let at-n5 = c .before .before .n5 in
-    c .made3 .ensures ∙ rw (at-n5 .given .1)
+    at-made3 .ensures ∙ rw (at-n5 .given .1)
 
 returns-6 : tie.Need-returns-6
 returns-6 c = search needs

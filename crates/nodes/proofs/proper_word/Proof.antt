@@ -7,7 +7,9 @@ use Rattle.nodes.proofs.proper_word.Tie as tie
 
 returns : tie.Need-returns
 unfolding proper
-returns c = rw (le-ltb _ _ (c .if1 .taken))
+returns c =
+    let at-if1 = c .if1 in
+    rw (le-ltb _ _ (at-if1 .taken))
 
 mul-result : tie.Need-mul-result
 mul-result c = search needs
@@ -18,64 +20,74 @@ add-result c = search needs
 returns-2 : tie.Need-returns-2
 unfolding proper properBy
 returns-2 c =
+    let at-match = c .match in
     let at-if1 = c .before .if1 in
-    rw (lt-ltb _ _ (at-if1 .left), c .match .keys1)
+    rw (lt-ltb _ _ (at-if1 .left), at-match .keys1)
 
 returns-3 : tie.Need-returns-3
 unfolding proper properBy
 returns-3 c =
+    let at-match = c .match in
     let at-if1 = c .before .if1 in
-    rw (lt-ltb _ _ (at-if1 .left), c .match .keys2)
+    rw (lt-ltb _ _ (at-if1 .left), at-match .keys2)
 
 returns-4 : tie.Need-returns-4
 unfolding proper properBy
 returns-4 c =
+    let at-match = c .match in
     let at-if1 = c .before .if1 in
-    rw (lt-ltb _ _ (at-if1 .left), c .match .keys3)
+    rw (lt-ltb _ _ (at-if1 .left), at-match .keys3)
 
 returns-5 : tie.Need-returns-5
 unfolding proper properBy
 returns-5 c =
+    let at-match = c .match in
     let at-if1 = c .before .if1 in
-    rw (lt-ltb _ _ (at-if1 .left), c .match .keys4)
+    rw (lt-ltb _ _ (at-if1 .left), at-match .keys4)
 
 returns-6 : tie.Need-returns-6
 unfolding proper properBy
 returns-6 c =
+    let at-match = c .match in
     let at-if1 = c .before .if1 in
-    rw (lt-ltb _ _ (at-if1 .left), c .match .keys5)
+    rw (lt-ltb _ _ (at-if1 .left), at-match .keys5)
 
 returns-7 : tie.Need-returns-7
 unfolding proper properBy
 returns-7 c =
+    let at-if2 = c .if2 in
     let at-match = c .before .match in
     let at-if1 = c .before .before .if1 in
-    rw (lt-ltb _ _ (at-if1 .left), at-match .keys6, eq-eqb _ 0 (c .if2 .taken))
+    rw (lt-ltb _ _ (at-if1 .left), at-match .keys6, eq-eqb _ 0 (at-if2 .taken))
 
 returns-8 : tie.Need-returns-8
 unfolding proper properBy
 returns-8 c =
+    let at-if2 = c .if2 in
     let at-match = c .before .match in
     let at-if1 = c .before .before .if1 in
-    rw (lt-ltb _ _ (at-if1 .left), at-match .keys6, ne-eqb _ 0 (c .if2 .left))
+    rw (lt-ltb _ _ (at-if1 .left), at-match .keys6, ne-eqb _ 0 (at-if2 .left))
 
 returns-9 : tie.Need-returns-9
 unfolding proper properBy
 returns-9 c =
+    let at-match = c .match in
     let at-if1 = c .before .if1 in
-    rw (lt-ltb _ _ (at-if1 .left), c .match .keys7)
+    rw (lt-ltb _ _ (at-if1 .left), at-match .keys7)
 
 returns-10 : tie.Need-returns-10
 unfolding proper properBy
 returns-10 c =
+    let at-match = c .match in
     let at-if1 = c .before .if1 in
-    rw (lt-ltb _ _ (at-if1 .left), c .match .keys8)
+    rw (lt-ltb _ _ (at-if1 .left), at-match .keys8)
 
 returns-11 : tie.Need-returns-11
 unfolding proper properBy
 returns-11 c =
+    let at-match = c .match in
     let at-if1 = c .before .if1 in
-    let r = c .match .rest in simp (lt-ltb _ _ (at-if1 .left), ne-eqb _ 0 (r .0 .0 .0 .0 .0 .0 .0 .1), ne-eqb _ 1 (r .0 .0 .0 .0 .0 .0 .1), ne-eqb _ 2 (r .0 .0 .0 .0 .0 .1), ne-eqb _ 3 (r .0 .0 .0 .0 .1), ne-eqb _ 4 (r .0 .0 .0 .1), ne-eqb _ 5 (r .0 .0 .1), ne-eqb _ 6 (r .0 .1), ne-eqb _ 7 (r .1))
+    let r = at-match .rest in simp (lt-ltb _ _ (at-if1 .left), ne-eqb _ 0 (r .0 .0 .0 .0 .0 .0 .0 .1), ne-eqb _ 1 (r .0 .0 .0 .0 .0 .0 .1), ne-eqb _ 2 (r .0 .0 .0 .0 .0 .1), ne-eqb _ 3 (r .0 .0 .0 .0 .1), ne-eqb _ 4 (r .0 .0 .0 .1), ne-eqb _ 5 (r .0 .0 .1), ne-eqb _ 6 (r .0 .1), ne-eqb _ 7 (r .1))
 
 pub proper-word-spec : {M : Type 1} → statement M
 proper-word-spec =

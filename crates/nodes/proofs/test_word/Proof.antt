@@ -30,18 +30,21 @@ made-requires-4 c κs = search needs
 
 returns : tie.Need-returns
 returns c =
+    let at-made = c .made in
     let at-t = c .before .before .t in
-    c .made .ensures ∙ rw (at-t .given .1)
+    at-made .ensures ∙ rw (at-t .given .1)
 
 returns-2 : tie.Need-returns-2
 returns-2 c =
+    let at-made2 = c .made2 in
     let at-t2 = c .before .before .t2 in
-    c .made2 .ensures ∙ rw (at-t2 .given .1)
+    at-made2 .ensures ∙ rw (at-t2 .given .1)
 
 returns-3 : tie.Need-returns-3
 returns-3 c =
+    let at-made3 = c .made3 in
     let at-t3 = c .before .before .t3 in
-    c .made3 .ensures ∙ rw (at-t3 .given .1)
+    at-made3 .ensures ∙ rw (at-t3 .given .1)
 
 returns-4 : tie.Need-returns-4
 returns-4 c = search needs

@@ -12,8 +12,9 @@ add-result c = search needs
 returns : tie.Need-returns
 unfolding laid
 returns c =
+    let at-if1 = c .if1 in
     let at-start = c .before in
-    record { next = refl; holds = sym (set-out (at-start .args .out .now) (at-start .args .at) (at-start .args .b) (c .if1 .taken)) }
+    record { next = refl; holds = sym (set-out (at-start .args .out .now) (at-start .args .at) (at-start .args .b) (at-if1 .taken)) }
 
 slice-write-out : tie.Need-slice-write-out
 slice-write-out c = search needs

@@ -31,8 +31,9 @@ shared-slice-read-least c = search needs
 
 cast-least : tie.Need-cast-least Inv-loop μ-loop
 cast-least c =
+    let at-shared-slice-known3 = c .shared-slice-known3 in
     let at-loop = c .before .before .loop in
-    omega (arith, c .shared-slice-known3 .given (at-loop .i))
+    omega (arith, at-shared-slice-known3 .given (at-loop .i))
 
 sub-least : tie.Need-sub-least Inv-loop μ-loop
 sub-least c = search needs
@@ -90,11 +91,12 @@ same-length c =
 
 returns : tie.Need-returns Inv-loop μ-loop
 returns c =
+    let at-loop-test = c .loop-test in
     let at-loop = c .before .loop in
     let at-start = c .before .before .before .before .before in
     let l = at-loop in
     let a = at-start .args in
-    let e = literals-none (a .lens .now) (drop (l .from) (a .bytes .now)) (l .i) (c .loop-test .left) in
+    let e = literals-none (a .lens .now) (drop (l .from) (a .bytes .now)) (l .i) (at-loop-test .left) in
     l .inv .4 (l .k) (l .out) (put-same (literalLines (cut (drop (l .i) (a .lens .now)) (drop (l .from) (a .bytes .now)))) (put-none (l .out) (l .k)) (sym e))
 
 pub put-each-literal-spec : {M : Type 1} → statement M

@@ -139,11 +139,12 @@ returns-5 c =
 
 returns-6 : tie.Need-returns-6
 returns-6 c =
+    let at-enum-told = c .enum-told in
     let at-node-of = c .before .before .node-of in
     let at-start = c .before .before .before .before in
     let a = at-start .args in
     let n = at-node-of in
-    put-same (nodeLine (a .w)) (put-none (a .out .now) (a .at)) (node-line (a .w) (n .result) _ (n .ensures) (c .enum-told .given .1))
+    put-same (nodeLine (a .w)) (put-none (a .out .now) (a .at)) (node-line (a .w) (n .result) _ (n .ensures) (at-enum-told .given .1))
 
 pub put-node-spec : {M : Type 1} → statement M
 put-node-spec =

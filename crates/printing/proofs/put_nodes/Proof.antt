@@ -60,11 +60,12 @@ same-length c =
 
 returns : tie.Need-returns Inv-loop μ-loop
 returns c =
+    let at-loop-test = c .loop-test in
     let at-loop = c .before .loop in
     let at-start = c .before .before .before .before in
     let l = at-loop in
     let s = at-start .args .words .now in
-    put-same (each nodeLine s) (l .inv .2) (ap (each nodeLine) (take-all (l .i) s (c .loop-test .left)))
+    put-same (each nodeLine s) (l .inv .2) (ap (each nodeLine) (take-all (l .i) s (at-loop-test .left)))
 
 pub put-nodes-spec : {M : Type 1} → statement M
 put-nodes-spec =

@@ -10,8 +10,9 @@ use Rattle.readdoor.proofs.read.Tie as tie
 
 returns : tie.Need-returns
 returns c =
+    let at-if1 = c .if1 in
     let at-start = c .before .before .before in
-    door-small (at-start .args .text .now) (at-start .args .pool .now) (c .if1 .taken)
+    door-small (at-start .args .text .now) (at-start .args .pool .now) (at-if1 .taken)
 
 sub-read-text : tie.Need-sub-read-text
 sub-read-text c = search needs

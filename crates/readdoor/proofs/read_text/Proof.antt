@@ -12,18 +12,20 @@ use Rattle.readdoor.proofs.read_text.Tie as tie
 
 returns : tie.Need-returns
 returns c =
+    let at-if1 = c .if1 in
     let at-start = c .before .before .before in
-    text-refused (reading (at-start .args .text .now)) (at-start .args .pool .now) (at-start .args .pool .now) TextTooLong 0 (text-long (at-start .args .text .now) (c .if1 .taken))
+    text-refused (reading (at-start .args .text .now)) (at-start .args .pool .now) (at-start .args .pool .now) TextTooLong 0 (text-long (at-start .args .text .now) (at-if1 .taken))
 
 peek-requires : tie.Need-peek-requires
 peek-requires c κs = search needs
 
 returns-2 : tie.Need-returns-2
 returns-2 c =
+    let at-if2 = c .if2 in
     let at-peek = c .before .peek in
     let at-if1 = c .before .before .if1 in
     let at-start = c .before .before .before .before .before in
-    text-refused (reading (at-start .args .text .now)) (at-start .args .pool .now) (at-start .args .pool .now) Unexpected 0 (text-unopened (at-start .args .text .now) (at-if1 .left) (λ z. c .if2 .taken (at-peek .ensures ∙ z)))
+    text-refused (reading (at-start .args .text .now)) (at-start .args .pool .now) (at-start .args .pool .now) Unexpected 0 (text-unopened (at-start .args .text .now) (at-if1 .left) (λ z. at-if2 .taken (at-peek .ensures ∙ z)))
 
 skip-blanks-requires : tie.Need-skip-blanks-requires
 skip-blanks-requires c κs = search needs
@@ -48,6 +50,7 @@ same-length c = search needs
 
 returns-3 : tie.Need-returns-3
 returns-3 c =
+    let at-if3 = c .if3 in
     let at-peek2 = c .before .peek2 in
     let at-got = c .before .before .before .got in
     let at-read-list = c .before .before .before .before .before .before .before .read-list in
@@ -58,14 +61,15 @@ returns-3 c =
     let at-start = c .before .before .before .before .before .before .before .before .before .before .before .before .before .before .before in
     text-open (at-start .args .text .now) (at-skip-blanks .result) (at-if1 .left) (sym (at-peek .ensures) ∙ at-if2 .left) (at-skip-blanks .ensures) (at-read-list .result) (at-start .args .pool .now)
     (at-read-list .last .1 .1 .1 .1 .0) (at-read-list .ensures) (at-got .given .0 .0) (at-got .given .0 .1 .0) (at-got .given .0 .1 .1 .0) (at-got .given .0 .1 .1 .1 .0) (at-got .given .1)
-    (λ z. c .if3 .taken (at-peek2 .ensures ∙ z))
+    (λ z. at-if3 .taken (at-peek2 .ensures ∙ z))
 
 add-skip-blanks : tie.Need-add-skip-blanks
 add-skip-blanks c =
+    let at-if3 = c .if3 in
     let at-peek2 = c .before .peek2 in
     let at-got = c .before .before .before .got in
     let at-start = c .before .before .before .before .before .before .before .before .before .before .before .before .before .before .before in
-    omega (arith, here-at (at-start .args .text .now) (at-got .given .0 .0) 125 (sym (at-peek2 .ensures) ∙ c .if3 .left) (omega arith))
+    omega (arith, here-at (at-start .args .text .now) (at-got .given .0 .0) 125 (sym (at-peek2 .ensures) ∙ at-if3 .left) (omega arith))
 
 skip-blanks-requires-2 : tie.Need-skip-blanks-requires-2
 skip-blanks-requires-2 c κs = search needs
@@ -81,6 +85,7 @@ same-length-2 c = search needs
 
 returns-4 : tie.Need-returns-4
 returns-4 c =
+    let at-skip-blanks2 = c .skip-blanks2 in
     let at-if3 = c .before .if3 in
     let at-peek2 = c .before .before .peek2 in
     let at-got = c .before .before .before .before .got in
@@ -91,21 +96,22 @@ returns-4 c =
     let at-if1 = c .before .before .before .before .before .before .before .before .before .before .before .before .before .if1 in
     let at-start = c .before .before .before .before .before .before .before .before .before .before .before .before .before .before .before .before in
     text-done (at-start .args .text .now) (at-skip-blanks .result) (at-if1 .left) (sym (at-peek .ensures) ∙ at-if2 .left) (at-skip-blanks .ensures) (at-read-list .result) (at-start .args .pool .now)
-    (at-read-list .last .1 .1 .1 .1 .0) (at-read-list .ensures) (at-got .given .0 .0) (at-got .given .0 .1 .0) (at-got .given .0 .1 .1 .0) (at-got .given .0 .1 .1 .1 .0) (c .skip-blanks2 .result)
-    (at-got .given .1) (sym (at-peek2 .ensures) ∙ at-if3 .left) (c .skip-blanks2 .ensures)
+    (at-read-list .last .1 .1 .1 .1 .0) (at-read-list .ensures) (at-got .given .0 .0) (at-got .given .0 .1 .0) (at-got .given .0 .1 .1 .0) (at-got .given .0 .1 .1 .1 .0) (at-skip-blanks2 .result)
+    (at-got .given .1) (sym (at-peek2 .ensures) ∙ at-if3 .left) (at-skip-blanks2 .ensures)
 
 same-length-3 : tie.Need-same-length-3
 same-length-3 c = search needs
 
 returns-5 : tie.Need-returns-5
 returns-5 c =
+    let at-enum-told = c .enum-told in
     let at-read-list = c .before .before .before .before .read-list in
     let at-skip-blanks = c .before .before .before .before .before .before .skip-blanks in
     let at-if2 = c .before .before .before .before .before .before .before .if2 in
     let at-peek = c .before .before .before .before .before .before .before .before .peek in
     let at-if1 = c .before .before .before .before .before .before .before .before .before .if1 in
     let at-start = c .before .before .before .before .before .before .before .before .before .before .before .before in
-    text-missing (at-start .args .text .now) (at-skip-blanks .result) (at-if1 .left) (sym (at-peek .ensures) ∙ at-if2 .left) (at-skip-blanks .ensures) (at-read-list .result) (at-start .args .pool .now) (at-read-list .last .1 .1 .1 .1 .0) (at-read-list .ensures) (c .enum-told .given .1)
+    text-missing (at-start .args .text .now) (at-skip-blanks .result) (at-if1 .left) (sym (at-peek .ensures) ∙ at-if2 .left) (at-skip-blanks .ensures) (at-read-list .result) (at-start .args .pool .now) (at-read-list .last .1 .1 .1 .1 .0) (at-read-list .ensures) (at-enum-told .given .1)
 
 same-length-4 : tie.Need-same-length-4
 same-length-4 c = search needs

@@ -92,18 +92,20 @@ module _ (t : ℕ) where
 
   read-alternatives-returns : read-alternatives-lts.Need-returns (read-alternatives-claims t) (read-alternatives-at t) read-alternatives.Post read-alternatives-Inv-loop read-alternatives-μ-loop
   read-alternatives-returns c =
+      let at-if1 = c .if1 in
       let at-peek = c .before .peek in
       let at-start = c .before .before .before .before in
-      says-absent (alternatives (at-start .args .text .now) (at-start .args .level) (at-start .args .count) (at-start .args .at)) (at-start .args .n) (at-start .args .pool .now) (no-bracket (at-start .args .text .now) (at-start .args .level) (at-start .args .count) (at-start .args .at) (λ z. c .if1 .taken (at-peek .ensures ∙ z)))
+      says-absent (alternatives (at-start .args .text .now) (at-start .args .level) (at-start .args .count) (at-start .args .at)) (at-start .args .n) (at-start .args .pool .now) (no-bracket (at-start .args .text .now) (at-start .args .level) (at-start .args .count) (at-start .args .at) (λ z. at-if1 .taken (at-peek .ensures ∙ z)))
 
   read-alternatives-returns-2 : read-alternatives-lts.Need-returns-2 (read-alternatives-claims t) (read-alternatives-at t) read-alternatives.Post read-alternatives-Inv-loop read-alternatives-μ-loop
   read-alternatives-returns-2 c =
+      let at-if2 = c .if2 in
       let at-if1 = c .before .if1 in
       let at-peek = c .before .before .peek in
       let at-start = c .before .before .before .before .before in
       says-refused (alternatives (at-start .args .text .now) (at-start .args .level) (at-start .args .count) (at-start .args .at)) (at-start .args .n) (at-start .args .pool .now)
       (at-start .args .pool .now) TooManyTokens (at-start .args .at)
-      (bracket-full (at-start .args .text .now) (at-start .args .level) (at-start .args .count) (at-start .args .at) (sym (at-peek .ensures) ∙ at-if1 .left) (c .if2 .taken))
+      (bracket-full (at-start .args .text .now) (at-start .args .level) (at-start .args .count) (at-start .args .at) (sym (at-peek .ensures) ∙ at-if1 .left) (at-if2 .taken))
 
   read-alternatives-add-skip-blanks : read-alternatives-lts.Need-add-skip-blanks (read-alternatives-claims t) (read-alternatives-at t) read-alternatives.Post read-alternatives-Inv-loop read-alternatives-μ-loop
   read-alternatives-add-skip-blanks c =
@@ -129,12 +131,13 @@ module _ (t : ℕ) where
 
   read-alternatives-loop-holds : read-alternatives-lts.Need-loop-holds (read-alternatives-claims t) (read-alternatives-at t) read-alternatives.Post read-alternatives-Inv-loop read-alternatives-μ-loop
   read-alternatives-loop-holds c =
+      let at-skip-blanks = c .skip-blanks in
       let at-if2 = c .before .if2 in
       let at-if1 = c .before .before .if1 in
       let at-peek = c .before .before .before .peek in
       let at-start = c .before .before .before .before .before .before in
       subst (λ (x : ℕ). Listed (at-start .args .text .now) (at-start .args .level) (at-start .args .count) (at-start .args .at) (at-start .args .n) (at-start .args .pool .now)
-      (at-start .args .pool .now) x x ((at-start .args .n) + 4) ((at-start .args .count) + 1) 0) (sym (c .skip-blanks .ensures))
+      (at-start .args .pool .now) x x ((at-start .args .n) + 4) ((at-start .args .count) + 1) 0) (sym (at-skip-blanks .ensures))
       (listed-start (at-start .args .text .now) (at-start .args .level) (at-start .args .count) (at-start .args .at) (at-start .args .n) (at-start .args .pool .now)
       (here-at (at-start .args .text .now) (at-start .args .at) 40 (sym (at-peek .ensures) ∙ at-if1 .left) (omega arith)) (at-start .pre .1 .0 .used) (at-if2 .left))
 
@@ -225,6 +228,7 @@ module _ (t : ℕ) where
 
   read-alternatives-returns-3 : read-alternatives-lts.Need-returns-3 (read-alternatives-claims t) (read-alternatives-at t) read-alternatives.Post read-alternatives-Inv-loop read-alternatives-μ-loop
   read-alternatives-returns-3 c =
+      let at-skip-blanks2 = c .skip-blanks2 in
       let at-put-head2 = c .before .before .before .put-head2 in
       let at-if3 = c .before .before .before .before .before .if3 in
       let at-peek2 = c .before .before .before .before .before .before .peek2 in
@@ -245,8 +249,8 @@ module _ (t : ℕ) where
       let r′ : at-loop .m + 4 ≤ length (at-start .args .pool .now) = omega arith in listed-done (at-start .args .text .now) (at-start .args .level) (at-start .args .count) (at-start .args .at)
       (at-start .args .n) (at-start .args .pool .now) (at-loop .pool) (at-loop .x) (at-loop .miss) (at-loop .m) (at-loop .c) (at-loop .k) (at-loop .inv) (at-read-list .result)
       (at-read-list .last .1 .1 .1 .1 .0) (at-read-list .ensures) (at-got .given .0 .0) (at-got .given .0 .1 .0) (at-got .given .0 .1 .1 .0) (at-got .given .0 .1 .1 .1 .0)
-      (c .skip-blanks2 .result) (at-put-head .last .0) (at-put-head2 .last .0) r r′ (sym (at-peek .ensures) ∙ at-if1 .left) f (at-got .given .1) (at-put-head .ensures) (at-put-head2 .ensures)
-      (sym (at-peek2 .ensures) ∙ at-if3 .taken) (c .skip-blanks2 .ensures)
+      (at-skip-blanks2 .result) (at-put-head .last .0) (at-put-head2 .last .0) r r′ (sym (at-peek .ensures) ∙ at-if1 .left) f (at-got .given .1) (at-put-head .ensures) (at-put-head2 .ensures)
+      (sym (at-peek2 .ensures) ∙ at-if3 .taken) (at-skip-blanks2 .ensures)
 
   read-alternatives-same-length-2 : read-alternatives-lts.Need-same-length-2 (read-alternatives-claims t) (read-alternatives-at t) read-alternatives.Post read-alternatives-Inv-loop read-alternatives-μ-loop
   read-alternatives-same-length-2 c =
@@ -257,6 +261,7 @@ module _ (t : ℕ) where
 
   read-alternatives-returns-4 : read-alternatives-lts.Need-returns-4 (read-alternatives-claims t) (read-alternatives-at t) read-alternatives.Post read-alternatives-Inv-loop read-alternatives-μ-loop
   read-alternatives-returns-4 c =
+      let at-if4 = c .if4 in
       let at-if3 = c .before .if3 in
       let at-peek2 = c .before .before .peek2 in
       let at-put-head = c .before .before .before .before .before .put-head in
@@ -270,7 +275,7 @@ module _ (t : ℕ) where
       listed-else (at-start .args .text .now) (at-start .args .level) (at-start .args .count) (at-start .args .at) (at-start .args .n) (at-start .args .pool .now) (at-loop .pool) (at-loop .x)
       (at-loop .miss) (at-loop .m) (at-loop .c) (at-loop .k) (at-loop .inv) (at-read-list .result) (at-read-list .last .1 .1 .1 .1 .0) (at-read-list .ensures) (at-got .given .0 .0)
       (at-got .given .0 .1 .0) (at-got .given .0 .1 .1 .0) (at-got .given .0 .1 .1 .1 .0) (at-put-head .last .0) (sym (at-peek .ensures) ∙ at-if1 .left) (at-if2 .left) (at-got .given .1)
-      (λ z. at-if3 .left (at-peek2 .ensures ∙ z)) (λ z. c .if4 .taken (at-peek2 .ensures ∙ z))
+      (λ z. at-if3 .left (at-peek2 .ensures ∙ z)) (λ z. at-if4 .taken (at-peek2 .ensures ∙ z))
 
   read-alternatives-add-skip-blanks-3 : read-alternatives-lts.Need-add-skip-blanks-3 (read-alternatives-claims t) (read-alternatives-at t) read-alternatives.Post read-alternatives-Inv-loop read-alternatives-μ-loop
   read-alternatives-add-skip-blanks-3 c =
@@ -287,6 +292,7 @@ module _ (t : ℕ) where
 
   read-alternatives-loop-less : read-alternatives-lts.Need-loop-less (read-alternatives-claims t) (read-alternatives-at t) read-alternatives.Post read-alternatives-Inv-loop read-alternatives-μ-loop
   read-alternatives-loop-less c =
+      let at-skip-blanks3 = c .skip-blanks3 in
       let at-got = c .before .before .before .before .before .before .before .before .before .got in
       let at-read-list = c .before .before .before .before .before .before .before .before .before .before .before .before .before .read-list in
       let at-loop = c .before .before .before .before .before .before .before .before .before .before .before .before .before .before .before .loop in
@@ -294,11 +300,12 @@ module _ (t : ℕ) where
       let w = turned (at-start .args .text .now) (at-start .args .level) (at-start .args .count) (at-start .args .at) (at-start .args .n) (at-start .args .pool .now) (at-loop .pool) (at-loop .x)
       (at-loop .miss) (at-loop .m) (at-loop .c) (at-loop .k) (at-loop .inv) (at-read-list .result) (at-read-list .last .1 .1 .1 .1 .0) (at-read-list .ensures) (at-got .given .0 .0)
       (at-got .given .0 .1 .0) (at-got .given .0 .1 .1 .0) (at-got .given .0 .1 .1 .1 .0) (at-got .given .1) in
-      let s = c .skip-blanks3 .ensures in
+      let s = at-skip-blanks3 .ensures in
       let f = skip-from (at-start .args .text .now) ((at-got .given .0 .0) + 1) in omega arith
 
   read-alternatives-loop-again : read-alternatives-lts.Need-loop-again (read-alternatives-claims t) (read-alternatives-at t) read-alternatives.Post read-alternatives-Inv-loop read-alternatives-μ-loop
   read-alternatives-loop-again c =
+      let at-skip-blanks3 = c .skip-blanks3 in
       let at-if4 = c .before .if4 in
       let at-peek2 = c .before .before .before .peek2 in
       let at-put-head = c .before .before .before .before .before .before .put-head in
@@ -316,8 +323,8 @@ module _ (t : ℕ) where
       let r′ : at-loop .m + 4 ≤ length (at-start .args .pool .now) = omega arith in listed-next (at-start .args .text .now) (at-start .args .level) (at-start .args .count) (at-start .args .at)
       (at-start .args .n) (at-start .args .pool .now) (at-loop .pool) (at-loop .x) (at-loop .miss) (at-loop .m) (at-loop .c) (at-loop .k) (at-loop .inv) (at-read-list .result)
       (at-read-list .last .1 .1 .1 .1 .0) (at-read-list .ensures) (at-got .given .0 .0) (at-got .given .0 .1 .0) (at-got .given .0 .1 .1 .0) (at-got .given .0 .1 .1 .1 .0)
-      (c .skip-blanks3 .result) (at-put-head .last .0) r r′ (at-got .given .1) (at-put-head .ensures) (at-put-head .kept .0 ∙ (at-read-list .kept .1 .1 .1 .1 .0 ∙ at-loop .inv .kept))
-      (sym (at-peek2 .ensures) ∙ at-if4 .left) (c .skip-blanks3 .ensures)
+      (at-skip-blanks3 .result) (at-put-head .last .0) r r′ (at-got .given .1) (at-put-head .ensures) (at-put-head .kept .0 ∙ (at-read-list .kept .1 .1 .1 .1 .0 ∙ at-loop .inv .kept))
+      (sym (at-peek2 .ensures) ∙ at-if4 .left) (at-skip-blanks3 .ensures)
 
   read-alternatives-enum-told : read-alternatives-lts.Need-enum-told (read-alternatives-claims t) (read-alternatives-at t) read-alternatives.Post read-alternatives-Inv-loop read-alternatives-μ-loop
   read-alternatives-enum-told c = search needs
@@ -330,6 +337,7 @@ module _ (t : ℕ) where
 
   read-alternatives-returns-5 : read-alternatives-lts.Need-returns-5 (read-alternatives-claims t) (read-alternatives-at t) read-alternatives.Post read-alternatives-Inv-loop read-alternatives-μ-loop
   read-alternatives-returns-5 c =
+      let at-enum-told = c .enum-told in
       let at-read-list = c .before .before .before .before .read-list in
       let at-loop = c .before .before .before .before .before .before .loop in
       let at-if2 = c .before .before .before .before .before .before .before .before .if2 in
@@ -338,7 +346,7 @@ module _ (t : ℕ) where
       let at-start = c .before .before .before .before .before .before .before .before .before .before .before .before .before in
       listed-missing (at-start .args .text .now) (at-start .args .level) (at-start .args .count) (at-start .args .at) (at-start .args .n) (at-start .args .pool .now) (at-loop .pool) (at-loop .x)
       (at-loop .miss) (at-loop .m) (at-loop .c) (at-loop .k) (at-loop .inv) (at-read-list .result) (at-read-list .last .1 .1 .1 .1 .0) (at-read-list .ensures)
-      (sym (at-peek .ensures) ∙ at-if1 .left) (at-if2 .left) (c .enum-told .given .1) (at-read-list .last .1 .1 .1 .1 .0)
+      (sym (at-peek .ensures) ∙ at-if1 .left) (at-if2 .left) (at-enum-told .given .1) (at-read-list .last .1 .1 .1 .1 .0)
 
   read-alternatives-enum-known-got-2 : read-alternatives-lts.Need-enum-known-got-2 (read-alternatives-claims t) (read-alternatives-at t) read-alternatives.Post read-alternatives-Inv-loop read-alternatives-μ-loop
   read-alternatives-enum-known-got-2 c = search needs
@@ -364,8 +372,9 @@ module _ (t : ℕ) where
 
   read-list-returns : read-list-lts.Need-returns (read-list-claims t) (read-list-at t) read-list.Post read-list-Inv-loop read-list-μ-loop
   read-list-returns c =
+      let at-if1 = c .if1 in
       let at-start = c .before .before .before in
-      list-says-refused (list (at-start .args .text .now) (at-start .args .level) (at-start .args .count) (at-start .args .at)) (at-start .args .n) (at-start .args .pool .now) (at-start .args .pool .now) HexStringTooDeep (at-start .args .at) (list-deep (at-start .args .text .now) (at-start .args .level) (at-start .args .count) (at-start .args .at) (c .if1 .taken))
+      list-says-refused (list (at-start .args .text .now) (at-start .args .level) (at-start .args .count) (at-start .args .at)) (at-start .args .n) (at-start .args .pool .now) (at-start .args .pool .now) HexStringTooDeep (at-start .args .at) (list-deep (at-start .args .text .now) (at-start .args .level) (at-start .args .count) (at-start .args .at) (at-if1 .taken))
 
   read-list-loop-holds : read-list-lts.Need-loop-holds (read-list-claims t) (read-list-at t) read-list.Post read-list-Inv-loop read-list-μ-loop
   read-list-loop-holds c =
@@ -402,6 +411,7 @@ module _ (t : ℕ) where
 
   read-list-loop-again : read-list-lts.Need-loop-again (read-list-claims t) (read-list-at t) read-list.Post read-list-Inv-loop read-list-μ-loop
   read-list-loop-again c =
+      let at-first-jump = c .first-jump in
       let at-got = c .before .before .got in
       let at-read-token = c .before .before .before .before .before .before .read-token in
       let at-loop = c .before .before .before .before .before .before .before .before .loop in
@@ -412,7 +422,7 @@ module _ (t : ℕ) where
       let r : (at-start .args .n) ≤ length (at-start .args .pool .now) = omega arith in subst
       (λ (b : Bool). Tokened (at-start .args .text .now) (at-start .args .level) (at-start .args .count) (at-start .args .at) (at-start .args .n) (at-start .args .pool .now)
       (at-read-token .last .1 .1 .1 .1 .0) (at-got .given .0 .0) (at-got .given .0 .1 .0) (at-got .given .0 .1 .1 .0) (at-loop .k + 1) b (at-got .given .0 .1 .1 .1 .0))
-      (sym (c .first-jump .ensures))
+      (sym (at-first-jump .ensures))
       (tokened-next (at-start .args .text .now) (at-start .args .level) (at-start .args .count) (at-start .args .at) (at-start .args .n) (at-start .args .pool .now) (at-loop .pool) (at-loop .x)
       (at-loop .m) (at-loop .c) (at-loop .k) (at-loop .first) (at-loop .last) (at-loop .inv) (at-read-token .result) (at-read-token .last .1 .1 .1 .1 .0) (at-read-token .ensures)
       (at-got .given .0 .0) (at-got .given .0 .1 .0) (at-got .given .0 .1 .1 .0) (at-got .given .0 .1 .1 .1 .0) r (at-read-token .kept .1 .1 .1 .1 .0) (at-got .given .1))
@@ -431,13 +441,14 @@ module _ (t : ℕ) where
 
   read-list-returns-2 : read-list-lts.Need-returns-2 (read-list-claims t) (read-list-at t) read-list.Post read-list-Inv-loop read-list-μ-loop
   read-list-returns-2 c =
+      let at-list-end = c .list-end in
       let at-enum-told = c .before .enum-told in
       let at-read-token = c .before .before .before .before .before .read-token in
       let at-loop = c .before .before .before .before .before .before .before .loop in
       let at-if1 = c .before .before .before .before .before .before .before .before .if1 in
       let at-start = c .before .before .before .before .before .before .before .before .before .before .before in
       subst (λ (r : ListGot). ListSays (list (at-start .args .text .now) (at-start .args .level) (at-start .args .count) (at-start .args .at)) (at-start .args .n) r (at-start .args .pool .now)
-      (at-read-token .last .1 .1 .1 .1 .0)) (sym (c .list-end .ensures))
+      (at-read-token .last .1 .1 .1 .1 .0)) (sym (at-list-end .ensures))
       (tokened-end (at-start .args .text .now) (at-start .args .level) (at-start .args .count) (at-start .args .at) (at-start .args .n) (at-start .args .pool .now) (at-loop .pool) (at-loop .x)
       (at-loop .m) (at-loop .c) (at-loop .k) (at-loop .first) (at-loop .last) (at-loop .inv) (at-read-token .result) (at-read-token .last .1 .1 .1 .1 .0) (at-read-token .ensures) (at-if1 .left)
       (at-enum-told .given .1))
@@ -470,13 +481,14 @@ module _ (t : ℕ) where
 
   read-token-returns : read-token-lts.Need-returns (read-token-claims t) (read-token-at t) read-token.Post
   read-token-returns c =
+      let at-if1 = c .if1 in
       let at-piece = c .before .before .piece in
       let at-plain-token = c .before .before .before .before .plain-token in
       let at-start = c .before .before .before .before .before .before .before in
       says-refused (token (at-start .args .text .now) (at-start .args .level) (at-start .args .count) (at-start .args .at)) (at-start .args .n) (at-start .args .pool .now)
       (at-start .args .pool .now) TooManyTokens (at-start .args .at)
       (token-full (at-start .args .text .now) (at-start .args .level) (at-start .args .count) (at-start .args .at) (sym (at-plain-token .ensures) ∙ ap pieceOf (at-piece .given .1))
-      (c .if1 .taken))
+      (at-if1 .taken))
 
   read-token-put-plain-requires : read-token-lts.Need-put-plain-requires (read-token-claims t) (read-token-at t) read-token.Post
   read-token-put-plain-requires c κs =

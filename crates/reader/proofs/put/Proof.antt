@@ -21,7 +21,9 @@ mul-pool-2 : tie.Need-mul-pool-2
 mul-pool-2 c = search needs
 
 slice-write-pool-2 : tie.Need-slice-write-pool-2
-slice-write-pool-2 c = lt-length-set (c .args .pool .now) (c .args .n) (c .args .kind) (omega arith)
+slice-write-pool-2 c =
+    let at-start = c in
+    lt-length-set (at-start .args .pool .now) (at-start .args .n) (at-start .args .kind) (omega arith)
 
 add-pool-2 : tie.Need-add-pool-2
 add-pool-2 c = search needs
@@ -30,7 +32,9 @@ mul-pool-3 : tie.Need-mul-pool-3
 mul-pool-3 c = search needs
 
 slice-write-pool-3 : tie.Need-slice-write-pool-3
-slice-write-pool-3 c = lt-length-set (set (c .args .pool .now) (c .args .n) (c .args .kind)) ((c .args .n) + 1) (c .args .a) (lt-length-set (c .args .pool .now) (c .args .n) (c .args .kind) (omega arith))
+slice-write-pool-3 c =
+    let at-start = c in
+    lt-length-set (set (at-start .args .pool .now) (at-start .args .n) (at-start .args .kind)) ((at-start .args .n) + 1) (at-start .args .a) (lt-length-set (at-start .args .pool .now) (at-start .args .n) (at-start .args .kind) (omega arith))
 
 add-pool-3 : tie.Need-add-pool-3
 add-pool-3 c = search needs
@@ -39,13 +43,17 @@ mul-pool-4 : tie.Need-mul-pool-4
 mul-pool-4 c = search needs
 
 slice-write-pool-4 : tie.Need-slice-write-pool-4
-slice-write-pool-4 c = lt-length-set (set (set (c .args .pool .now) (c .args .n) (c .args .kind)) ((c .args .n) + 1) (c .args .a)) ((c .args .n) + 2) (c .args .b) (lt-length-set (set (c .args .pool .now) (c .args .n) (c .args .kind)) ((c .args .n) + 1) (c .args .a) (lt-length-set (c .args .pool .now) (c .args .n) (c .args .kind) (omega arith)))
+slice-write-pool-4 c =
+    let at-start = c in
+    lt-length-set (set (set (at-start .args .pool .now) (at-start .args .n) (at-start .args .kind)) ((at-start .args .n) + 1) (at-start .args .a)) ((at-start .args .n) + 2) (at-start .args .b) (lt-length-set (set (at-start .args .pool .now) (at-start .args .n) (at-start .args .kind)) ((at-start .args .n) + 1) (at-start .args .a) (lt-length-set (at-start .args .pool .now) (at-start .args .n) (at-start .args .kind) (omega arith)))
 
 same-length : tie.Need-same-length
 same-length c = search needs
 
 returns : tie.Need-returns
-returns c = written-four (c .args .pool .now) (c .args .n) (c .args .kind) (c .args .a) (c .args .b) (c .args .c) (c .pre)
+returns c =
+    let at-start = c in
+    written-four (at-start .args .pool .now) (at-start .args .n) (at-start .args .kind) (at-start .args .a) (at-start .args .b) (at-start .args .c) (at-start .pre)
 
 pub put-spec : {M : Type 1} → statement M
 put-spec =

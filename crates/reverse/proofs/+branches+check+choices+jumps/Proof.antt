@@ -249,6 +249,7 @@ module _ (t : ℕ) where
 
   branches-loop-again : branches-lts.Need-loop-again (branches-claims t) (branches-at t) branches.Post branches-Inv-loop branches-μ-loop branches-Inv-branches branches-μ-branches
   branches-loop-again c =
+      let at-enum-told2 = c .enum-told2 in
       let at-check = c .before .before .check in
       let at-if1 = c .before .before .before .before .before .if1 in
       let at-loop-test = c .before .before .before .before .before .before .loop-test in
@@ -262,13 +263,14 @@ module _ (t : ℕ) where
       let n = at-loop .n in
       let R = at-start .args .rest .now in
       let tried = at-check .ensures ∙ ap (λ (l : List ℕ). answer (backward (prog l) (take (length N - (n - 1)) N))) (whole R) in
-      (omega (arith, at-loop .inv .0), at-loop .inv .1 ∙ ranges.below-next p (reverse N) F n (at-loop-test .taken) _ (back-part _ N (at-if1 .taken)) (omega (arith, at-if1 .taken, length-reverse N)) (sym (c .enum-told2 .given .1) ∙ tried))
+      (omega (arith, at-loop .inv .0), at-loop .inv .1 ∙ ranges.below-next p (reverse N) F n (at-loop-test .taken) _ (back-part _ N (at-if1 .taken)) (omega (arith, at-if1 .taken, length-reverse N)) (sym (at-enum-told2 .given .1) ∙ tried))
 
   branches-loop-less-2 : branches-lts.Need-loop-less-2 (branches-claims t) (branches-at t) branches.Post branches-Inv-loop branches-μ-loop branches-Inv-branches branches-μ-branches
   branches-loop-less-2 c = search needs
 
   branches-loop-again-2 : branches-lts.Need-loop-again-2 (branches-claims t) (branches-at t) branches.Post branches-Inv-loop branches-μ-loop branches-Inv-branches branches-μ-branches
   branches-loop-again-2 c =
+      let at-if1 = c .if1 in
       let at-loop-test = c .before .loop-test in
       let at-loop = c .before .before .loop in
       let at-got = c .before .before .before .before .before .got in
@@ -278,7 +280,7 @@ module _ (t : ℕ) where
       let N = take (at-got .given .0 .0) M in
       let F = at-start .args .from in
       let n = at-loop .n in
-      (omega (arith, at-loop .inv .0), at-loop .inv .1 ∙ ranges.below-skip p (reverse N) F n (at-loop-test .taken) (omega (arith, c .if1 .left, length-reverse N)))
+      (omega (arith, at-loop .inv .0), at-loop .inv .1 ∙ ranges.below-skip p (reverse N) F n (at-loop-test .taken) (omega (arith, at-if1 .left, length-reverse N)))
 
   branches-enum-told-3 : branches-lts.Need-enum-told-3 (branches-claims t) (branches-at t) branches.Post branches-Inv-loop branches-μ-loop branches-Inv-branches branches-μ-branches
   branches-enum-told-3 c = search needs
@@ -348,6 +350,7 @@ module _ (t : ℕ) where
 
   branches-returns : branches-lts.Need-returns (branches-claims t) (branches-at t) branches.Post branches-Inv-loop branches-μ-loop branches-Inv-branches branches-μ-branches
   branches-returns c =
+      let at-enum-told = c .enum-told in
       let at-first-word = c .before .before .first-word in
       let at-branches = c .before .before .before .branches in
       let at-start = c .before .before .before .before .before .before .before in
@@ -355,7 +358,7 @@ module _ (t : ℕ) where
       let p = prog (at-start .args .rest .now) in
       let q = range (at-start .args .from) (at-start .args .to) ▹ p in
       let M = at-start .args .mem .now in
-      ap answer (sym (at-branches .inv .1 ∙ alts.heads-over long L q (reverse M) (sym (at-first-word .ensures) ∙ c .enum-told .given .1)))
+      ap answer (sym (at-branches .inv .1 ∙ alts.heads-over long L q (reverse M) (sym (at-first-word .ensures) ∙ at-enum-told .given .1)))
 
   branches-returns-2 : branches-lts.Need-returns-2 (branches-claims t) (branches-at t) branches.Post branches-Inv-loop branches-μ-loop branches-Inv-branches branches-μ-branches
   branches-returns-2 c =
@@ -401,12 +404,13 @@ module _ (t : ℕ) where
 
   check-returns : check-lts.Need-returns (check-claims t) (check-at t) check.Post check-Inv-loop check-μ-loop
   check-returns c =
+      let at-enum-told = c .enum-told in
       let at-first-word = c .before .before .first-word in
       let at-loop = c .before .before .before .loop in
       let M = at-loop .m .now in
       let inv = at-loop .inv .2 in
       let L = at-loop .ns .now in
-      ap Left (sym (length-reverse M)) ∙ ap answer (sym (inv ∙ turns.end-left long L (reverse M) (sym (at-first-word .ensures) ∙ c .enum-told .given .1)))
+      ap Left (sym (length-reverse M)) ∙ ap answer (sym (inv ∙ turns.end-left long L (reverse M) (sym (at-first-word .ensures) ∙ at-enum-told .given .1)))
 
   check-sub-ns : check-lts.Need-sub-ns (check-claims t) (check-at t) check.Post check-Inv-loop check-μ-loop
   check-sub-ns c =
@@ -445,6 +449,7 @@ module _ (t : ℕ) where
 
   check-returns-2 : check-lts.Need-returns-2 (check-claims t) (check-at t) check.Post check-Inv-loop check-μ-loop
   check-returns-2 c =
+      let at-enum-told2 = c .enum-told2 in
       let at-last-byte = c .before .before .last-byte in
       let at-if1 = c .before .before .before .if1 in
       let at-tests-byte = c .before .before .before .before .tests-byte in
@@ -457,7 +462,7 @@ module _ (t : ℕ) where
       let e = sym (at-first-word .ensures) ∙ at-w .given .1 in
       let M = at-loop .m .now in
       let test = is-test W (sym (at-if1 .taken) ∙ at-tests-byte .ensures) in
-      ap answer (sym (inv ∙ turns.stop-short L W e long (reverse M) (test .0) (test .1) (sym (at-last-byte .ensures) ∙ c .enum-told2 .given .1)))
+      ap answer (sym (inv ∙ turns.stop-short L W e long (reverse M) (test .0) (test .1) (sym (at-last-byte .ensures) ∙ at-enum-told2 .given .1)))
 
   check-sub-keep : check-lts.Need-sub-keep (check-claims t) (check-at t) check.Post check-Inv-loop check-μ-loop
   check-sub-keep c =
@@ -496,6 +501,7 @@ module _ (t : ℕ) where
 
   check-loop-again : check-lts.Need-loop-again (check-claims t) (check-at t) check.Post check-Inv-loop check-μ-loop
   check-loop-again c =
+      let at-if2 = c .if2 in
       let at-word-passes = c .before .word-passes in
       let at-b = c .before .before .before .before .b in
       let at-last-byte = c .before .before .before .before .before .before .last-byte in
@@ -514,10 +520,11 @@ module _ (t : ℕ) where
       let B = at-b .given .0 .0 in
       let f = sym (at-last-byte .ensures) ∙ at-b .given .1 in
       let pos = last-pos M B f in
-      (omega (arith, word-pos L W e, length-from 1 L, at-loop .inv .0), turns.tail-sound L W e (test .1) sound, inv ∙ turns.turn-one L W e long (reverse M) _ (back-part 1 M pos) (test .0) B (test .1) f (passes-as W B (test .0) (test .1) (sym (c .if2 .taken) ∙ at-word-passes .ensures)))
+      (omega (arith, word-pos L W e, length-from 1 L, at-loop .inv .0), turns.tail-sound L W e (test .1) sound, inv ∙ turns.turn-one L W e long (reverse M) _ (back-part 1 M pos) (test .0) B (test .1) f (passes-as W B (test .0) (test .1) (sym (at-if2 .taken) ∙ at-word-passes .ensures)))
 
   check-returns-3 : check-lts.Need-returns-3 (check-claims t) (check-at t) check.Post check-Inv-loop check-μ-loop
   check-returns-3 c =
+      let at-if2 = c .if2 in
       let at-word-passes = c .before .word-passes in
       let at-b = c .before .before .before .before .b in
       let at-last-byte = c .before .before .before .before .before .before .last-byte in
@@ -534,13 +541,14 @@ module _ (t : ℕ) where
       let test = is-test W (sym (at-if1 .taken) ∙ at-tests-byte .ensures) in
       let B = at-b .given .0 .0 in
       let f = sym (at-last-byte .ensures) ∙ at-b .given .1 in
-      ap answer (sym (inv ∙ turns.stop-one L W e long (reverse M) (test .0) B (test .1) f (passes-as W B (test .0) (test .1) (sym (c .if2 .left) ∙ at-word-passes .ensures))))
+      ap answer (sym (inv ∙ turns.stop-one L W e long (reverse M) (test .0) B (test .1) f (passes-as W B (test .0) (test .1) (sym (at-if2 .left) ∙ at-word-passes .ensures))))
 
   check-cast-n : check-lts.Need-cast-n (check-claims t) (check-at t) check.Post check-Inv-loop check-μ-loop
   check-cast-n c = search needs
 
   check-returns-4 : check-lts.Need-returns-4 (check-claims t) (check-at t) check.Post check-Inv-loop check-μ-loop
   check-returns-4 c =
+      let at-if4 = c .if4 in
       let at-if3 = c .before .if3 in
       let at-w = c .before .before .before .before .before .before .w in
       let at-first-word = c .before .before .before .before .before .before .before .before .first-word in
@@ -551,7 +559,7 @@ module _ (t : ℕ) where
       let e = sym (at-first-word .ensures) ∙ at-w .given .1 in
       let M = at-loop .m .now in
       let kind = kind-jump W (at-if3 .taken) in
-      ap answer (sym (inv ∙ turns.stop-jump L W e long (reverse M) _ kind (omega (arith, c .if4 .taken, length-reverse M))))
+      ap answer (sym (inv ∙ turns.stop-jump L W e long (reverse M) _ kind (omega (arith, at-if4 .taken, length-reverse M))))
 
   check-sub-keep-2 : check-lts.Need-sub-keep-2 (check-claims t) (check-at t) check.Post check-Inv-loop check-μ-loop
   check-sub-keep-2 c = search needs
@@ -623,6 +631,7 @@ module _ (t : ℕ) where
 
   check-returns-5 : check-lts.Need-returns-5 (check-claims t) (check-at t) check.Post check-Inv-loop check-μ-loop
   check-returns-5 c =
+      let at-choices = c .choices in
       let at-w = c .before .before .before .before .before .before .before .before .w in
       let at-first-word = c .before .before .before .before .before .before .before .before .before .before .first-word in
       let at-loop = c .before .before .before .before .before .before .before .before .before .before .before .loop in
@@ -631,7 +640,7 @@ module _ (t : ℕ) where
       let e = sym (at-first-word .ensures) ∙ at-w .given .1 in
       let M = at-loop .m .now in
       let inv = at-loop .inv .2 in
-      c .choices .ensures ∙ ap₂ (λ (x y : List ℕ). answer (backward (prog x) y)) (word-whole L W e) (whole M) ∙ ap answer (sym inv)
+      at-choices .ensures ∙ ap₂ (λ (x y : List ℕ). answer (backward (prog x) y)) (word-whole L W e) (whole M) ∙ ap answer (sym inv)
 
   choices-cast-from : choices-lts.Need-cast-from (choices-claims t) (choices-at t) choices.Post
   choices-cast-from c = search needs
@@ -668,12 +677,13 @@ module _ (t : ℕ) where
 
   choices-returns : choices-lts.Need-returns (choices-claims t) (choices-at t) choices.Post
   choices-returns c =
+      let at-jumps = c .jumps in
       let at-if1 = c .before .before .before .if1 in
       let at-start = c .before .before .before .before .before .before in
       let W = at-start .args .w in
       let R = at-start .args .rest .now in
       let M = at-start .args .mem .now in
-      c .jumps .ensures ∙ ap answer (choice.range-alone W R (at-if1 .taken) long (reverse M) _ (ap reverse (whole M)))
+      at-jumps .ensures ∙ ap answer (choice.range-alone W R (at-if1 .taken) long (reverse M) _ (ap reverse (whole M)))
 
   choices-cast-count : choices-lts.Need-cast-count (choices-claims t) (choices-at t) choices.Post
   choices-cast-count c = search needs
@@ -683,20 +693,22 @@ module _ (t : ℕ) where
 
   choices-sub-after : choices-lts.Need-sub-after (choices-claims t) (choices-at t) choices.Post
   choices-sub-after c =
+      let at-if1 = c .if1 in
       let at-start = c .before .before .before in
       let W = at-start .args .w in
       let R = at-start .args .rest .now in
-      let k = choice.is-alt W (at-start .pre .1 .1) (c .if1 .left) in
+      let k = choice.is-alt W (at-start .pre .1 .1) (at-if1 .left) in
       let sound = at-start .pre .1 .0 in
       let opened = choice.opened W R k sound in
       opened .fits
 
   choices-part-after-start : choices-lts.Need-part-after-start (choices-claims t) (choices-at t) choices.Post
   choices-part-after-start c =
+      let at-if1 = c .if1 in
       let at-start = c .before .before .before in
       let W = at-start .args .w in
       let R = at-start .args .rest .now in
-      let k = choice.is-alt W (at-start .pre .1 .1) (c .if1 .left) in
+      let k = choice.is-alt W (at-start .pre .1 .1) (at-if1 .left) in
       let sound = at-start .pre .1 .0 in
       let opened = choice.opened W R k sound in
       opened .fits
@@ -783,6 +795,7 @@ module _ (t : ℕ) where
 
   choices-returns-2 : choices-lts.Need-returns-2 (choices-claims t) (choices-at t) choices.Post
   choices-returns-2 c =
+      let at-branches = c .branches in
       let at-if2 = c .before .before .before .before .if2 in
       let at-x = c .before .before .before .before .before .before .x in
       let at-first-word = c .before .before .before .before .before .before .before .before .first-word in
@@ -794,7 +807,7 @@ module _ (t : ℕ) where
       let X = at-x .given .0 .0 in
       let e = sym (at-first-word .ensures) ∙ at-x .given .1 in
       let M = at-start .args .mem .now in
-      c .branches .ensures ∙ ap answer (choice.alt-range W R k X e (at-if2 .taken) long (reverse M) _ (ap reverse (whole M)))
+      at-branches .ensures ∙ ap answer (choice.alt-range W R k X e (at-if2 .taken) long (reverse M) _ (ap reverse (whole M)))
 
   choices-enum-told : choices-lts.Need-enum-told (choices-claims t) (choices-at t) choices.Post
   choices-enum-told c = search needs
@@ -843,13 +856,14 @@ module _ (t : ℕ) where
 
   choices-returns-3 : choices-lts.Need-returns-3 (choices-claims t) (choices-at t) choices.Post
   choices-returns-3 c =
+      let at-branches2 = c .branches2 in
       let at-if1 = c .before .before .before .before .before .before .before .if1 in
       let at-start = c .before .before .before .before .before .before .before .before .before .before in
       let W = at-start .args .w in
       let R = at-start .args .rest .now in
       let k = choice.is-alt W (at-start .pre .1 .1) (at-if1 .left) in
       let M = at-start .args .mem .now in
-      c .branches2 .ensures ∙ ap answer (choice.alt-alone W R k long (reverse M) _ (ap reverse (whole M)))
+      at-branches2 .ensures ∙ ap answer (choice.alt-alone W R k long (reverse M) _ (ap reverse (whole M)))
 
   jumps-add-n : jumps-lts.Need-add-n (jumps-claims t) (jumps-at t) jumps.Post jumps-Inv-loop jumps-μ-loop
   jumps-add-n c = search needs
@@ -889,6 +903,7 @@ module _ (t : ℕ) where
 
   jumps-loop-again : jumps-lts.Need-loop-again (jumps-claims t) (jumps-at t) jumps.Post jumps-Inv-loop jumps-μ-loop
   jumps-loop-again c =
+      let at-enum-told = c .enum-told in
       let at-check = c .before .before .check in
       let at-if2 = c .before .before .before .before .if2 in
       let at-if1 = c .before .before .before .before .before .if1 in
@@ -899,13 +914,14 @@ module _ (t : ℕ) where
       let M = at-start .args .mem .now in
       let F = at-start .args .from in
       let n = at-loop .n in
-      (omega (arith, at-loop .inv .0), inv ∙ ranges.below-next p (reverse M) F n (at-if1 .left) _ (back-part _ M (at-if2 .taken)) (omega (arith, at-if2 .taken, length-reverse M)) (sym (c .enum-told .given .1) ∙ at-check .ensures))
+      (omega (arith, at-loop .inv .0), inv ∙ ranges.below-next p (reverse M) F n (at-if1 .left) _ (back-part _ M (at-if2 .taken)) (omega (arith, at-if2 .taken, length-reverse M)) (sym (at-enum-told .given .1) ∙ at-check .ensures))
 
   jumps-loop-less-2 : jumps-lts.Need-loop-less-2 (jumps-claims t) (jumps-at t) jumps.Post jumps-Inv-loop jumps-μ-loop
   jumps-loop-less-2 c = search needs
 
   jumps-loop-again-2 : jumps-lts.Need-loop-again-2 (jumps-claims t) (jumps-at t) jumps.Post jumps-Inv-loop jumps-μ-loop
   jumps-loop-again-2 c =
+      let at-if2 = c .if2 in
       let at-if1 = c .before .if1 in
       let at-loop = c .before .before .loop in
       let at-start = c .before .before .before .before .before in
@@ -914,10 +930,11 @@ module _ (t : ℕ) where
       let M = at-start .args .mem .now in
       let F = at-start .args .from in
       let n = at-loop .n in
-      (omega (arith, at-loop .inv .0), inv ∙ ranges.below-skip p (reverse M) F n (at-if1 .left) (omega (arith, c .if2 .left, length-reverse M)))
+      (omega (arith, at-loop .inv .0), inv ∙ ranges.below-skip p (reverse M) F n (at-if1 .left) (omega (arith, at-if2 .left, length-reverse M)))
 
   jumps-returns : jumps-lts.Need-returns (jumps-claims t) (jumps-at t) jumps.Post jumps-Inv-loop jumps-μ-loop
   jumps-returns c =
+      let at-if1 = c .if1 in
       let at-loop = c .before .loop in
       let at-start = c .before .before .before .before in
       let inv = at-loop .inv .1 in
@@ -925,7 +942,7 @@ module _ (t : ℕ) where
       let M = at-start .args .mem .now in
       let F = at-start .args .from in
       let n = at-loop .n in
-      ap answer (sym (inv ∙ below-none p (reverse M) F n (c .if1 .taken)))
+      ap answer (sym (inv ∙ below-none p (reverse M) F n (at-if1 .taken)))
 
   jumps-returns-2 : jumps-lts.Need-returns-2 (jumps-claims t) (jumps-at t) jumps.Post jumps-Inv-loop jumps-μ-loop
   jumps-returns-2 c =

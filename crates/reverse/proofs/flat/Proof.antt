@@ -39,12 +39,13 @@ enum-told c = search needs
 
 returns : tie.Need-returns Inv-loop μ-loop
 returns c =
+    let at-enum-told = c .enum-told in
     let at-first-word = c .before .before .first-word in
     let at-loop = c .before .before .before .loop in
     let M = at-loop .m .now in
     let inv = at-loop .inv .1 in
     let L = at-loop .ns .now in
-    ap Left (sym (length-reverse M)) ∙ ap answer (sym (inv ∙ turns.end-left long L (reverse M) (sym (at-first-word .ensures) ∙ c .enum-told .given .1)))
+    ap Left (sym (length-reverse M)) ∙ ap answer (sym (inv ∙ turns.end-left long L (reverse M) (sym (at-first-word .ensures) ∙ at-enum-told .given .1)))
 
 sub-ns : tie.Need-sub-ns Inv-loop μ-loop
 sub-ns c =
@@ -74,6 +75,7 @@ cast-n c = search needs
 
 returns-2 : tie.Need-returns-2 Inv-loop μ-loop
 returns-2 c =
+    let at-if2 = c .if2 in
     let at-if1 = c .before .if1 in
     let at-w = c .before .before .before .before .w in
     let at-first-word = c .before .before .before .before .before .before .first-word in
@@ -84,7 +86,7 @@ returns-2 c =
     let e = sym (at-first-word .ensures) ∙ at-w .given .1 in
     let M = at-loop .m .now in
     let kind = kind-jump W (at-if1 .taken) in
-    ap answer (sym (inv ∙ turns.stop-jump L W e long (reverse M) _ kind (omega (arith, c .if2 .taken, length-reverse M))))
+    ap answer (sym (inv ∙ turns.stop-jump L W e long (reverse M) _ kind (omega (arith, at-if2 .taken, length-reverse M))))
 
 sub-keep : tie.Need-sub-keep Inv-loop μ-loop
 sub-keep c = search needs
@@ -132,6 +134,7 @@ enum-told-2 c = search needs
 
 returns-3 : tie.Need-returns-3 Inv-loop μ-loop
 returns-3 c =
+    let at-enum-told2 = c .enum-told2 in
     let at-last-byte = c .before .before .last-byte in
     let at-if1 = c .before .before .before .if1 in
     let at-w = c .before .before .before .before .before .before .w in
@@ -144,7 +147,7 @@ returns-3 c =
     let M = at-loop .m .now in
     let plain = at-loop .inv .0 in
     let test = turns.plain-test L W e plain (at-if1 .left) in
-    ap answer (sym (inv ∙ turns.stop-short L W e long (reverse M) (test .0) (test .1) (sym (at-last-byte .ensures) ∙ c .enum-told2 .given .1)))
+    ap answer (sym (inv ∙ turns.stop-short L W e long (reverse M) (test .0) (test .1) (sym (at-last-byte .ensures) ∙ at-enum-told2 .given .1)))
 
 sub-keep-2 : tie.Need-sub-keep-2 Inv-loop μ-loop
 sub-keep-2 c =
@@ -183,6 +186,7 @@ loop-less-2 c =
 
 loop-again-2 : tie.Need-loop-again-2 Inv-loop μ-loop
 loop-again-2 c =
+    let at-if3 = c .if3 in
     let at-word-passes = c .before .word-passes in
     let at-b = c .before .before .before .before .b in
     let at-last-byte = c .before .before .before .before .before .before .last-byte in
@@ -200,10 +204,11 @@ loop-again-2 c =
     let f = sym (at-last-byte .ensures) ∙ at-b .given .1 in
     let pos = last-pos M B f in
     let test = turns.plain-test L W e plain (at-if1 .left) in
-    (turns.plain-tail L W e plain, inv ∙ turns.turn-one L W e long (reverse M) _ (back-part 1 M pos) (test .0) B (test .1) f (passes-as W B (test .0) (test .1) (sym (c .if3 .taken) ∙ at-word-passes .ensures)))
+    (turns.plain-tail L W e plain, inv ∙ turns.turn-one L W e long (reverse M) _ (back-part 1 M pos) (test .0) B (test .1) f (passes-as W B (test .0) (test .1) (sym (at-if3 .taken) ∙ at-word-passes .ensures)))
 
 returns-4 : tie.Need-returns-4 Inv-loop μ-loop
 returns-4 c =
+    let at-if3 = c .if3 in
     let at-word-passes = c .before .word-passes in
     let at-b = c .before .before .before .before .b in
     let at-last-byte = c .before .before .before .before .before .before .last-byte in
@@ -220,7 +225,7 @@ returns-4 c =
     let test = turns.plain-test L W e plain (at-if1 .left) in
     let B = at-b .given .0 .0 in
     let f = sym (at-last-byte .ensures) ∙ at-b .given .1 in
-    ap answer (sym (inv ∙ turns.stop-one L W e long (reverse M) (test .0) B (test .1) f (passes-as W B (test .0) (test .1) (sym (c .if3 .left) ∙ at-word-passes .ensures))))
+    ap answer (sym (inv ∙ turns.stop-one L W e long (reverse M) (test .0) B (test .1) f (passes-as W B (test .0) (test .1) (sym (at-if3 .left) ∙ at-word-passes .ensures))))
 
 pub flat-spec : {M : Type 1} → statement M
 flat-spec =

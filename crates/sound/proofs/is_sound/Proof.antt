@@ -12,12 +12,15 @@ sound-words-requires c κs = search needs
 returns : tie.Need-returns
 unfolding sound
 returns c =
+    let at-sound-words = c .sound-words in
     let at-if1 = c .before .if1 in
-    c .sound-words .ensures ∙ rw (le-leb _ 512 (at-if1 .taken))
+    at-sound-words .ensures ∙ rw (le-leb _ 512 (at-if1 .taken))
 
 returns-2 : tie.Need-returns-2
 unfolding sound
-returns-2 c = rw (lt-leb _ 512 (c .if1 .left))
+returns-2 c =
+    let at-if1 = c .if1 in
+    rw (lt-leb _ 512 (at-if1 .left))
 
 pub is-sound-spec : {M : Type 1} → statement M
 is-sound-spec = tie.close (tie.spec sound-words-requires returns returns-2)

@@ -24,15 +24,21 @@ enum-told-6 c = search needs
 
 returns : tie.Need-returns
 unfolding plain
-returns c = rw (c .enum-told .given .1)
+returns c =
+    let at-enum-told = c .enum-told in
+    rw (at-enum-told .given .1)
 
 returns-2 : tie.Need-returns-2
 unfolding plain
-returns-2 c = rw (c .enum-told2 .given .1)
+returns-2 c =
+    let at-enum-told2 = c .enum-told2 in
+    rw (at-enum-told2 .given .1)
 
 returns-3 : tie.Need-returns-3
 unfolding plain
-returns-3 c = rw (c .enum-told3 .given .1)
+returns-3 c =
+    let at-enum-told3 = c .enum-told3 in
+    rw (at-enum-told3 .given .1)
 
 returns-4 : tie.Need-returns-4
 returns-4 c = search needs

@@ -16,15 +16,17 @@ plain-node-requires c κs = search needs
 
 returns : tie.Need-returns
 returns c =
+    let at-plain-node = c .plain-node in
     let at-node-of = c .before .node-of in
     let at-if1 = c .before .before .if1 in
     let at-proper-word = c .before .before .before .proper-word in
-    rw (sym (at-proper-word .ensures) ∙ at-if1 .taken) (c .plain-node .ensures ∙ ap plainShape (at-node-of .ensures))
+    rw (sym (at-proper-word .ensures) ∙ at-if1 .taken) (at-plain-node .ensures ∙ ap plainShape (at-node-of .ensures))
 
 returns-2 : tie.Need-returns-2
 returns-2 c =
+    let at-if1 = c .if1 in
     let at-proper-word = c .before .proper-word in
-    rw (sym (at-proper-word .ensures) ∙ c .if1 .left)
+    rw (sym (at-proper-word .ensures) ∙ at-if1 .left)
 
 pub plain-word-spec : {M : Type 1} → statement M
 plain-word-spec =

@@ -30,16 +30,18 @@ enum-told c = search needs
 
 returns : tie.Need-returns Inv-loop μ-loop
 returns c =
+    let at-enum-told = c .enum-told in
     let at-first-word = c .before .before .first-word in
     let at-loop = c .before .before .before .loop in
     let l = at-loop in
-    law.plain-done (l .ws .now) (sym (at-first-word .ensures) ∙ c .enum-told .given .1) ∙ l .inv
+    law.plain-done (l .ws .now) (sym (at-first-word .ensures) ∙ at-enum-told .given .1) ∙ l .inv
 
 plain-word-requires : tie.Need-plain-word-requires Inv-loop μ-loop
 plain-word-requires c κs = search needs
 
 returns-2 : tie.Need-returns-2 Inv-loop μ-loop
 returns-2 c =
+    let at-if1 = c .if1 in
     let at-plain-word = c .before .plain-word in
     let at-w = c .before .before .before .w in
     let at-first-word = c .before .before .before .before .before .first-word in
@@ -47,7 +49,7 @@ returns-2 c =
     let l = at-loop in
     let w = at-w .given in
     let first = sym (at-first-word .ensures) ∙ w .1 in
-    law.plain-other (l .ws .now) (w .0 .0) first (sym (at-plain-word .ensures) ∙ not-true _ (c .if1 .taken)) ∙ l .inv
+    law.plain-other (l .ws .now) (w .0 .0) first (sym (at-plain-word .ensures) ∙ not-true _ (at-if1 .taken)) ∙ l .inv
 
 sub-ws : tie.Need-sub-ws Inv-loop μ-loop
 sub-ws c =

@@ -29,10 +29,11 @@ enum-told c = search needs
 
 returns : tie.Need-returns Inv-loop μ-loop
 returns c =
+    let at-enum-told = c .enum-told in
     let at-first-word = c .before .before .first-word in
     let at-loop = c .before .before .before .loop in
     let l = at-loop in
-    law.turn-done law.branch-steps (l .ws .now) (sym (at-first-word .ensures) ∙ c .enum-told .given .1) ∙ l .inv
+    law.turn-done law.branch-steps (l .ws .now) (sym (at-first-word .ensures) ∙ at-enum-told .given .1) ∙ l .inv
 
 branch-inside-requires : tie.Need-branch-inside-requires Inv-loop μ-loop
 branch-inside-requires c κs = search needs
@@ -45,6 +46,7 @@ enum-told-2 c = search needs
 
 returns-2 : tie.Need-returns-2 Inv-loop μ-loop
 returns-2 c =
+    let at-enum-told2 = c .enum-told2 in
     let at-branch-inside = c .before .before .branch-inside in
     let at-w = c .before .before .before .before .w in
     let at-first-word = c .before .before .before .before .before .before .first-word in
@@ -52,7 +54,7 @@ returns-2 c =
     let l = at-loop in
     let w = at-w .given in
     let first = sym (at-first-word .ensures) ∙ w .1 in
-    law.turn-unfit law.branch-steps (l .ws .now) (w .0 .0) first (sym (at-branch-inside .ensures) ∙ c .enum-told2 .given .1) ∙ l .inv
+    law.turn-unfit law.branch-steps (l .ws .now) (w .0 .0) first (sym (at-branch-inside .ensures) ∙ at-enum-told2 .given .1) ∙ l .inv
 
 cast-size : tie.Need-cast-size Inv-loop μ-loop
 cast-size c = search needs
@@ -82,6 +84,7 @@ part-rest-end c = search needs
 
 returns-3 : tie.Need-returns-3 Inv-loop μ-loop
 returns-3 c =
+    let at-if1 = c .if1 in
     let at-n = c .before .before .before .n in
     let at-branch-inside = c .before .before .before .before .before .branch-inside in
     let at-w = c .before .before .before .before .before .before .before .w in
@@ -92,7 +95,7 @@ returns-3 c =
     let first = sym (at-first-word .ensures) ∙ w .1 in
     let n = at-n .given in
     let inside = sym (at-branch-inside .ensures) ∙ n .1 in
-    law.turn-long law.branch-steps (l .ws .now) (w .0 .0) first (n .0 .0) inside (c .if1 .taken) ∙ l .inv
+    law.turn-long law.branch-steps (l .ws .now) (w .0 .0) first (n .0 .0) inside (at-if1 .taken) ∙ l .inv
 
 slice-aggregate-plain-words : tie.Need-slice-aggregate-plain-words Inv-loop μ-loop
 slice-aggregate-plain-words c =
@@ -104,6 +107,7 @@ plain-words-requires c κs = search needs
 
 returns-4 : tie.Need-returns-4 Inv-loop μ-loop
 returns-4 c =
+    let at-if2 = c .if2 in
     let at-plain-words = c .before .plain-words in
     let at-if1 = c .before .before .before .if1 in
     let at-n = c .before .before .before .before .before .before .n in
@@ -116,7 +120,7 @@ returns-4 c =
     let first = sym (at-first-word .ensures) ∙ w .1 in
     let n = at-n .given in
     let inside = sym (at-branch-inside .ensures) ∙ n .1 in
-    law.turn-part law.branch-steps (l .ws .now) (w .0 .0) first (n .0 .0) inside (at-if1 .left) (sym (at-plain-words .ensures) ∙ not-true _ (c .if2 .taken)) ∙ l .inv
+    law.turn-part law.branch-steps (l .ws .now) (w .0 .0) first (n .0 .0) inside (at-if1 .left) (sym (at-plain-words .ensures) ∙ not-true _ (at-if2 .taken)) ∙ l .inv
 
 mul-ws : tie.Need-mul-ws Inv-loop μ-loop
 mul-ws c = search needs

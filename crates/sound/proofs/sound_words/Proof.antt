@@ -29,10 +29,11 @@ enum-told c = search needs
 
 returns : tie.Need-returns Inv-loop μ-loop
 returns c =
+    let at-enum-told = c .enum-told in
     let at-first-word = c .before .before .first-word in
     let at-loop = c .before .before .before .loop in
     let l = at-loop in
-    law.turn-done law.item-steps (l .ws .now) (sym (at-first-word .ensures) ∙ c .enum-told .given .1) ∙ l .inv
+    law.turn-done law.item-steps (l .ws .now) (sym (at-first-word .ensures) ∙ at-enum-told .given .1) ∙ l .inv
 
 item-inside-requires : tie.Need-item-inside-requires Inv-loop μ-loop
 item-inside-requires c κs = search needs
@@ -45,6 +46,7 @@ enum-told-2 c = search needs
 
 returns-2 : tie.Need-returns-2 Inv-loop μ-loop
 returns-2 c =
+    let at-enum-told2 = c .enum-told2 in
     let at-item-inside = c .before .before .item-inside in
     let at-w = c .before .before .before .before .w in
     let at-first-word = c .before .before .before .before .before .before .first-word in
@@ -52,7 +54,7 @@ returns-2 c =
     let l = at-loop in
     let w = at-w .given in
     let first = sym (at-first-word .ensures) ∙ w .1 in
-    law.turn-unfit law.item-steps (l .ws .now) (w .0 .0) first (sym (at-item-inside .ensures) ∙ c .enum-told2 .given .1) ∙ l .inv
+    law.turn-unfit law.item-steps (l .ws .now) (w .0 .0) first (sym (at-item-inside .ensures) ∙ at-enum-told2 .given .1) ∙ l .inv
 
 cast-count : tie.Need-cast-count Inv-loop μ-loop
 cast-count c = search needs
@@ -82,6 +84,7 @@ part-rest-end c = search needs
 
 returns-3 : tie.Need-returns-3 Inv-loop μ-loop
 returns-3 c =
+    let at-if1 = c .if1 in
     let at-n = c .before .before .before .n in
     let at-item-inside = c .before .before .before .before .before .item-inside in
     let at-w = c .before .before .before .before .before .before .before .w in
@@ -92,7 +95,7 @@ returns-3 c =
     let first = sym (at-first-word .ensures) ∙ w .1 in
     let n = at-n .given in
     let inside = sym (at-item-inside .ensures) ∙ n .1 in
-    law.turn-long law.item-steps (l .ws .now) (w .0 .0) first (n .0 .0) inside (c .if1 .taken) ∙ l .inv
+    law.turn-long law.item-steps (l .ws .now) (w .0 .0) first (n .0 .0) inside (at-if1 .taken) ∙ l .inv
 
 slice-aggregate-sound-branches : tie.Need-slice-aggregate-sound-branches Inv-loop μ-loop
 slice-aggregate-sound-branches c =
@@ -104,6 +107,7 @@ sound-branches-requires c κs = search needs
 
 returns-4 : tie.Need-returns-4 Inv-loop μ-loop
 returns-4 c =
+    let at-if2 = c .if2 in
     let at-sound-branches = c .before .sound-branches in
     let at-if1 = c .before .before .before .if1 in
     let at-n = c .before .before .before .before .before .before .n in
@@ -116,7 +120,7 @@ returns-4 c =
     let first = sym (at-first-word .ensures) ∙ w .1 in
     let n = at-n .given in
     let inside = sym (at-item-inside .ensures) ∙ n .1 in
-    law.turn-part law.item-steps (l .ws .now) (w .0 .0) first (n .0 .0) inside (at-if1 .left) (sym (at-sound-branches .ensures) ∙ not-true _ (c .if2 .taken)) ∙ l .inv
+    law.turn-part law.item-steps (l .ws .now) (w .0 .0) first (n .0 .0) inside (at-if1 .left) (sym (at-sound-branches .ensures) ∙ not-true _ (at-if2 .taken)) ∙ l .inv
 
 mul-ws : tie.Need-mul-ws Inv-loop μ-loop
 mul-ws c = search needs

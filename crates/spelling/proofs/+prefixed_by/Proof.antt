@@ -51,9 +51,10 @@ prefixed-by-past-bytes-requires t c κs = search needs
 
 prefixed-by-returns : (t : ℕ) → prefixed-by-lts.Need-returns (prefixed-by-cl t) (prefixed-by-at t) prefixed-by.Post
 prefixed-by-returns t c =
+    let at-if1 = c .if1 in
     let at-past-bytes = c .before .past-bytes in
     let at-start = c .before .before .before in
-    sym (at-past-bytes .ensures .numbered (at-start .args .p) (at-start .args .k) ∙ spell.prefixed-end (at-past-bytes .result .now) (c .if1 .taken) (at-start .args .p) (at-start .args .k))
+    sym (at-past-bytes .ensures .numbered (at-start .args .p) (at-start .args .k) ∙ spell.prefixed-end (at-past-bytes .result .now) (at-if1 .taken) (at-start .args .p) (at-start .args .k))
 
 prefixed-by-tally-token-requires : (t : ℕ) → prefixed-by-lts.Need-tally-token-requires (prefixed-by-cl t) (prefixed-by-at t) prefixed-by.Post
 prefixed-by-tally-token-requires t c κs = search needs
@@ -136,13 +137,14 @@ prefixed-by-prefix-of-requires t c κs =
 
 prefixed-by-returns-2 : (t : ℕ) → prefixed-by-lts.Need-returns-2 (prefixed-by-cl t) (prefixed-by-at t) prefixed-by.Post
 prefixed-by-returns-2 t c =
+    let at-prefix-of = c .prefix-of in
     let at-prefixed-by = c .before .prefixed-by in
     let at-width-of = c .before .before .before .before .width-of in
     let at-tally-token = c .before .before .before .before .before .tally-token in
     let at-if1 = c .before .before .before .before .before .before .if1 in
     let at-past-bytes = c .before .before .before .before .before .before .before .past-bytes in
     let at-start = c .before .before .before .before .before .before .before .before .before in
-    c .prefix-of .ensures
+    at-prefix-of .ensures
     ∙ ap (prefixOf (tokenIn (at-past-bytes .result .now)) (at-start .args .p))
     (at-prefixed-by .ensures
     ∙ ap₂ (λ (x : ℕ) (l : List ℕ). prefixed (tokensIn l) (at-start .args .p * x) (at-start .args .k))

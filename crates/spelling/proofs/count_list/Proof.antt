@@ -38,8 +38,9 @@ taken-count-requires c κs = search needs
 
 times-requires : tie.Need-times-requires Inv-loop μ-loop
 times-requires c κs =
+    let at-taken-count = c .taken-count in
     let at-loop = c .before .before .before .before .before .loop in
-    (at-loop .inv .0, omega (arith, c .taken-count .ensures .1))
+    (at-loop .inv .0, omega (arith, at-taken-count .ensures .1))
 
 sub-rest : tie.Need-sub-rest Inv-loop μ-loop
 sub-rest c = search needs
@@ -71,8 +72,9 @@ loop-again c =
 
 returns : tie.Need-returns Inv-loop μ-loop
 returns c =
+    let at-loop-test = c .loop-test in
     let at-loop = c .before .loop in
-    sym (at-loop .inv .1 ∙ law.flat-count-end (at-loop .n) (at-loop .rest .now) (at-loop .inv .0) (omega (arith, c .loop-test .left)))
+    sym (at-loop .inv .1 ∙ law.flat-count-end (at-loop .n) (at-loop .rest .now) (at-loop .inv .0) (omega (arith, at-loop-test .left)))
 
 pub count-list-spec : {M : Type 1} → statement M
 count-list-spec =

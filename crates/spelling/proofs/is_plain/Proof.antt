@@ -57,12 +57,13 @@ plain-lists-requires c κs = search needs
 
 returns : tie.Need-returns Inv-loop μ-loop
 returns c =
+    let at-if2 = c .if2 in
     let at-plain-lists = c .before .plain-lists in
     let at-if1 = c .before .before .before .if1 in
     let at-width-of = c .before .before .before .before .before .width-of in
     let at-loop-test = c .before .before .before .before .before .before .loop-test in
     let at-loop = c .before .before .before .before .before .before .before .loop in
-    sym (at-loop .inv .1 ∙ law.tokens-stop (at-loop .rest .now) (at-loop-test .taken) (at-if1 .taken) ((ap (λ (x : ℕ). plainLists (listsIn (take (x - 4) (drop 4 (at-loop .rest .now))))) (sym (step.width-inside (at-loop .rest .now) (at-if1 .taken)) ∙ sym (at-width-of .ensures)) ∙ sym (at-plain-lists .ensures) ∙ not-true _ (c .if2 .taken))))
+    sym (at-loop .inv .1 ∙ law.tokens-stop (at-loop .rest .now) (at-loop-test .taken) (at-if1 .taken) ((ap (λ (x : ℕ). plainLists (listsIn (take (x - 4) (drop 4 (at-loop .rest .now))))) (sym (step.width-inside (at-loop .rest .now) (at-if1 .taken)) ∙ sym (at-width-of .ensures)) ∙ sym (at-plain-lists .ensures) ∙ not-true _ (at-if2 .taken))))
 
 mul-rest : tie.Need-mul-rest Inv-loop μ-loop
 mul-rest c =
@@ -112,8 +113,9 @@ loop-again c =
 
 returns-2 : tie.Need-returns-2 Inv-loop μ-loop
 returns-2 c =
+    let at-loop-test = c .loop-test in
     let at-loop = c .before .loop in
-    sym (at-loop .inv .1 ∙ law.tokens-done (at-loop .rest .now) (omega (arith, c .loop-test .left)))
+    sym (at-loop .inv .1 ∙ law.tokens-done (at-loop .rest .now) (omega (arith, at-loop-test .left)))
 
 pub is-plain-spec : {M : Type 1} → statement M
 is-plain-spec =

@@ -30,30 +30,34 @@ length-token-requires c κs = search needs
 
 add-n : tie.Need-add-n Inv-loop μ-loop
 add-n c =
+    let at-length-token = c .length-token in
     let at-loop-test = c .before .loop-test in
     let at-loop = c .before .before .loop in
-    omega (arith, c .length-token .ensures .1, (step.width-le (at-loop .rest .now) (at-loop-test .taken)))
+    omega (arith, at-length-token .ensures .1, (step.width-le (at-loop .rest .now) (at-loop-test .taken)))
 
 width-of-requires : tie.Need-width-of-requires Inv-loop μ-loop
 width-of-requires c κs = search needs
 
 mul-rest : tie.Need-mul-rest Inv-loop μ-loop
 mul-rest c =
+    let at-width-of = c .width-of in
     let at-loop-test = c .before .before .loop-test in
     let at-loop = c .before .before .before .loop in
-    omega (arith, (c .width-of .ensures), (step.width-le (at-loop .rest .now) (at-loop-test .taken)))
+    omega (arith, (at-width-of .ensures), (step.width-le (at-loop .rest .now) (at-loop-test .taken)))
 
 sub-rest : tie.Need-sub-rest Inv-loop μ-loop
 sub-rest c =
+    let at-width-of = c .width-of in
     let at-loop-test = c .before .before .loop-test in
     let at-loop = c .before .before .before .loop in
-    omega (arith, (c .width-of .ensures), (step.width-le (at-loop .rest .now) (at-loop-test .taken)))
+    omega (arith, (at-width-of .ensures), (step.width-le (at-loop .rest .now) (at-loop-test .taken)))
 
 part-rest-start : tie.Need-part-rest-start Inv-loop μ-loop
 part-rest-start c =
+    let at-width-of = c .width-of in
     let at-loop-test = c .before .before .loop-test in
     let at-loop = c .before .before .before .loop in
-    omega (arith, (c .width-of .ensures), (step.width-le (at-loop .rest .now) (at-loop-test .taken)))
+    omega (arith, (at-width-of .ensures), (step.width-le (at-loop .rest .now) (at-loop-test .taken)))
 
 part-rest-end : tie.Need-part-rest-end Inv-loop μ-loop
 part-rest-end c = search needs
@@ -88,8 +92,9 @@ loop-again c =
 
 returns : tie.Need-returns Inv-loop μ-loop
 returns c =
+    let at-loop-test = c .loop-test in
     let at-loop = c .before .loop in
-    (sym (at-loop .inv .2 ∙ ap (λ (x : ℕ). at-loop .n + x) (law.tokens-length-end (at-loop .rest .now) (omega (arith, c .loop-test .left))) ∙ add-zero (at-loop .n)), omega (arith, at-loop .inv .1))
+    (sym (at-loop .inv .2 ∙ ap (λ (x : ℕ). at-loop .n + x) (law.tokens-length-end (at-loop .rest .now) (omega (arith, at-loop-test .left))) ∙ add-zero (at-loop .n)), omega (arith, at-loop .inv .1))
 
 pub length-of-spec : {M : Type 1} → statement M
 length-of-spec =

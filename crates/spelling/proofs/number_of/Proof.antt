@@ -17,26 +17,30 @@ use Rattle.spelling.proofs.number_of.Tie as tie
 
 returns : tie.Need-returns
 returns c =
+    let at-if1 = c .if1 in
     let at-start = c .before .before in
-    spell.single-any (at-start .args .ws .now) (at-start .pre .0) (at-start .args .p) (at-start .args .n) (at-start .args .k) (at-start .pre .1) (at-start .pre .2) (at-start .pre .3) (c .if1 .taken)
+    spell.single-any (at-start .args .ws .now) (at-start .pre .0) (at-start .args .p) (at-start .args .n) (at-start .args .k) (at-start .pre .1) (at-start .pre .2) (at-start .pre .3) (at-if1 .taken)
 
 width-of-requires : tie.Need-width-of-requires
 width-of-requires c κs = search needs
 
 mul-prefixed-by : tie.Need-mul-prefixed-by
 mul-prefixed-by c =
+    let at-width-of = c .width-of in
     let at-start = c .before .before .before in
-    omega (arith, (c .width-of .ensures), step.width-le (at-start .args .ws .now) (at-start .pre .0))
+    omega (arith, (at-width-of .ensures), step.width-le (at-start .args .ws .now) (at-start .pre .0))
 
 sub-prefixed-by : tie.Need-sub-prefixed-by
 sub-prefixed-by c =
+    let at-width-of = c .width-of in
     let at-start = c .before .before .before in
-    omega (arith, (c .width-of .ensures), step.width-le (at-start .args .ws .now) (at-start .pre .0))
+    omega (arith, (at-width-of .ensures), step.width-le (at-start .args .ws .now) (at-start .pre .0))
 
 part-prefixed-by-start : tie.Need-part-prefixed-by-start
 part-prefixed-by-start c =
+    let at-width-of = c .width-of in
     let at-start = c .before .before .before in
-    omega (arith, (c .width-of .ensures), step.width-le (at-start .args .ws .now) (at-start .pre .0))
+    omega (arith, (at-width-of .ensures), step.width-le (at-start .args .ws .now) (at-start .pre .0))
 
 part-prefixed-by-end : tie.Need-part-prefixed-by-end
 part-prefixed-by-end c = search needs
@@ -54,10 +58,11 @@ prefixed-by-requires c κs =
 
 returns-2 : tie.Need-returns-2
 returns-2 c =
+    let at-prefixed-by = c .prefixed-by in
     let at-width-of = c .before .before .width-of in
     let at-start = c .before .before .before .before .before in
     ap (pieceOf (tokenIn (at-start .args .ws .now)) (at-start .args .p))
-    (c .prefixed-by .ensures
+    (at-prefixed-by .ensures
     ∙ ap₂ (λ (x : ℕ) (l : List ℕ). prefixed (tokensIn l) (at-start .args .p * x) (at-start .args .k))
     (spell.token-exact (at-start .args .ws .now) (at-start .pre .0) (at-start .args .p) (at-start .pre .1) (at-start .args .n) (at-start .pre .2))
     (sym (ap (λ (x : ℕ). drop x (at-start .args .ws .now)) (sym (at-width-of .ensures)) ∙ sym (part.part-all (at-width-of .result) (at-start .args .ws .now)))))

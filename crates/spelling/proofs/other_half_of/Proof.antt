@@ -21,23 +21,26 @@ new-requires c κs = search needs
 
 returns : tie.Need-returns
 returns c =
+    let at-invert = c .invert in
     let at-low-half = c .before .low-half in
     let at-match = c .before .before .match in
     let at-start = c .before .before .before in
-    law.low-others _ (at-start .args .x) _ _ (at-match .keys1) (at-low-half .ensures) (c .invert .ensures)
+    law.low-others _ (at-start .args .x) _ _ (at-match .keys1) (at-low-half .ensures) (at-invert .ensures)
 
 returns-2 : tie.Need-returns-2
 returns-2 c =
+    let at-invert2 = c .invert2 in
     let at-high-half = c .before .high-half in
     let at-match = c .before .before .match in
     let at-start = c .before .before .before in
-    law.high-others _ (at-start .args .x) _ _ (at-match .keys2) (at-high-half .ensures) (c .invert2 .ensures)
+    law.high-others _ (at-start .args .x) _ _ (at-match .keys2) (at-high-half .ensures) (at-invert2 .ensures)
 
 returns-3 : tie.Need-returns-3
 returns-3 c =
+    let at-new = c .new in
     let at-match = c .before .match in
     let at-start = c .before .before in
-    law.none-others _ (at-start .args .x) _ (at-match .rest .0 .1) (at-match .rest .1) (c .new .ensures)
+    law.none-others _ (at-start .args .x) _ (at-match .rest .0 .1) (at-match .rest .1) (at-new .ensures)
 
 pub other-half-of-spec : {M : Type 1} → statement M
 other-half-of-spec =

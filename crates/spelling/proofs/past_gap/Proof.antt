@@ -11,11 +11,14 @@ add-result c = search needs
 
 returns : tie.Need-returns
 returns c =
+    let at-if1 = c .if1 in
     let at-start = c .before in
-    sym (law.gapped-below _ _ (at-start .args .gap) (c .if1 .taken))
+    sym (law.gapped-below _ _ (at-start .args .gap) (at-if1 .taken))
 
 returns-2 : tie.Need-returns-2
-returns-2 c = sym (law.gapped-above _ _ _ (omega (arith, c .if1 .left)))
+returns-2 c =
+    let at-if1 = c .if1 in
+    sym (law.gapped-above _ _ _ (omega (arith, at-if1 .left)))
 
 pub past-gap-spec : {M : Type 1} → statement M
 past-gap-spec = tie.close (tie.spec add-result returns returns-2)

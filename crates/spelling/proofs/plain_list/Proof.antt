@@ -33,10 +33,11 @@ plain-entry-requires c κs = search needs
 
 returns : tie.Need-returns Inv-loop μ-loop
 returns c =
+    let at-if1 = c .if1 in
     let at-plain-entry = c .before .plain-entry in
     let at-loop-test = c .before .before .before .before .loop-test in
     let at-loop = c .before .before .before .before .before .loop in
-    sym (at-loop .inv ∙ law.list-stop (at-loop .rest .now) (at-loop-test .taken) (sym (at-plain-entry .ensures) ∙ not-true _ (c .if1 .taken)))
+    sym (at-loop .inv ∙ law.list-stop (at-loop .rest .now) (at-loop-test .taken) (sym (at-plain-entry .ensures) ∙ not-true _ (at-if1 .taken)))
 
 sub-rest : tie.Need-sub-rest Inv-loop μ-loop
 sub-rest c = search needs
@@ -63,8 +64,9 @@ loop-again c =
 
 returns-2 : tie.Need-returns-2 Inv-loop μ-loop
 returns-2 c =
+    let at-loop-test = c .loop-test in
     let at-loop = c .before .loop in
-    sym (at-loop .inv ∙ law.list-end (at-loop .rest .now) (omega (arith, c .loop-test .left)))
+    sym (at-loop .inv ∙ law.list-end (at-loop .rest .now) (omega (arith, at-loop-test .left)))
 
 pub plain-list-spec : {M : Type 1} → statement M
 plain-list-spec =

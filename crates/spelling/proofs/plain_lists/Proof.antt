@@ -28,31 +28,35 @@ end-of-requires c κs = search needs
 
 sub-plain-list : tie.Need-sub-plain-list Inv-loop μ-loop
 sub-plain-list c =
+    let at-end-of = c .end-of in
     let at-loop-test = c .before .loop-test in
     let at-loop = c .before .before .loop in
-    omega (arith, (c .end-of .ensures), (step.ends-long (at-loop .rest .now) (at-loop-test .taken)))
+    omega (arith, (at-end-of .ensures), (step.ends-long (at-loop .rest .now) (at-loop-test .taken)))
 
 part-plain-list-start : tie.Need-part-plain-list-start Inv-loop μ-loop
 part-plain-list-start c =
+    let at-end-of = c .end-of in
     let at-loop-test = c .before .loop-test in
     let at-loop = c .before .before .loop in
-    omega (arith, (c .end-of .ensures), (step.ends-long (at-loop .rest .now) (at-loop-test .taken)))
+    omega (arith, (at-end-of .ensures), (step.ends-long (at-loop .rest .now) (at-loop-test .taken)))
 
 part-plain-list-end : tie.Need-part-plain-list-end Inv-loop μ-loop
 part-plain-list-end c =
+    let at-end-of = c .end-of in
     let at-loop = c .before .before .loop in
-    omega (arith, (c .end-of .ensures), (step.ends-le (at-loop .rest .now)))
+    omega (arith, (at-end-of .ensures), (step.ends-le (at-loop .rest .now)))
 
 plain-list-requires : tie.Need-plain-list-requires Inv-loop μ-loop
 plain-list-requires c κs = search needs
 
 returns : tie.Need-returns Inv-loop μ-loop
 returns c =
+    let at-if1 = c .if1 in
     let at-plain-list = c .before .plain-list in
     let at-end-of = c .before .before .before .end-of in
     let at-loop-test = c .before .before .before .before .loop-test in
     let at-loop = c .before .before .before .before .before .loop in
-    sym (at-loop .inv .1 ∙ law.lists-stop (at-loop .rest .now) (at-loop-test .taken) (ap (λ (x : ℕ). plainList (flatIn (take (x - 4) (drop 4 (at-loop .rest .now))))) (sym (at-end-of .ensures)) ∙ sym (at-plain-list .ensures) ∙ not-true _ (c .if1 .taken)))
+    sym (at-loop .inv .1 ∙ law.lists-stop (at-loop .rest .now) (at-loop-test .taken) (ap (λ (x : ℕ). plainList (flatIn (take (x - 4) (drop 4 (at-loop .rest .now))))) (sym (at-end-of .ensures)) ∙ sym (at-plain-list .ensures) ∙ not-true _ (at-if1 .taken)))
 
 mul-rest : tie.Need-mul-rest Inv-loop μ-loop
 mul-rest c =
@@ -98,8 +102,9 @@ loop-again c =
 
 returns-2 : tie.Need-returns-2 Inv-loop μ-loop
 returns-2 c =
+    let at-loop-test = c .loop-test in
     let at-loop = c .before .loop in
-    sym (at-loop .inv .1 ∙ law.lists-done (at-loop .rest .now) (omega (arith, c .loop-test .left)))
+    sym (at-loop .inv .1 ∙ law.lists-done (at-loop .rest .now) (omega (arith, at-loop-test .left)))
 
 pub plain-lists-spec : {M : Type 1} → statement M
 plain-lists-spec =

@@ -31,43 +31,49 @@ end-of-requires c κs = search needs
 
 sub-count-list : tie.Need-sub-count-list Inv-loop μ-loop
 sub-count-list c =
+    let at-end-of = c .end-of in
     let at-loop-test = c .before .loop-test in
     let at-loop = c .before .before .loop in
-    omega (arith, (c .end-of .ensures), (step.ends-long (at-loop .rest .now) (at-loop-test .taken)))
+    omega (arith, (at-end-of .ensures), (step.ends-long (at-loop .rest .now) (at-loop-test .taken)))
 
 part-count-list-start : tie.Need-part-count-list-start Inv-loop μ-loop
 part-count-list-start c =
+    let at-end-of = c .end-of in
     let at-loop-test = c .before .loop-test in
     let at-loop = c .before .before .loop in
-    omega (arith, (c .end-of .ensures), (step.ends-long (at-loop .rest .now) (at-loop-test .taken)))
+    omega (arith, (at-end-of .ensures), (step.ends-long (at-loop .rest .now) (at-loop-test .taken)))
 
 part-count-list-end : tie.Need-part-count-list-end Inv-loop μ-loop
 part-count-list-end c =
+    let at-end-of = c .end-of in
     let at-loop = c .before .before .loop in
-    omega (arith, (c .end-of .ensures), (step.ends-le (at-loop .rest .now)))
+    omega (arith, (at-end-of .ensures), (step.ends-le (at-loop .rest .now)))
 
 count-list-requires : tie.Need-count-list-requires Inv-loop μ-loop
 count-list-requires c κs = search needs
 
 mul-block : tie.Need-mul-block Inv-loop μ-loop
 mul-block c =
+    let at-count-list = c .count-list in
     let at-start = c .before .before .before .before .before .before in
-    omega (arith, mul-le-mul ((at-start .pre) .0) (part.capped _ _ (c .count-list .ensures)))
+    omega (arith, mul-le-mul ((at-start .pre) .0) (part.capped _ _ (at-count-list .ensures)))
 
 div-result : tie.Need-div-result Inv-loop μ-loop
 div-result c =
+    let at-if1 = c .if1 in
     let at-loop = c .before .before .before .before .before .loop in
     let at-start = c .before .before .before .before .before .before .before in
-    pos-right (at-loop .left) (at-start .args .p) _ (c .if1 .taken)
+    pos-right (at-loop .left) (at-start .args .p) _ (at-if1 .taken)
 
 returns : tie.Need-returns Inv-loop μ-loop
 returns c =
+    let at-if1 = c .if1 in
     let at-count-list = c .before .count-list in
     let at-end-of = c .before .before .before .end-of in
     let at-loop-test = c .before .before .before .before .loop-test in
     let at-loop = c .before .before .before .before .before .loop in
     let at-start = c .before .before .before .before .before .before .before in
-    sym (at-loop .inv .2 ∙ spell.prefix-found (at-loop .rest .now) (at-loop-test .taken) _ _ (at-end-of .ensures) (at-count-list .ensures) (at-loop .inv .1) (at-start .args .p) (at-loop .left) (c .if1 .taken))
+    sym (at-loop .inv .2 ∙ spell.prefix-found (at-loop .rest .now) (at-loop-test .taken) _ _ (at-end-of .ensures) (at-count-list .ensures) (at-loop .inv .1) (at-start .args .p) (at-loop .left) (at-if1 .taken))
 
 mul-rest : tie.Need-mul-rest Inv-loop μ-loop
 mul-rest c =
@@ -117,9 +123,10 @@ loop-again c =
 
 returns-2 : tie.Need-returns-2 Inv-loop μ-loop
 returns-2 c =
+    let at-loop-test = c .loop-test in
     let at-loop = c .before .loop in
     let at-start = c .before .before .before in
-    sym (at-loop .inv .2 ∙ spell.prefix-end (at-loop .rest .now) (omega (arith, c .loop-test .left)) (at-start .args .p) (at-loop .left))
+    sym (at-loop .inv .2 ∙ spell.prefix-end (at-loop .rest .now) (omega (arith, at-loop-test .left)) (at-start .args .p) (at-loop .left))
 
 pub prefix-in-spec : {M : Type 1} → statement M
 prefix-in-spec =

@@ -20,18 +20,21 @@ end-of-requires c κs = search needs
 
 sub-prefix-in : tie.Need-sub-prefix-in
 sub-prefix-in c =
+    let at-end-of = c .end-of in
     let at-start = c .before .before .before .before in
-    omega (arith, c .end-of .ensures, step.ends-long (at-start .args .ws .now) ((at-start .pre) .0))
+    omega (arith, at-end-of .ensures, step.ends-long (at-start .args .ws .now) ((at-start .pre) .0))
 
 part-prefix-in-start : tie.Need-part-prefix-in-start
 part-prefix-in-start c =
+    let at-end-of = c .end-of in
     let at-start = c .before .before .before .before in
-    omega (arith, c .end-of .ensures, step.ends-long (at-start .args .ws .now) ((at-start .pre) .0))
+    omega (arith, at-end-of .ensures, step.ends-long (at-start .args .ws .now) ((at-start .pre) .0))
 
 part-prefix-in-end : tie.Need-part-prefix-in-end
 part-prefix-in-end c =
+    let at-end-of = c .end-of in
     let at-start = c .before .before .before .before in
-    omega (arith, c .end-of .ensures, step.ends-le (at-start .args .ws .now))
+    omega (arith, at-end-of .ensures, step.ends-le (at-start .args .ws .now))
 
 prefix-in-requires : tie.Need-prefix-in-requires
 prefix-in-requires c κs =
@@ -42,10 +45,11 @@ prefix-in-requires c κs =
 
 returns : tie.Need-returns
 returns c =
+    let at-prefix-in = c .prefix-in in
     let at-end-of = c .before .before .end-of in
     let at-if1 = c .before .before .before .if1 in
     let at-start = c .before .before .before .before .before .before in
-    c .prefix-in .ensures ∙ ap (λ (x : ℕ). prefixIn (listsIn (take (x - 4) (drop 4 (at-start .args .ws .now)))) (at-start .args .p) (at-start .args .q)) (at-end-of .ensures) ∙ sym (spell.prefix-inside (at-start .args .ws .now) (at-if1 .taken) (at-start .args .p) (at-start .args .q))
+    at-prefix-in .ensures ∙ ap (λ (x : ℕ). prefixIn (listsIn (take (x - 4) (drop 4 (at-start .args .ws .now)))) (at-start .args .p) (at-start .args .q)) (at-end-of .ensures) ∙ sym (spell.prefix-inside (at-start .args .ws .now) (at-if1 .taken) (at-start .args .p) (at-start .args .q))
 
 shared-slice-read-taken-count : tie.Need-shared-slice-read-taken-count
 shared-slice-read-taken-count c = search needs
@@ -61,13 +65,16 @@ taken-count-requires c κs = search needs
 
 returns-2 : tie.Need-returns-2
 returns-2 c =
+    let at-if2 = c .if2 in
     let at-taken-count = c .before .taken-count in
     let at-if1 = c .before .before .before .before .before .if1 in
     let at-start = c .before .before .before .before .before .before .before .before in
-    sym (spell.prefix-entry (at-start .args .ws .now) (at-if1 .left) (at-start .args .p) (at-start .args .q) ∙ ap (λ (x : ℕ). at-start .args .q / x) (sym (at-taken-count .ensures .0) ∙ c .if2 .taken) ∙ div-zero (at-start .args .q))
+    sym (spell.prefix-entry (at-start .args .ws .now) (at-if1 .left) (at-start .args .p) (at-start .args .q) ∙ ap (λ (x : ℕ). at-start .args .q / x) (sym (at-taken-count .ensures .0) ∙ at-if2 .taken) ∙ div-zero (at-start .args .q))
 
 div-result : tie.Need-div-result
-div-result c = omega (arith, c .if2 .left)
+div-result c =
+    let at-if2 = c .if2 in
+    omega (arith, at-if2 .left)
 
 returns-3 : tie.Need-returns-3
 returns-3 c =

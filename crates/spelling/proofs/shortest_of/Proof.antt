@@ -21,32 +21,37 @@ abbrev μ-loop : tie.MeasureT-loop
 
 returns : tie.Need-returns Inv-loop μ-loop
 returns c =
+    let at-if1 = c .if1 in
     let at-start = c .before .before in
-    (sym (law.lists-shortest-end (at-start .args .ws .now) (c .if1 .taken)), omega arith)
+    (sym (law.lists-shortest-end (at-start .args .ws .now) (at-if1 .taken)), omega arith)
 
 end-of-requires : tie.Need-end-of-requires Inv-loop μ-loop
 end-of-requires c κs = search needs
 
 sub-n : tie.Need-sub-n Inv-loop μ-loop
 sub-n c =
+    let at-end-of = c .end-of in
     let at-if1 = c .before .if1 in
     let at-start = c .before .before .before in
-    omega (arith, (c .end-of .ensures), step.ends-long (at-start .args .ws .now) (at-if1 .left))
+    omega (arith, (at-end-of .ensures), step.ends-long (at-start .args .ws .now) (at-if1 .left))
 
 mul-rest : tie.Need-mul-rest Inv-loop μ-loop
 mul-rest c =
+    let at-end-of = c .end-of in
     let at-start = c .before .before .before in
-    omega (arith, (c .end-of .ensures), step.ends-le (at-start .args .ws .now))
+    omega (arith, (at-end-of .ensures), step.ends-le (at-start .args .ws .now))
 
 sub-rest : tie.Need-sub-rest Inv-loop μ-loop
 sub-rest c =
+    let at-end-of = c .end-of in
     let at-start = c .before .before .before in
-    omega (arith, (c .end-of .ensures), step.ends-le (at-start .args .ws .now))
+    omega (arith, (at-end-of .ensures), step.ends-le (at-start .args .ws .now))
 
 part-rest-start : tie.Need-part-rest-start Inv-loop μ-loop
 part-rest-start c =
+    let at-end-of = c .end-of in
     let at-start = c .before .before .before in
-    omega (arith, (c .end-of .ensures), step.ends-le (at-start .args .ws .now))
+    omega (arith, (at-end-of .ensures), step.ends-le (at-start .args .ws .now))
 
 part-rest-end : tie.Need-part-rest-end Inv-loop μ-loop
 part-rest-end c = search needs
@@ -70,9 +75,10 @@ end-of-requires-2 c κs = search needs
 
 sub-smaller : tie.Need-sub-smaller Inv-loop μ-loop
 sub-smaller c =
+    let at-end-of2 = c .end-of2 in
     let at-loop-test = c .before .loop-test in
     let at-loop = c .before .before .loop in
-    omega (arith, (c .end-of2 .ensures), (step.ends-long (at-loop .rest .now) (at-loop-test .taken)))
+    omega (arith, (at-end-of2 .ensures), (step.ends-long (at-loop .rest .now) (at-loop-test .taken)))
 
 smaller-requires : tie.Need-smaller-requires Inv-loop μ-loop
 smaller-requires c κs = search needs
@@ -121,8 +127,9 @@ loop-again c =
 
 returns-2 : tie.Need-returns-2 Inv-loop μ-loop
 returns-2 c =
+    let at-loop-test = c .loop-test in
     let at-loop = c .before .loop in
-    (sym (at-loop .inv .2 ∙ law.lists-shorter-end (at-loop .rest .now) (omega (arith, c .loop-test .left)) (at-loop .n)), at-loop .inv .1)
+    (sym (at-loop .inv .2 ∙ law.lists-shorter-end (at-loop .rest .now) (omega (arith, at-loop-test .left)) (at-loop .n)), at-loop .inv .1)
 
 pub shortest-of-spec : {M : Type 1} → statement M
 shortest-of-spec =

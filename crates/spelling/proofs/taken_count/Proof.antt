@@ -9,8 +9,9 @@ use Rattle.spelling.proofs.taken_count.Tie as tie
 
 returns : tie.Need-returns
 returns c =
+    let at-if1 = c .if1 in
     let at-start = c .before in
-    (sym (ap length (class.byte-taken _ (at-start .args .value) (at-start .args .mask) (c .if1 .taken))), omega arith)
+    (sym (ap length (class.byte-taken _ (at-start .args .value) (at-start .args .mask) (at-if1 .taken))), omega arith)
 
 class-of-requires : tie.Need-class-of-requires
 class-of-requires c κs = search needs
@@ -23,10 +24,11 @@ cast-result c = search needs
 
 returns-2 : tie.Need-returns-2
 returns-2 c =
+    let at-count = c .count in
     let at-class-of = c .before .class-of in
     let at-if1 = c .before .before .if1 in
     let at-start = c .before .before .before in
-    (c .count .ensures ∙ class.held-size _ _ (class.not-byte _ (at-start .args .value) (at-start .args .mask) (at-if1 .left)) (at-class-of .ensures), omega (arith, c .count .ensures, class.size-le (at-class-of .result)))
+    (at-count .ensures ∙ class.held-size _ _ (class.not-byte _ (at-start .args .value) (at-start .args .mask) (at-if1 .left)) (at-class-of .ensures), omega (arith, at-count .ensures, class.size-le (at-class-of .result)))
 
 pub taken-count-spec : {M : Type 1} → statement M
 taken-count-spec =

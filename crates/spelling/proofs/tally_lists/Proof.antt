@@ -31,26 +31,31 @@ end-of-requires c κs = search needs
 
 sub-count-list : tie.Need-sub-count-list Inv-loop μ-loop
 sub-count-list c =
+    let at-end-of = c .end-of in
     let at-loop-test = c .before .loop-test in
     let at-loop = c .before .before .loop in
-    omega (arith, (c .end-of .ensures), (step.ends-long (at-loop .rest .now) (at-loop-test .taken)))
+    omega (arith, (at-end-of .ensures), (step.ends-long (at-loop .rest .now) (at-loop-test .taken)))
 
 part-count-list-start : tie.Need-part-count-list-start Inv-loop μ-loop
 part-count-list-start c =
+    let at-end-of = c .end-of in
     let at-loop-test = c .before .loop-test in
     let at-loop = c .before .before .loop in
-    omega (arith, (c .end-of .ensures), (step.ends-long (at-loop .rest .now) (at-loop-test .taken)))
+    omega (arith, (at-end-of .ensures), (step.ends-long (at-loop .rest .now) (at-loop-test .taken)))
 
 part-count-list-end : tie.Need-part-count-list-end Inv-loop μ-loop
 part-count-list-end c =
+    let at-end-of = c .end-of in
     let at-loop = c .before .before .loop in
-    omega (arith, (c .end-of .ensures), (step.ends-le (at-loop .rest .now)))
+    omega (arith, (at-end-of .ensures), (step.ends-le (at-loop .rest .now)))
 
 count-list-requires : tie.Need-count-list-requires Inv-loop μ-loop
 count-list-requires c κs = search needs
 
 add-smaller : tie.Need-add-smaller Inv-loop μ-loop
-add-smaller c = omega (arith, c .count-list .ensures)
+add-smaller c =
+    let at-count-list = c .count-list in
+    omega (arith, at-count-list .ensures)
 
 smaller-requires : tie.Need-smaller-requires Inv-loop μ-loop
 smaller-requires c κs = search needs
@@ -118,8 +123,9 @@ loop-again c =
 
 returns : tie.Need-returns Inv-loop μ-loop
 returns c =
+    let at-loop-test = c .loop-test in
     let at-loop = c .before .loop in
-    record { literals-are = sym (at-loop .inv .3 ∙ law.lists-count-end (at-loop .rest .now) (omega (arith, c .loop-test .left)) _ (at-loop .inv .1)); combinations-are = sym (at-loop .inv .4 ∙ law.lists-combinations-end (at-loop .rest .now) (omega (arith, c .loop-test .left)) _ (at-loop .inv .2)) }
+    record { literals-are = sym (at-loop .inv .3 ∙ law.lists-count-end (at-loop .rest .now) (omega (arith, at-loop-test .left)) _ (at-loop .inv .1)); combinations-are = sym (at-loop .inv .4 ∙ law.lists-combinations-end (at-loop .rest .now) (omega (arith, at-loop-test .left)) _ (at-loop .inv .2)) }
 
 pub tally-lists-spec : {M : Type 1} → statement M
 tally-lists-spec =

@@ -21,28 +21,32 @@ end-of-requires c κs = search needs
 
 sub-tally-lists : tie.Need-sub-tally-lists
 sub-tally-lists c =
+    let at-end-of = c .end-of in
     let at-start = c .before .before .before .before in
-    omega (arith, c .end-of .ensures, step.ends-long (at-start .args .ws .now) (at-start .pre))
+    omega (arith, at-end-of .ensures, step.ends-long (at-start .args .ws .now) (at-start .pre))
 
 part-tally-lists-start : tie.Need-part-tally-lists-start
 part-tally-lists-start c =
+    let at-end-of = c .end-of in
     let at-start = c .before .before .before .before in
-    omega (arith, c .end-of .ensures, step.ends-long (at-start .args .ws .now) (at-start .pre))
+    omega (arith, at-end-of .ensures, step.ends-long (at-start .args .ws .now) (at-start .pre))
 
 part-tally-lists-end : tie.Need-part-tally-lists-end
 part-tally-lists-end c =
+    let at-end-of = c .end-of in
     let at-start = c .before .before .before .before in
-    omega (arith, c .end-of .ensures, step.ends-le (at-start .args .ws .now))
+    omega (arith, at-end-of .ensures, step.ends-le (at-start .args .ws .now))
 
 tally-lists-requires : tie.Need-tally-lists-requires
 tally-lists-requires c κs = search needs
 
 returns : tie.Need-returns
 returns c =
+    let at-tally-lists = c .tally-lists in
     let at-end-of = c .before .before .end-of in
     let at-if1 = c .before .before .before .if1 in
     let at-start = c .before .before .before .before .before .before in
-    law.token-tallied (at-start .args .ws .now) _ (at-if1 .taken) (subst (λ (x : ℕ). Tallied (c .tally-lists .result) (countIn (listsIn (take (x - 4) (drop 4 (at-start .args .ws .now))))) (combinationsIn (listsIn (take (x - 4) (drop 4 (at-start .args .ws .now)))))) (at-end-of .ensures) (c .tally-lists .ensures))
+    law.token-tallied (at-start .args .ws .now) _ (at-if1 .taken) (subst (λ (x : ℕ). Tallied (at-tally-lists .result) (countIn (listsIn (take (x - 4) (drop 4 (at-start .args .ws .now))))) (combinationsIn (listsIn (take (x - 4) (drop 4 (at-start .args .ws .now)))))) (at-end-of .ensures) (at-tally-lists .ensures))
 
 shared-slice-read-taken-count : tie.Need-shared-slice-read-taken-count
 shared-slice-read-taken-count c = search needs
@@ -58,9 +62,10 @@ taken-count-requires c κs = search needs
 
 returns-2 : tie.Need-returns-2
 returns-2 c =
+    let at-taken-count = c .taken-count in
     let at-if1 = c .before .before .before .before .if1 in
     let at-start = c .before .before .before .before .before .before .before in
-    law.entry-tallied (at-start .args .ws .now) _ (at-if1 .left) (c .taken-count .ensures .0) (c .taken-count .ensures .1)
+    law.entry-tallied (at-start .args .ws .now) _ (at-if1 .left) (at-taken-count .ensures .0) (at-taken-count .ensures .1)
 
 pub tally-token-spec : {M : Type 1} → statement M
 tally-token-spec =

@@ -31,8 +31,9 @@ tally-token-requires c κs = search needs
 
 times-requires : tie.Need-times-requires Inv-loop μ-loop
 times-requires c κs =
+    let at-tally-token = c .tally-token in
     let at-loop = c .before .before .loop in
-    (at-loop .inv .1, omega (arith, c .tally-token .ensures .literals-are))
+    (at-loop .inv .1, omega (arith, at-tally-token .ensures .literals-are))
 
 times-requires-2 : tie.Need-times-requires-2 Inv-loop μ-loop
 times-requires-2 c κs =
@@ -45,21 +46,24 @@ width-of-requires c κs = search needs
 
 mul-rest : tie.Need-mul-rest Inv-loop μ-loop
 mul-rest c =
+    let at-width-of = c .width-of in
     let at-loop-test = c .before .before .before .before .loop-test in
     let at-loop = c .before .before .before .before .before .loop in
-    omega (arith, (c .width-of .ensures), (step.width-le (at-loop .rest .now) (at-loop-test .taken)))
+    omega (arith, (at-width-of .ensures), (step.width-le (at-loop .rest .now) (at-loop-test .taken)))
 
 sub-rest : tie.Need-sub-rest Inv-loop μ-loop
 sub-rest c =
+    let at-width-of = c .width-of in
     let at-loop-test = c .before .before .before .before .loop-test in
     let at-loop = c .before .before .before .before .before .loop in
-    omega (arith, (c .width-of .ensures), (step.width-le (at-loop .rest .now) (at-loop-test .taken)))
+    omega (arith, (at-width-of .ensures), (step.width-le (at-loop .rest .now) (at-loop-test .taken)))
 
 part-rest-start : tie.Need-part-rest-start Inv-loop μ-loop
 part-rest-start c =
+    let at-width-of = c .width-of in
     let at-loop-test = c .before .before .before .before .loop-test in
     let at-loop = c .before .before .before .before .before .loop in
-    omega (arith, (c .width-of .ensures), (step.width-le (at-loop .rest .now) (at-loop-test .taken)))
+    omega (arith, (at-width-of .ensures), (step.width-le (at-loop .rest .now) (at-loop-test .taken)))
 
 part-rest-end : tie.Need-part-rest-end Inv-loop μ-loop
 part-rest-end c = search needs
@@ -95,8 +99,9 @@ loop-again c =
 
 returns : tie.Need-returns Inv-loop μ-loop
 returns c =
+    let at-loop-test = c .loop-test in
     let at-loop = c .before .loop in
-    record { literals-are = sym (at-loop .inv .3 ∙ law.tokens-count-end (at-loop .rest .now) (omega (arith, c .loop-test .left)) _ (at-loop .inv .1)); combinations-are = sym (at-loop .inv .4 ∙ law.tokens-combinations-end (at-loop .rest .now) (omega (arith, c .loop-test .left)) _ (at-loop .inv .2)) }
+    record { literals-are = sym (at-loop .inv .3 ∙ law.tokens-count-end (at-loop .rest .now) (omega (arith, at-loop-test .left)) _ (at-loop .inv .1)); combinations-are = sym (at-loop .inv .4 ∙ law.tokens-combinations-end (at-loop .rest .now) (omega (arith, at-loop-test .left)) _ (at-loop .inv .2)) }
 
 pub tally-tokens-spec : {M : Type 1} → statement M
 tally-tokens-spec =

@@ -6,7 +6,9 @@ use Rattle.spelling.proofs.times.Statement.{statement}
 use Rattle.spelling.proofs.times.Tie as tie
 
 mul-smaller : tie.Need-mul-smaller
-mul-smaller c = omega (arith, mul-le-mul (c .pre .0) (c .pre .1))
+mul-smaller c =
+    let at-start = c in
+    omega (arith, mul-le-mul (at-start .pre .0) (at-start .pre .1))
 
 smaller-requires : tie.Need-smaller-requires
 smaller-requires c κs = search needs

@@ -14,12 +14,15 @@ end-of-requires c κs = search needs
 returns : tie.Need-returns
 unfolding width
 returns c =
+    let at-end-of = c .end-of in
     let at-if1 = c .before .if1 in
-    rw (eq-eqb _ 5 (at-if1 .taken)) (c .end-of .ensures)
+    rw (eq-eqb _ 5 (at-if1 .taken)) (at-end-of .ensures)
 
 returns-2 : tie.Need-returns-2
 unfolding width
-returns-2 c = rw (ne-eqb _ 5 (c .if1 .left))
+returns-2 c =
+    let at-if1 = c .if1 in
+    rw (ne-eqb _ 5 (at-if1 .left))
 
 pub width-of-spec : {M : Type 1} → statement M
 width-of-spec = tie.close (tie.spec shared-slice-read-if1 end-of-requires returns returns-2)

@@ -34,28 +34,32 @@ end-of-requires c κs = search needs
 
 sub-count-list : tie.Need-sub-count-list Inv-loop μ-loop
 sub-count-list c =
+    let at-end-of = c .end-of in
     let at-loop-test = c .before .loop-test in
     let at-loop = c .before .before .loop in
-    omega (arith, (c .end-of .ensures), (step.ends-long (at-loop .rest .now) (at-loop-test .taken)))
+    omega (arith, (at-end-of .ensures), (step.ends-long (at-loop .rest .now) (at-loop-test .taken)))
 
 part-count-list-start : tie.Need-part-count-list-start Inv-loop μ-loop
 part-count-list-start c =
+    let at-end-of = c .end-of in
     let at-loop-test = c .before .loop-test in
     let at-loop = c .before .before .loop in
-    omega (arith, (c .end-of .ensures), (step.ends-long (at-loop .rest .now) (at-loop-test .taken)))
+    omega (arith, (at-end-of .ensures), (step.ends-long (at-loop .rest .now) (at-loop-test .taken)))
 
 part-count-list-end : tie.Need-part-count-list-end Inv-loop μ-loop
 part-count-list-end c =
+    let at-end-of = c .end-of in
     let at-loop = c .before .before .loop in
-    omega (arith, (c .end-of .ensures), (step.ends-le (at-loop .rest .now)))
+    omega (arith, (at-end-of .ensures), (step.ends-le (at-loop .rest .now)))
 
 count-list-requires : tie.Need-count-list-requires Inv-loop μ-loop
 count-list-requires c κs = search needs
 
 mul-block : tie.Need-mul-block Inv-loop μ-loop
 mul-block c =
+    let at-count-list = c .count-list in
     let at-start = c .before .before .before .before .before .before .before in
-    omega (arith, mul-le-mul ((at-start .pre) .0) (part.capped _ _ (c .count-list .ensures)))
+    omega (arith, mul-le-mul ((at-start .pre) .0) (part.capped _ _ (at-count-list .ensures)))
 
 sub-write-list : tie.Need-sub-write-list Inv-loop μ-loop
 sub-write-list c =
@@ -179,9 +183,10 @@ same-length-2 c =
 
 returns-2 : tie.Need-returns-2 Inv-loop μ-loop
 returns-2 c =
+    let at-loop-test = c .loop-test in
     let at-loop = c .before .loop in
     let at-start = c .before .before .before .before in
-    write.none-written _ _ _ (at-loop .inv .3 ∙ spell.piece-end (at-loop .rest .now) (omega (arith, c .loop-test .left)) (at-start .args .p) (at-loop .left)) (at-loop .inv .1)
+    write.none-written _ _ _ (at-loop .inv .3 ∙ spell.piece-end (at-loop .rest .now) (omega (arith, at-loop-test .left)) (at-start .args .p) (at-loop .left)) (at-loop .inv .1)
 
 pub write-branch-spec : {M : Type 1} → statement M
 write-branch-spec =

@@ -26,8 +26,9 @@ count-list-requires c κs = search needs
 
 loop-holds : tie.Need-loop-holds Inv-loop μ-loop
 loop-holds c =
+    let at-count-list = c .count-list in
     let at-start = c .before .before .before in
-    (spell.cap-exact _ _ (c .count-list .ensures) ((at-start .pre) .1), omega (arith, c .count-list .ensures, (at-start .pre) .0), omega (arith, c .count-list .ensures, (at-start .pre) .1), write.nothing-written _ _)
+    (spell.cap-exact _ _ (at-count-list .ensures) ((at-start .pre) .1), omega (arith, at-count-list .ensures, (at-start .pre) .0), omega (arith, at-count-list .ensures, (at-start .pre) .1), write.nothing-written _ _)
 
 shared-slice-read-taken-count : tie.Need-shared-slice-read-taken-count Inv-loop μ-loop
 shared-slice-read-taken-count c = search needs
@@ -43,9 +44,10 @@ taken-count-requires c κs = search needs
 
 div-n : tie.Need-div-n Inv-loop μ-loop
 div-n c =
+    let at-taken-count = c .taken-count in
     let at-loop-test = c .before .before .before .before .loop-test in
     let at-loop = c .before .before .before .before .before .loop in
-    omega (arith, spell.c-some (at-loop .rest .now) (at-loop-test .taken) (c .taken-count .result) (at-loop .n) (c .taken-count .ensures .0) (at-loop .inv .0) (at-loop .inv .1) (at-loop .inv .2))
+    omega (arith, spell.c-some (at-loop .rest .now) (at-loop-test .taken) (at-taken-count .result) (at-loop .n) (at-taken-count .ensures .0) (at-loop .inv .0) (at-loop .inv .1) (at-loop .inv .2))
 
 shared-slice-read-taken-at : tie.Need-shared-slice-read-taken-at Inv-loop μ-loop
 shared-slice-read-taken-at c = search needs
@@ -160,9 +162,10 @@ same-length c =
 
 returns : tie.Need-returns Inv-loop μ-loop
 returns c =
+    let at-loop-test = c .loop-test in
     let at-loop = c .before .loop in
     let at-start = c .before .before .before .before .before in
-    write.all-written _ _ _ _ (subst (λ (l : List ℕ). Halfway (literalAt (flatIn (at-start .args .ws .now)) (at-start .args .k)) l (at-loop .i) (at-start .args .dst .now) (at-loop .dst)) (spell.flat-ending-end (at-loop .rest .now) 1 (at-start .args .k) (omega (arith, c .loop-test .left))) (at-loop .inv .3))
+    write.all-written _ _ _ _ (subst (λ (l : List ℕ). Halfway (literalAt (flatIn (at-start .args .ws .now)) (at-start .args .k)) l (at-loop .i) (at-start .args .dst .now) (at-loop .dst)) (spell.flat-ending-end (at-loop .rest .now) 1 (at-start .args .k) (omega (arith, at-loop-test .left))) (at-loop .inv .3))
 
 pub write-list-spec : {M : Type 1} → statement M
 write-list-spec =

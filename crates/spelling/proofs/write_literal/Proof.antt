@@ -36,35 +36,38 @@ tally-token-requires c κs = search needs
 
 number-of-requires : tie.Need-number-of-requires Inv-loop μ-loop
 number-of-requires c κs =
+    let at-tally-token = c .tally-token in
     let at-loop-test = c .before .loop-test in
     let at-loop = c .before .before .loop in
-    ((at-loop-test .taken), at-loop .inv .1, c .tally-token .ensures .literals-are, at-loop .inv .3)
+    ((at-loop-test .taken), at-loop .inv .1, at-tally-token .ensures .literals-are, at-loop .inv .3)
 
 sub-write-piece : tie.Need-sub-write-piece Inv-loop μ-loop
 sub-write-piece c =
+    let at-number-of = c .number-of in
     let at-loop-test = c .before .before .loop-test in
     let at-loop = c .before .before .before .loop in
     let at-start = c .before .before .before .before .before .before in
-    (write.room-piece (literalAt (tokensIn (at-start .args .ws .now)) (at-start .args .k)) (pieceOf (tokenIn (at-loop .rest .now)) (at-loop .p) (c .number-of .result))
+    (write.room-piece (literalAt (tokensIn (at-start .args .ws .now)) (at-start .args .k)) (pieceOf (tokenIn (at-loop .rest .now)) (at-loop .p) (at-number-of .result))
     (ending (tokensIn (drop (width (at-loop .rest .now)) (at-loop .rest .now))) (at-loop .p * countOf (tokenIn (at-loop .rest .now))) (at-start .args .k)) (at-loop .i) (at-start .args .dst .now)
     (at-loop .dst)
     (subst (λ (l : List ℕ). Halfway (literalAt (tokensIn (at-start .args .ws .now)) (at-start .args .k)) l (at-loop .i) (at-start .args .dst .now) (at-loop .dst))
     (spell.ending-step (at-loop .rest .now) (at-loop-test .taken) (at-loop .p) (at-start .args .k)
     ∙ ap (λ (l : List ℕ). l ++ (ending (tokensIn (drop (width (at-loop .rest .now)) (at-loop .rest .now))) (at-loop .p * countOf (tokenIn (at-loop .rest .now))) (at-start .args .k)))
-    (sym (c .number-of .ensures))) (at-loop .inv .2)) ((at-start .pre) .2)) .0
+    (sym (at-number-of .ensures))) (at-loop .inv .2)) ((at-start .pre) .2)) .0
 
 part-write-piece-start : tie.Need-part-write-piece-start Inv-loop μ-loop
 part-write-piece-start c =
+    let at-number-of = c .number-of in
     let at-loop-test = c .before .before .loop-test in
     let at-loop = c .before .before .before .loop in
     let at-start = c .before .before .before .before .before .before in
-    (write.room-piece (literalAt (tokensIn (at-start .args .ws .now)) (at-start .args .k)) (pieceOf (tokenIn (at-loop .rest .now)) (at-loop .p) (c .number-of .result))
+    (write.room-piece (literalAt (tokensIn (at-start .args .ws .now)) (at-start .args .k)) (pieceOf (tokenIn (at-loop .rest .now)) (at-loop .p) (at-number-of .result))
     (ending (tokensIn (drop (width (at-loop .rest .now)) (at-loop .rest .now))) (at-loop .p * countOf (tokenIn (at-loop .rest .now))) (at-start .args .k)) (at-loop .i) (at-start .args .dst .now)
     (at-loop .dst)
     (subst (λ (l : List ℕ). Halfway (literalAt (tokensIn (at-start .args .ws .now)) (at-start .args .k)) l (at-loop .i) (at-start .args .dst .now) (at-loop .dst))
     (spell.ending-step (at-loop .rest .now) (at-loop-test .taken) (at-loop .p) (at-start .args .k)
     ∙ ap (λ (l : List ℕ). l ++ (ending (tokensIn (drop (width (at-loop .rest .now)) (at-loop .rest .now))) (at-loop .p * countOf (tokenIn (at-loop .rest .now))) (at-start .args .k)))
-    (sym (c .number-of .ensures))) (at-loop .inv .2)) ((at-start .pre) .2)) .0
+    (sym (at-number-of .ensures))) (at-loop .inv .2)) ((at-start .pre) .2)) .0
 
 part-write-piece-end : tie.Need-part-write-piece-end Inv-loop μ-loop
 part-write-piece-end c = search needs
@@ -126,21 +129,24 @@ width-of-requires c κs = search needs
 
 mul-rest : tie.Need-mul-rest Inv-loop μ-loop
 mul-rest c =
+    let at-width-of = c .width-of in
     let at-loop-test = c .before .before .before .before .before .before .before .before .loop-test in
     let at-loop = c .before .before .before .before .before .before .before .before .before .loop in
-    omega (arith, (c .width-of .ensures), (step.width-le (at-loop .rest .now) (at-loop-test .taken)))
+    omega (arith, (at-width-of .ensures), (step.width-le (at-loop .rest .now) (at-loop-test .taken)))
 
 sub-rest : tie.Need-sub-rest Inv-loop μ-loop
 sub-rest c =
+    let at-width-of = c .width-of in
     let at-loop-test = c .before .before .before .before .before .before .before .before .loop-test in
     let at-loop = c .before .before .before .before .before .before .before .before .before .loop in
-    omega (arith, (c .width-of .ensures), (step.width-le (at-loop .rest .now) (at-loop-test .taken)))
+    omega (arith, (at-width-of .ensures), (step.width-le (at-loop .rest .now) (at-loop-test .taken)))
 
 part-rest-start : tie.Need-part-rest-start Inv-loop μ-loop
 part-rest-start c =
+    let at-width-of = c .width-of in
     let at-loop-test = c .before .before .before .before .before .before .before .before .loop-test in
     let at-loop = c .before .before .before .before .before .before .before .before .before .loop in
-    omega (arith, (c .width-of .ensures), (step.width-le (at-loop .rest .now) (at-loop-test .taken)))
+    omega (arith, (at-width-of .ensures), (step.width-le (at-loop .rest .now) (at-loop-test .taken)))
 
 part-rest-end : tie.Need-part-rest-end Inv-loop μ-loop
 part-rest-end c = search needs
@@ -191,9 +197,10 @@ same-length c =
 
 returns : tie.Need-returns Inv-loop μ-loop
 returns c =
+    let at-loop-test = c .loop-test in
     let at-loop = c .before .loop in
     let at-start = c .before .before .before .before in
-    write.all-written _ _ _ _ (subst (λ (l : List ℕ). Halfway (literalAt (tokensIn (at-start .args .ws .now)) (at-start .args .k)) l (at-loop .i) (at-start .args .dst .now) (at-loop .dst)) (spell.ending-end (at-loop .rest .now) (omega (arith, c .loop-test .left)) (at-loop .p) (at-start .args .k)) (at-loop .inv .2))
+    write.all-written _ _ _ _ (subst (λ (l : List ℕ). Halfway (literalAt (tokensIn (at-start .args .ws .now)) (at-start .args .k)) l (at-loop .i) (at-start .args .dst .now) (at-loop .dst)) (spell.ending-end (at-loop .rest .now) (omega (arith, at-loop-test .left)) (at-loop .p) (at-start .args .k)) (at-loop .inv .2))
 
 pub write-literal-spec : {M : Type 1} → statement M
 write-literal-spec =

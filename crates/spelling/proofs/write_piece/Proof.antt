@@ -25,18 +25,21 @@ end-of-requires c κs =
 
 sub-write-branch : tie.Need-sub-write-branch
 sub-write-branch c =
+    let at-end-of = c .end-of in
     let at-start = c .before .before .before .before .before in
-    omega (arith, c .end-of .ensures, step.ends-long (at-start .args .ws .now) ((at-start .pre) .entry))
+    omega (arith, at-end-of .ensures, step.ends-long (at-start .args .ws .now) ((at-start .pre) .entry))
 
 part-write-branch-start : tie.Need-part-write-branch-start
 part-write-branch-start c =
+    let at-end-of = c .end-of in
     let at-start = c .before .before .before .before .before in
-    omega (arith, c .end-of .ensures, step.ends-long (at-start .args .ws .now) ((at-start .pre) .entry))
+    omega (arith, at-end-of .ensures, step.ends-long (at-start .args .ws .now) ((at-start .pre) .entry))
 
 part-write-branch-end : tie.Need-part-write-branch-end
 part-write-branch-end c =
+    let at-end-of = c .end-of in
     let at-start = c .before .before .before .before .before in
-    omega (arith, c .end-of .ensures, step.ends-le (at-start .args .ws .now))
+    omega (arith, at-end-of .ensures, step.ends-le (at-start .args .ws .now))
 
 write-branch-requires : tie.Need-write-branch-requires
 write-branch-requires c κs =
@@ -140,12 +143,13 @@ same-length-3 c = search needs
 
 returns-3 : tie.Need-returns-3
 returns-3 c =
+    let at-taken-at = c .taken-at in
     let at-taken-count = c .before .before .before .before .taken-count in
     let at-if1 = c .before .before .before .before .before .before .before .before .before .before .if1 in
     let at-start = c .before .before .before .before .before .before .before .before .before .before .before .before .before .before in
-    subst (λ (l : List ℕ). Written 1 l (at-start .args .dst .now) (set (at-start .args .dst .now) 0 (c .taken-at .result)))
-    (sym (spell.piece-is-byte (at-start .args .ws .now) (at-if1 .left) (at-start .args .p) (at-start .args .q) _ _ (at-taken-count .ensures .0) (c .taken-at .ensures)))
-    (write.one-written (c .taken-at .result) (at-start .args .dst .now)
+    subst (λ (l : List ℕ). Written 1 l (at-start .args .dst .now) (set (at-start .args .dst .now) 0 (at-taken-at .result)))
+    (sym (spell.piece-is-byte (at-start .args .ws .now) (at-if1 .left) (at-start .args .p) (at-start .args .q) _ _ (at-taken-count .ensures .0) (at-taken-at .ensures)))
+    (write.one-written (at-taken-at .result) (at-start .args .dst .now)
     (spell.entry-room (at-start .args .ws .now) (at-if1 .left) (at-start .args .p) (at-start .args .q) _ ((at-start .pre) .fits)))
 
 pub write-piece-spec : {M : Type 1} → statement M

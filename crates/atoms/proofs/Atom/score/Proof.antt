@@ -40,11 +40,12 @@ loop-less c = search needs
 
 loop-again : tie.Need-loop-again Inv-loop μ-loop
 loop-again c =
+    let at-byte-score = c .byte-score in
     let at-loop = c .before .before .before .before .loop in
     let at-start = c .before .before .before .before .before .before in (
       omega arith,
       omega arith,
-      ap (λ (x : ℕ). at-loop .sum + x) (c .byte-score .ensures)
+      ap (λ (x : ℕ). at-loop .sum + x) (at-byte-score .ensures)
           ∙ window-more (at-start .args .bytes .now) (at-loop .i) _ (omega arith)
           (at-loop .inv .2),
     )
@@ -56,9 +57,10 @@ returns c =
 
 returns-2 : tie.Need-returns-2 Inv-loop μ-loop
 returns-2 c =
+    let at-if1 = c .if1 in
     let at-loop = c .before .before .loop in
     let at-start = c .before .before .before .before in
-    window-whole (at-start .args .bytes .now) (at-loop .i) 4 _ (c .if1 .taken) (omega arith) (at-loop .inv .2)
+    window-whole (at-start .args .bytes .now) (at-loop .i) 4 _ (at-if1 .taken) (omega arith) (at-loop .inv .2)
 
 pub score-spec : {M : Type 1} → statement M
 score-spec =

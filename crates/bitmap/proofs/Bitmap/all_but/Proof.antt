@@ -17,10 +17,11 @@ invert-requires c κs = search needs
 
 returns : tie.Need-returns
 returns c =
+    let at-invert = c .invert in
     let at-with = c .before .with in
     let at-new = c .before .before .new in
     let at-start = c .before .before .before in
-    λ v h. c .invert .ensures v h
+    λ v h. at-invert .ensures v h
     ∙ ap not (at-with .ensures v h ∙ ap (λ (t : Bool). eqb v (at-start .args .b) || t) (at-new .ensures v h) ∙ or-false (eqb v (at-start .args .b)))
 
 pub all-but-spec : {M : Type 1} → statement M

@@ -39,13 +39,14 @@ add-result-3 c = search needs
 
 returns : tie.Need-returns
 returns c =
+    let at-word-count4 = c .word-count4 in
     let at-word-count3 = c .before .before .word-count3 in
     let at-word-count2 = c .before .before .before .before .word-count2 in
     let at-word-count = c .before .before .before .before .before .before .word-count in
     let at-start = c .before .before .before .before .before .before .before .before in
     size-words (at-start .args .t1) _ _ _ _
     (at-word-count .ensures .0) (at-word-count2 .ensures .0)
-    (at-word-count3 .ensures .0) (c .word-count4 .ensures .0)
+    (at-word-count3 .ensures .0) (at-word-count4 .ensures .0)
 
 pub count-spec : {M : Type 1} → statement M
 count-spec =

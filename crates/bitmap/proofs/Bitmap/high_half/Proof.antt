@@ -25,7 +25,9 @@ array-write-words c = search needs
 
 returns : tie.Need-returns
 unfolding has
-returns c = high-bits (c .args .x)
+returns c =
+    let at-start = c in
+    high-bits (at-start .args .x)
 
 pub high-half-spec : {M : Type 1} → statement M
 high-half-spec =

@@ -17,7 +17,9 @@ shl-t4 c = search needs
 
 returns : tie.Need-returns
 unfolding has
-returns c = λ v h. four (λ i. (0x0001_0001_0001_0001 * 2 ^ (c .args .x % 16)) % 2 ^ 64) v h ∙ low-bits (c .args .x % 16) v (omega arith) h
+returns c =
+    let at-start = c in
+    λ v h. four (λ i. (0x0001_0001_0001_0001 * 2 ^ (at-start .args .x % 16)) % 2 ^ 64) v h ∙ low-bits (at-start .args .x % 16) v (omega arith) h
 
 pub low-half-spec : {M : Type 1} → statement M
 low-half-spec = tie.close (tie.spec cast-t3 shl-t4 returns)
