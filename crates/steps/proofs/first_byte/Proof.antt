@@ -15,8 +15,9 @@ returns c =
 
 returns-2 : tie.Need-returns-2
 returns-2 c =
+    let at-if1 = c .if1 in
     let at-start = c .before in
-    byte-none (at-start .args .s .now) (c .if1 .left)
+    byte-none (at-start .args .s .now) (at-if1 .left)
 
 pub first-byte-spec : {M : Type 1} → statement M
 first-byte-spec = tie.close (tie.spec shared-slice-read-t6 returns returns-2)

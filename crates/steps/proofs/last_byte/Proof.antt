@@ -18,8 +18,9 @@ returns c =
 
 returns-2 : tie.Need-returns-2
 returns-2 c =
+    let at-if1 = c .if1 in
     let at-start = c .before in
-    last-none (at-start .args .s .now) (c .if1 .left)
+    last-none (at-start .args .s .now) (at-if1 .left)
 
 pub last-byte-spec : {M : Type 1} → statement M
 last-byte-spec = tie.close (tie.spec sub-at shared-slice-read-t7 returns returns-2)

@@ -6,25 +6,34 @@ use Rattle.steps.proofs.tests_byte.Tie as tie
 
 returns : tie.Need-returns
 unfolding shape shapeBy
-returns c = rw (c .if1 .taken)
+returns c =
+    let at-if1 = c .if1 in
+    rw (at-if1 .taken)
 
 returns-2 : tie.Need-returns-2
 unfolding shape shapeBy
-returns-2 c = rw (c .match .keys1)
+returns-2 c =
+    let at-match = c .match in
+    rw (at-match .keys1)
 
 returns-3 : tie.Need-returns-3
 unfolding shape shapeBy
-returns-3 c = rw (c .match .keys2)
+returns-3 c =
+    let at-match = c .match in
+    rw (at-match .keys2)
 
 returns-4 : tie.Need-returns-4
 unfolding shape shapeBy
-returns-4 c = rw (c .match .keys3)
+returns-4 c =
+    let at-match = c .match in
+    rw (at-match .keys3)
 
 returns-5 : tie.Need-returns-5
 unfolding shape
 returns-5 c =
+    let at-match = c .match in
     let at-if1 = c .before .if1 in
-    let r = c .match .rest in no-test _ _ _ (at-if1 .left) (r .0 .0 .1) (r .0 .1) (r .1)
+    let r = at-match .rest in no-test _ _ _ (at-if1 .left) (r .0 .0 .1) (r .0 .1) (r .1)
 
 pub tests-byte-spec : {M : Type 1} → statement M
 tests-byte-spec = tie.close (tie.spec returns returns-2 returns-3 returns-4 returns-5)

@@ -39,11 +39,12 @@ same-length-4 c = search needs
 
 returns-2 : tie.Need-returns-2
 returns-2 c =
+    let at-number = c .number in
     let at-r2 = c .before .before .r2 in
     let at-compile = c .before .before .before .before .before .before .before .before .compile in
     let m = at-compile in
     let q = at-r2 in (
-      ap (λ (n : ℕ). compileTold (refuses n (q .given .0 .1 .0))) (c .number .ensures) ∙ ap compileTold (sym (ap said (q .given .1)) ∙ m .ensures .0),
+      ap (λ (n : ℕ). compileTold (refuses n (q .given .0 .1 .0))) (at-number .ensures) ∙ ap compileTold (sym (ap said (q .given .1)) ∙ m .ensures .0),
       m .ensures .1,
       m .ensures .2,
     )

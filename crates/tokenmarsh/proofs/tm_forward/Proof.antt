@@ -13,8 +13,9 @@ told-requires c κs = search needs
 
 returns : tie.Need-returns
 returns c =
+    let at-told = c .told in
     let at-forward = c .before .forward in
-    let done = at-forward .ensures in (c .told .ensures ∙ ap checkTold (done .says), done .bytes)
+    let done = at-forward .ensures in (at-told .ensures ∙ ap checkTold (done .says), done .bytes)
 
 pub tm-forward-spec : {M : Type 1} → statement M
 tm-forward-spec = tie.close (tie.spec forward-requires told-requires returns)

@@ -33,11 +33,12 @@ same-length-2 c = search needs
 
 returns-2 : tie.Need-returns-2
 returns-2 c =
+    let at-number = c .number in
     let at-r2 = c .before .before .r2 in
     let at-read = c .before .before .before .before .before .before .read in
     let m = at-read in
     let q = at-r2 in (
-      ap (λ (n : ℕ). readTold (refuses n (q .given .0 .1 .0))) (c .number .ensures) ∙ ap readTold (sym (ap said (q .given .1)) ∙ m .ensures .0),
+      ap (λ (n : ℕ). readTold (refuses n (q .given .0 .1 .0))) (at-number .ensures) ∙ ap readTold (sym (ap said (q .given .1)) ∙ m .ensures .0),
       m .ensures .1,
     )
 

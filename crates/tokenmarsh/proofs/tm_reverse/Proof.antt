@@ -13,8 +13,9 @@ told-requires c κs = search needs
 
 returns : tie.Need-returns
 returns c =
+    let at-told = c .told in
     let at-reverse = c .before .reverse in
-    let done = at-reverse .ensures in (c .told .ensures ∙ ap checkTold (done .says), done .bytes)
+    let done = at-reverse .ensures in (at-told .ensures ∙ ap checkTold (done .says), done .bytes)
 
 pub tm-reverse-spec : {M : Type 1} → statement M
 tm-reverse-spec = tie.close (tie.spec reverse-requires told-requires returns)

@@ -9,13 +9,15 @@ is-sound-requires c κs = search needs
 
 returns : tie.Need-returns
 returns c =
+    let at-if1 = c .if1 in
     let at-is-sound = c .before .is-sound in
-    rw (sym (at-is-sound .ensures) ∙ c .if1 .taken)
+    rw (sym (at-is-sound .ensures) ∙ at-if1 .taken)
 
 returns-2 : tie.Need-returns-2
 returns-2 c =
+    let at-if1 = c .if1 in
     let at-is-sound = c .before .is-sound in
-    rw (sym (at-is-sound .ensures) ∙ c .if1 .left)
+    rw (sym (at-is-sound .ensures) ∙ at-if1 .left)
 
 pub tm-sound-spec : {M : Type 1} → statement M
 tm-sound-spec = tie.close (tie.spec is-sound-requires returns returns-2)

@@ -34,13 +34,15 @@ returns c =
 
 returns-2 : tie.Need-returns-2
 returns-2 c =
+    let at-enum-told = c .enum-told in
     let at-forward = c .before .before .forward in
-    ap (tailTold _) (sym (ap said (c .enum-told .given .1)) ∙ at-forward .ensures .says)
+    ap (tailTold _) (sym (ap said (at-enum-told .given .1)) ∙ at-forward .ensures .says)
 
 returns-3 : tie.Need-returns-3
 returns-3 c =
+    let at-enum-told2 = c .enum-told2 in
     let at-forward = c .before .before .forward in
-    ap (tailTold _) (sym (ap said (c .enum-told2 .given .1)) ∙ at-forward .ensures .says)
+    ap (tailTold _) (sym (ap said (at-enum-told2 .given .1)) ∙ at-forward .ensures .says)
 
 pub tm-tail-spec : {M : Type 1} → statement M
 tm-tail-spec =

@@ -26,12 +26,15 @@ returns c =
     ap (λ (a : Answer). checkTold (said a)) (sym (at-r .given .1))
 
 returns-2 : tie.Need-returns-2
-returns-2 c = ap (λ (a : Answer). checkTold (said a)) (sym (c .enum-told .given .1))
+returns-2 c =
+    let at-enum-told = c .enum-told in
+    ap (λ (a : Answer). checkTold (said a)) (sym (at-enum-told .given .1))
 
 returns-3 : tie.Need-returns-3
 returns-3 c =
+    let at-number = c .number in
     let at-r2 = c .before .before .r2 in
-    ap (λ (n : ℕ). checkTold (refused n 0)) (c .number .ensures) ∙ ap (λ (a : Answer). checkTold (said a)) (sym (at-r2 .given .1))
+    ap (λ (n : ℕ). checkTold (refused n 0)) (at-number .ensures) ∙ ap (λ (a : Answer). checkTold (said a)) (sym (at-r2 .given .1))
 
 pub told-spec : {M : Type 1} → statement M
 told-spec =
