@@ -1,5 +1,5 @@
 #!/usr/bin/env python3
-"""Puts one fault at a time into the third reading of document 01 (src/model.rs and what it shares: src/sides.rs, src/listing.rs), runs the faulty reading over
+"""Puts one fault at a time into the third reading of document 01, whose rules stand in docs/RULES.md (src/model.rs and what it shares: src/sides.rs, src/listing.rs), runs the faulty reading over
 everything that the gate stores (texts with haystacks, listings, pools, programs with windows), and holds its answers to the stored ones. A misreading that sits in definition and
 code alike is seen by stored answers alone, so each fault must change one of them, or be excused: equal to the right reading on all inputs, for a reason that is written
 beside it. Needs rustc and nothing of the original.
