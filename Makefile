@@ -37,6 +37,8 @@ export PREFIX DESTDIR LIBDIR INCLUDEDIR PYTHONDIR VERSION SONAME
 all: $(OUT)/libtokenmarsh.so
 
 $(OUT)/libtokenmarsh.a: crates.txt $(shell find crates -name '*.rt' -o -name '*.antt')
+	# rt staticlib proves what the library stands on one crate after another; rt check takes several at a time.
+	rt check $$(sed -n 's/^tokenmarsh: *//p' crates.txt)
 	rt staticlib tokenmarsh
 
 $(OUT)/libtokenmarsh.so: $(OUT)/libtokenmarsh.a include/tokenmarsh.h

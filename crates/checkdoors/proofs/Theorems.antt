@@ -3,20 +3,19 @@ use mathlib.Core.Path.{_≡_, refl, sym, ap, ap₂, _∙_}
 use mathlib.Core.Bool.{true}
 use mathlib.Core.Logic.{_↔_}
 use mathlib.Core.Option.{Option, none, some}
-use mathlib.Core.List.{List, [], _∷_, _++_, reverse, reverse-reverse}
+use mathlib.Core.List.{List, [], _∷_, reverse, reverse-reverse}
 use Prim.Native.Nat.{ℕ, zero, suc, _+_, _-_, _≤_, _<_}
 use native.Mathlib.Omega.{arith}
 use borrow.Author.Tests.{le-leb}
-use lib.ListN.{length, take, drop, getD, length-append, length-take, length-drop, length-reverse}
+use lib.ListN.{length, take, drop, getD, length-take, length-drop, length-reverse}
 use lib.Seq.{ext-getD, getD-take, getD-drop, drop-drop}
 use denote.Ref.{RefT, ptr, now}
 use Rattle.base.proofs.RefusalLaws.{number-one}
-use Rattle.meaning.specs.Programs.{Span}
 use Rattle.meaning.specs.Choices.{short, long, Nowhere, FirstForward, FirstReverse}
 use Rattle.meaning.specs.Rows.{forward, backward}
-use Rattle.meaning.specs.Words.{prog, sound, mirrorWords}
+use Rattle.meaning.specs.Words.{prog, sound}
 use Rattle.meaning.proofs.FirstLaws as first
-use Rattle.meaning.proofs.WordSpans.{sound-length, join-sound, join-found, found-join, mirrored-sound, mirrored-found, found-mirrored}
+use Rattle.meaning.proofs.WordSpans.{sound-length}
 use Rattle.steps.specs.Steps.{answer}
 use Rattle.steps.proofs.Answers.{left-fits, left-part}
 use Rattle.checkdoors.specs.declared.Answer.{Answer}
@@ -200,38 +199,3 @@ module _ (ws hay : List ℕ) (s e : ℕ) (h : sound ws ≡ true) (d : s ≤ e) (
     λ g. first.backward-none (prog ws) (window hay s e) .0 (start-none s (backward (prog ws) (window hay s e)) (reverse-checked ws hay s e ok ∙ g)),
     λ g. sym (reverse-checked ws hay s e ok) ∙ ap (startAt s) (first.backward-none (prog ws) (window hay s e) .1 g),
   )
-
--- sound programs laid end to end, within the node limit: the door finds exactly where a span of the one is followed by a span of the other
-module _ (ws vs hay : List ℕ) (s e : ℕ) (h : sound ws ≡ true) (g : sound vs ≡ true) (room : length ws + length vs ≤ 512) (d : s ≤ e) (l : e ≤ length hay) where
-  both-ok : none ≡ refusal (ws ++ vs) (length hay) s e
-  both-ok = ok (ws ++ vs) hay s e (join-sound ws vs h g room) d l
-
-  pub joined-finds : (n : ℕ) → forwardSays (ws ++ vs) hay s e ≡ found n → (a : List ℕ) × (b : List ℕ) × (v : List ℕ) × (window hay s e ≡ a ++ (b ++ v)) × Span (prog ws) a × Span (prog vs) b × (n ≡ s + length (a ++ b))
-  joined-finds n f =
-      let q = end-some e n (forward (prog (ws ++ vs)) (window hay s e)) (forward-checked (ws ++ vs) hay s e both-ok ∙ f) in
-      let r = join-found ws vs h g room (window hay s e) (q .0) (q .1) in
-      let w = sym (window-length (ws ++ vs) hay s e (fine (ws ++ vs) (length hay) s e both-ok)) ∙ ap length (r .2) ∙ length-append (r .0) (r .1 ++ q .0) in
-      let l = length-append (r .0) (r .1) in
-      let k = length-append (r .1) (q .0) in
-      (r .0, r .1, q .0, r .2, r .3, r .4, omega (arith, q .2, w, l, k))
-
-  pub finds-joined : (a b v : List ℕ) → window hay s e ≡ a ++ (b ++ v) → Span (prog ws) a → Span (prog vs) b → (n : ℕ) × (forwardSays (ws ++ vs) hay s e ≡ found n)
-  finds-joined a b v c p q =
-      let f = found-join ws vs h g room (window hay s e) a b v c p q in
-      (e - length (f .0), sym (forward-checked (ws ++ vs) hay s e both-ok) ∙ ap (endAt e) (f .1))
-
--- the reverse door of the mirror finds a start exactly if a span of the original fills the window's tail
-module _ (ws hay : List ℕ) (s e : ℕ) (h : sound ws ≡ true) (d : s ≤ e) (l : e ≤ length hay) where
-  mirror-ok : none ≡ refusal (mirrorWords ws) (length hay) s e
-  mirror-ok = ok (mirrorWords ws) hay s e (mirrored-sound ws h) d l
-
-  pub mirror-finds : (n : ℕ) → reverseSays (mirrorWords ws) hay s e ≡ found n → (u : List ℕ) × (t : List ℕ) × (window hay s e ≡ u ++ t) × Span (prog ws) t × (n ≡ s + length u)
-  mirror-finds n f =
-      let q = start-some s n (backward (prog (mirrorWords ws)) (window hay s e)) (reverse-checked (mirrorWords ws) hay s e mirror-ok ∙ f) in
-      let m = mirrored-found ws h (window hay s e) (q .0) (q .1) in
-      (reverse (q .0), m .0, m .1, m .2, q .2 ∙ ap (λ (k : ℕ). s + k) (sym (length-reverse (q .0))))
-
-  pub finds-mirror : (u t : List ℕ) → window hay s e ≡ u ++ t → Span (prog ws) t → (n : ℕ) × (reverseSays (mirrorWords ws) hay s e ≡ found n)
-  finds-mirror u t c p =
-      let f = found-mirrored ws h (window hay s e) u t c p in
-      (s + length (f .0), sym (reverse-checked (mirrorWords ws) hay s e mirror-ok) ∙ ap (startAt s) (f .1))

@@ -12,7 +12,6 @@ pub mod ChoiceOrder
 pub mod FirstLaws
 pub mod JoinLaws
 pub mod MirrorWords
-pub mod SaysLaws
 pub mod WordSpans
 pub mod TokenLaws
 pub mod TokenTest

@@ -3,7 +3,7 @@
 use mathlib.Core.Path.{_≡_}
 use mathlib.Core.Bool.{Bool, true, false, cond, _&&_}
 use mathlib.Core.List.{List, [], _∷_, _++_}
-use Prim.Native.Nat.{ℕ, zero, suc, _+_, _*_, _/_, _%_, _≤_}
+use Prim.Native.Nat.{ℕ, zero, suc, _+_, _*_, _/_, _%_}
 use lib.Dec.{eqb, leb, ltb}
 use lib.ListN.{length, take, drop}
 use Rattle.meaning.specs.Programs.{byte, mask, negatedMask, dot, Item, Prog, Branches, one, jump, range, alt, end, _▹_, stop, or}
@@ -86,25 +86,7 @@ unfoldable pub plainProg : Prog → Bool
 plainProg end = true
 plainProg (i ▹ p) = plain i && plainProg p
 
--- what sound words say, as 01 has it: a node is one word, or an Alternation whose count is filled exactly by one or more branches;
--- a branch is an AltBranch whose count is filled exactly by plain nodes
-mutual
-  pub data Says : List ℕ → Prog → Type 0 where
-    nothing : Says [] end
-    node : {w : ℕ} {ws : List ℕ} {i : Item} {p : Prog} → proper w ≡ true → shape w ≡ item i → Says ws p → Says (w ∷ ws) (i ▹ p)
-    alternation : {w : ℕ} {bs vs ws : List ℕ} {b : Branches} {p : Prog} → proper w ≡ true → shape w ≡ opens (length bs) → ws ≡ bs ++ vs → SaysIn bs b → Says vs p → Says (w ∷ ws) (alt b ▹ p)
-
-  pub data SaysIn : List ℕ → Branches → Type 0 where
-    last : {w : ℕ} {ns : List ℕ} {p : Prog} → proper w ≡ true → shape w ≡ mark (length ns) → plainProg p ≡ true → Says ns p → SaysIn (w ∷ ns) (or p stop)
-    more : {w : ℕ} {ns bs ws : List ℕ} {p : Prog} {b : Branches} → proper w ≡ true → shape w ≡ mark (length ns) → ws ≡ ns ++ bs → plainProg p ≡ true → Says ns p → SaysIn bs b → SaysIn (w ∷ ws) (or p b)
-
--- a sound program: at most 512 words, which say one
-pub record SoundProgram (ws : List ℕ) : Type 0 where
-  pub short-enough : length ws ≤ 512
-  pub program : Prog
-  pub says : Says ws program
-
--- The same by computing. proofs/SaysLaws.antt says that `sound` is the test for SoundProgram, and that `prog` is its program.
+-- Sound words and what they say, by computing: crate promise lists them (specs/NodeWords.antt), and shows that these are the same.
 
 -- the program that words say; n bounds the depth of calls, and the number of words is enough
 unfoldable mutual

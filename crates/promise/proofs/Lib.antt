@@ -1,3 +1,4 @@
+pub mod WordTests
 pub mod NodeWords
 pub mod OneWording
 pub mod Adding

@@ -1,202 +1,193 @@
--- The listed sound words are the tested ones. Assumes nothing.
-use mathlib.Core.Path.{_≡_, refl, sym, ap, _∙_, subst}
-use mathlib.Core.Bool.{Bool, true, false, cond}
+-- The listed sound words are the tested ones, and the program that they say is the computed one. Assumes nothing.
+use mathlib.Core.Path.{_≡_, refl, sym, ap, ap₂, _∙_, subst, subst₂}
+use mathlib.Core.Bool.{Bool, true, false}
 use mathlib.Core.Logic.{_↔_}
-use mathlib.Core.List.{List, _∷_, _++_}
-use Prim.Native.Nat.{ℕ, _+_, _*_, _/_, _%_, _≤_, _<_}
+use mathlib.Core.List.{List, [], _∷_, _++_, append-nil}
+use Prim.Native.Nat.{ℕ, zero, suc, _+_, _/_, _%_, _≤_}
 use native.Mathlib.Omega.{arith}
-use lib.Dec.{eqb, ltb}
+use native.Mathlib.Nat.{le-refl}
+use lib.Dec.{leb}
 use borrow.Author.Tests.{leb-true, le-leb}
-use lib.ListN.{length}
-use Rattle.meaning.specs.Programs.{Test, byte, mask, negatedMask, any, dot, Item, Prog, Branches, one, jump, range, alt, _▹_, stop, or}
-use Rattle.meaning.specs.Words as words
-use Rattle.meaning.specs.Words.{fieldSize, kindOf, firstOf, secondOf, Shape, item, opens, mark, wrong, shapeBy, shape, properBy, proper, plain, plainProg, Says, SaysIn, sound, prog}
-use Rattle.meaning.proofs.KindLaws.{Seen, seen, kind-range}
-use Rattle.meaning.proofs.MadeLaws.{made-shape, made-proper}
-use Rattle.meaning.proofs.SoundLaws.{and-left, and-right, and-both, false-true}
-use Rattle.meaning.proofs.SaysLaws.{sound-program, program-sound, program-one}
-use Rattle.nodes.specs.declared.ByteTest.the-variants.{Byte, Mask, NegatedMask, Dot}
-use Rattle.nodes.specs.declared.Node.the-variants.{One, Jump, JumpRange, Alternation, AltBranch}
-use Rattle.nodes.proofs.NodeLaws.{word-again}
-use Rattle.promise.specs.NodeWords.{word, Flat, kind-0, kind-1, kind-2, kind-3, kind-5, Flats, no-node, a-node, Branched, last, more, Nodes, nothing, flat, kind-4, kind-6, SoundWords}
+use lib.ListN.{length, take, drop, length-append, length-drop, take-append-drop}
+use lib.Seq.{take-append-seam, drop-append-seam, length-take-le, take-all}
+use Rattle.meaning.specs.Programs.{Item, Prog, Branches, one, jump, range, alt, end, _▹_, stop, or}
+use Rattle.meaning.specs.Words.{Shape, item, opens, mark, wrong, shape, proper, plain, plainProg, plainWords, soundWords, soundBranches, branches, prog, branchesOf, sound, Sound, SoundBranches}
+use Rattle.meaning.proofs.WordLaws.{drop-le, prog-nil, prog-item, prog-opens, branches-mark}
+use Rattle.meaning.proofs.SoundLaws.{Marked, and-left, and-right, and-both, false-true, sound-proper, branch-proper, sound-item, sound-opens, sound-mark, sound-wrong, sound-branch, branch-shape, make-item, make-opens, make-branch, make-plain, plain-item, plain-nil}
+use Rattle.promise.specs.NodeWords.{word, Flats, no-node, a-node, Branched, last, more, Nodes, nothing, flat, kind-4, kind-6, SoundWords}
+use Rattle.promise.proofs.WordTests.{OfItem, of-item, of-opens, of-mark, flat-of, ordered, opens-some, range-word, mark-word, opens-word, flat-tested, flat-plain, range-tested, mark-tested, opens-tested}
 
--- the fields of a shape that a word says are below 256; no word says `any` or whole alternatives
-OfTest : Test → Type 0
-OfTest (byte v) = v < 256
-OfTest (mask v m) = (v < 256) × (m < 256)
-OfTest (negatedMask v m) = (v < 256) × (m < 256)
-OfTest any = ⊥
-OfTest dot = Unit {0}
+-- what listed words compute to
+record Computes (ws : List ℕ) (p : Prog) : Type 0 where
+  sounds : Sound ws
+  says : prog ws ≡ p
+  plainly : plainProg p ≡ true → plainWords ws ≡ true
 
-OfItem : Item → Type 0
-OfItem (one t) = OfTest t
-OfItem (jump n) = n < 256
-OfItem (range a b) = b < 256
-OfItem (alt bs) = ⊥
+record ComputesIn (bs : List ℕ) (b : Branches) : Type 0 where
+  sounds : SoundBranches bs
+  says : branchesOf bs ≡ b
 
-OfShape : Shape → Type 0
-OfShape (item i) = OfItem i
-OfShape (opens n) = n < 65536
-OfShape (mark n) = n < 256
-OfShape wrong = Unit {0}
+nothing-computes : Computes [] end
+unfolding soundWords
+nothing-computes = record { sounds = refl; says = prog-nil; plainly = λ h. plain-nil }
 
-of-cond : (b : Bool) (x y : Shape) → OfShape x → OfShape y → OfShape (cond b x y)
-of-cond true x y p q = p
-of-cond false x y p q = q
-
-of-fields : (k a b : ℕ) → a < 256 → b < 256 → OfShape (shapeBy k a b)
-unfolding shapeBy OfShape OfItem OfTest
-of-fields k a b h g =
-    of-cond (eqb k 0) _ _ h
-    (of-cond (eqb k 1) _ _ (h, g)
-    (of-cond (eqb k 2) _ _ (h, g)
-    (of-cond (eqb k 3) _ _ h
-    (of-cond (eqb k 4) _ _ g
-    (of-cond (eqb k 5) _ _ tt
-    (of-cond (eqb k 6) _ _ (omega arith)
-    (of-cond (eqb k 7) _ _ h tt)))))))
-
-of-shape : (w : ℕ) → OfShape (shape w)
-unfolding shape
-of-shape w = of-fields (kindOf w) (firstOf w) (secondOf w) (omega arith) (omega arith)
-
-of-item : (w : ℕ) (i : Item) → shape w ≡ item i → OfItem i
-unfolding OfShape
-of-item w i e = subst OfShape e (of-shape w)
-
-of-opens : (w n : ℕ) → shape w ≡ opens n → n < 65536
-unfolding OfShape
-of-opens w n e = subst OfShape e (of-shape w)
-
-of-mark : (w n : ℕ) → shape w ≡ mark n → n < 256
-unfolding OfShape
-of-mark w n e = subst OfShape e (of-shape w)
-
--- from the test to the list
-flat-of : (w : ℕ) (i : Item) → proper w ≡ true → shape w ≡ item i → plain i ≡ true → Flat w i
-unfolding OfItem OfTest plain
-flat-of w (one (byte v)) h e g = subst (λ (x : ℕ). Flat x (one (byte v))) (word-again w (One (Byte v)) h (sym e)) (kind-0 (of-item w (one (byte v)) e))
-flat-of w (one (mask v m)) h e g = let b = of-item w (one (mask v m)) e in subst (λ (x : ℕ). Flat x (one (mask v m))) (word-again w (One (Mask v m)) h (sym e)) (kind-1 (b .0) (b .1))
-flat-of w (one (negatedMask v m)) h e g = let b = of-item w (one (negatedMask v m)) e in subst (λ (x : ℕ). Flat x (one (negatedMask v m))) (word-again w (One (NegatedMask v m)) h (sym e)) (kind-2 (b .0) (b .1))
-flat-of w (one any) h e g = absurd (of-item w (one any) e)
-flat-of w (one dot) h e g = subst (λ (x : ℕ). Flat x (one dot)) (word-again w (One Dot) h (sym e)) kind-5
-flat-of w (jump n) h e g = subst (λ (x : ℕ). Flat x (jump n)) (word-again w (Jump n) h (sym e)) (kind-3 (of-item w (jump n) e))
-flat-of w (range a b) h e g = false-true g
-flat-of w (alt bs) h e g = absurd (of-item w (alt bs) e)
-
-flats-of : {ns : List ℕ} {p : Prog} → Says ns p → plainProg p ≡ true → Flats ns p
-unfolding plainProg plain
-flats-of words.nothing g = no-node
-flats-of (words.node {w = w} {ws = ws} {i = i} {p = p} h e q) g = a-node (flat-of w i h e (and-left (plain i) (plainProg p) g)) (flats-of q (and-right (plain i) (plainProg p) g))
-flats-of (words.alternation {w = w} {bs = bs} {vs = vs} {b = b} {p = p} h e f q r) g = false-true g
-
-branched-of : {bs : List ℕ} {b : Branches} → SaysIn bs b → Branched bs b
-branched-of (words.last {w = w} {ns = ns} {p = p} h e g q) =
-    subst (λ (x : ℕ). Branched (x ∷ ns) (or p stop)) (word-again w (AltBranch (length ns)) h (sym e)) (last (of-mark w (length ns) e) (flats-of q g))
-branched-of (words.more {w = w} {ns = ns} {bs = bs} {p = p} {b = b} h e f g q r) =
-    subst (λ (l : List ℕ). Branched (w ∷ l) (or p b)) (sym f)
-    (subst (λ (x : ℕ). Branched (x ∷ (ns ++ bs)) (or p b)) (word-again w (AltBranch (length ns)) h (sym e)) (more (of-mark w (length ns) e) (flats-of q g) (branched-of r)))
-
--- a range's min is at most its max
-ordered : (w a b : ℕ) → proper w ≡ true → shape w ≡ item (range a b) → a ≤ b
-unfolding proper properBy
-ordered w a b h e =
-    let s : kindOf w ≡ 4 = subst (Seen (kindOf w)) e (seen w) in
-    let g : item (range (firstOf w) (secondOf w)) ≡ item (range a b) = sym (kind-range w s) ∙ e in
-    let x : firstOf w ≡ a = cc in
-    let y : secondOf w ≡ b = cc in
-    let f : properBy 4 (firstOf w) (secondOf w) ≡ true = sym (ap (λ (k : ℕ). properBy k (firstOf w) (secondOf w)) s) ∙ and-right (ltb w (256 * fieldSize * fieldSize)) (properBy (kindOf w) (firstOf w) (secondOf w)) h in
-    let l : firstOf w ≤ secondOf w = leb-true (firstOf w) (secondOf w) f in
-    omega arith
-
-node-of : (w : ℕ) (ws : List ℕ) (i : Item) (p : Prog) → proper w ≡ true → shape w ≡ item i → Nodes ws p → Nodes (w ∷ ws) (i ▹ p)
-unfolding plain OfItem
-node-of w ws (one t) p h e q = flat (flat-of w (one t) h e refl) q
-node-of w ws (jump n) p h e q = flat (flat-of w (jump n) h e refl) q
-node-of w ws (range a b) p h e q =
-    subst (λ (x : ℕ). Nodes (x ∷ ws) (range a b ▹ p)) (word-again w (JumpRange a b) h (sym e)) (kind-4 (ordered w a b h e) (of-item w (range a b) e) q)
-node-of w ws (alt bs) p h e q = absurd (of-item w (alt bs) e)
-
-pub nodes-of : {ws : List ℕ} {p : Prog} → Says ws p → Nodes ws p
-nodes-of words.nothing = nothing
-nodes-of (words.node {w = w} {ws = ws} {i = i} {p = p} h e q) = node-of w ws i p h e (nodes-of q)
-nodes-of (words.alternation {w = w} {bs = bs} {vs = vs} {b = b} {p = p} h e f q r) =
-    let l = of-opens w (length bs) e in
-    subst (λ (x : List ℕ). Nodes (w ∷ x) (alt b ▹ p)) (sym f)
-    (subst (λ (x : ℕ). Nodes (x ∷ (bs ++ vs)) (alt b ▹ p)) (word-again w (Alternation (length bs)) h (sym e))
-    (kind-6 {a = length bs % 256} {b = length bs / 256} (omega arith) (omega arith) (omega arith) (branched-of q) (nodes-of r)))
-
--- and from the list to the test
-record Tested (w : ℕ) (s : Shape) : Type 0 where
-  proper-word : proper w ≡ true
-  says : shape w ≡ s
-
-made : (k a b : ℕ) → k < 256 → a < 256 → b < 256 → properBy k a b ≡ true → Tested (word k a b) (shapeBy k a b)
-made k a b h f g e = record { proper-word = made-proper k a b h f g e; says = made-shape k a b h f g }
-
-flat-tested : {w : ℕ} {i : Item} → Flat w i → Tested w (item i)
-unfolding properBy shapeBy
-flat-tested (kind-0 {v = v} h) = made 0 v 0 (omega arith) h (omega arith) refl
-flat-tested (kind-1 {v = v} {m = m} h g) = made 1 v m (omega arith) h g refl
-flat-tested (kind-2 {v = v} {m = m} h g) = made 2 v m (omega arith) h g refl
-flat-tested (kind-3 {n = n} h) = made 3 n 0 (omega arith) h (omega arith) refl
-flat-tested kind-5 = made 5 0 0 (omega arith) (omega arith) (omega arith) refl
-
-flat-plain : {w : ℕ} {i : Item} → Flat w i → plain i ≡ true
-unfolding plain
-flat-plain (kind-0 h) = refl
-flat-plain (kind-1 h g) = refl
-flat-plain (kind-2 h g) = refl
-flat-plain (kind-3 h) = refl
-flat-plain kind-5 = refl
-
-range-tested : (a b : ℕ) → a ≤ b → b < 256 → Tested (word 4 a b) (item (range a b))
-unfolding properBy shapeBy
-range-tested a b h g = made 4 a b (omega arith) (omega arith) g (le-leb a b h)
-
-mark-tested : (n : ℕ) → n < 256 → Tested (word 7 n 0) (mark n)
-unfolding properBy shapeBy
-mark-tested n h = made 7 n 0 (omega arith) h (omega arith) refl
-
-opens-tested : (a b n : ℕ) → a < 256 → b < 256 → n ≡ a + 256 * b → 1 ≤ n → Tested (word 6 a b) (opens n)
-unfolding properBy shapeBy
-opens-tested a b n h g e l = subst (λ (x : ℕ). Tested (word 6 a b) (opens x)) (sym e) (made 6 a b (omega arith) h g (le-leb 1 (a + 256 * b) (omega arith)))
-
-flats-say : {ns : List ℕ} {p : Prog} → Flats ns p → Says ns p × (plainProg p ≡ true)
+node-computes : (w : ℕ) (ws : List ℕ) (i : Item) (p : Prog) → proper w ≡ true → shape w ≡ item i → Computes ws p → Computes (w ∷ ws) (i ▹ p)
 unfolding plainProg
-flats-say no-node = (words.nothing, refl)
-flats-say (a-node {w = w} {ws = ws} {i = i} {p = p} f q) =
-    let t = flat-tested f in
-    let r = flats-say q in
-    (words.node (t .proper-word) (t .says) (r .0), and-both (flat-plain f) (r .1))
+node-computes w ws i p h e q = record {
+  sounds = make-item w ws e h (q .sounds);
+  says = prog-item w ws i e ∙ ap (λ (r : Prog). i ▹ r) (q .says);
+  plainly = λ g. make-plain w ws e (and-left (plain i) (plainProg p) g) h (q .plainly (and-right (plain i) (plainProg p) g));
+}
+
+alternation-computes : (w : ℕ) (bs ws : List ℕ) (b : Branches) (p : Prog) → proper w ≡ true → shape w ≡ opens (length bs) → ComputesIn bs b → Computes ws p → Computes (w ∷ (bs ++ ws)) (alt b ▹ p)
+unfolding plainProg plain
+alternation-computes w bs ws b p h e q r =
+    let t = take-append-seam bs ws in
+    let d = drop-append-seam bs ws in
+    record {
+      sounds = make-opens w (bs ++ ws) e h (record { fits = omega (arith, length-append bs ws); inside = subst SoundBranches (sym t) (q .sounds); after = subst Sound (sym d) (r .sounds) });
+      says = prog-opens w (bs ++ ws) (length bs) e ∙ ap₂ (λ (x y : List ℕ). alt (branchesOf x) ▹ prog y) t d ∙ ap₂ (λ (x : Branches) (y : Prog). alt x ▹ y) (q .says) (r .says);
+      plainly = λ g. false-true g;
+    }
+
+branch-computes : (w : ℕ) (ns bs : List ℕ) (p : Prog) (b : Branches) → proper w ≡ true → shape w ≡ mark (length ns) → plainProg p ≡ true → Computes ns p → ComputesIn bs b → ComputesIn (w ∷ (ns ++ bs)) (or p b)
+branch-computes w ns bs p b h e g q r =
+    let t = take-append-seam ns bs in
+    let d = drop-append-seam ns bs in
+    record {
+      sounds = make-branch w (ns ++ bs) e h (record { fits = omega (arith, length-append ns bs); inside = ap plainWords t ∙ q .plainly g; after = subst SoundBranches (sym d) (r .sounds) });
+      says = branches-mark w (ns ++ bs) (length ns) e ∙ ap₂ (λ (x y : List ℕ). or (prog x) (branchesOf y)) t d ∙ ap₂ or (q .says) (r .says);
+    }
+
+stop-computes : ComputesIn [] stop
+unfolding soundBranches branchesOf branches
+stop-computes = record { sounds = refl; says = refl }
+
+last-computes : (w : ℕ) (ns : List ℕ) (p : Prog) → proper w ≡ true → shape w ≡ mark (length ns) → plainProg p ≡ true → Computes ns p → ComputesIn (w ∷ ns) (or p stop)
+last-computes w ns p h e g q = subst (λ (l : List ℕ). ComputesIn (w ∷ l) (or p stop)) (append-nil ns) (branch-computes w ns [] p stop h e g q stop-computes)
+
+flats-plain : {ns : List ℕ} {p : Prog} → Flats ns p → plainProg p ≡ true
+unfolding plainProg
+flats-plain no-node = refl
+flats-plain (a-node f q) = and-both (flat-plain f) (flats-plain q)
+
+flats-compute : {ns : List ℕ} {p : Prog} → Flats ns p → Computes ns p
+flats-compute no-node = nothing-computes
+flats-compute (a-node {w = w} {ws = ws} {i = i} {p = p} f q) = let t = flat-tested f in node-computes w ws i p (t .proper-word) (t .says) (flats-compute q)
 
 branched-some : {bs : List ℕ} {b : Branches} → Branched bs b → 1 ≤ length bs
 branched-some (last {ns = ns} l q) = omega arith
 branched-some (more {ns = ns} {bs = bs} l q r) = omega arith
 
-branched-say : {bs : List ℕ} {b : Branches} → Branched bs b → SaysIn bs b
-branched-say (last {ns = ns} l q) =
+branched-computes : {bs : List ℕ} {b : Branches} → Branched bs b → ComputesIn bs b
+branched-computes (last {ns = ns} {p = p} l q) = let t = mark-tested (length ns) l in last-computes (word 7 (length ns) 0) ns p (t .proper-word) (t .says) (flats-plain q) (flats-compute q)
+branched-computes (more {ns = ns} {bs = bs} {p = p} {b = b} l q r) =
     let t = mark-tested (length ns) l in
-    let r = flats-say q in
-    words.last (t .proper-word) (t .says) (r .1) (r .0)
-branched-say (more {ns = ns} {bs = bs} l q u) =
-    let t = mark-tested (length ns) l in
-    let r = flats-say q in
-    words.more (t .proper-word) (t .says) refl (r .1) (r .0) (branched-say u)
+    branch-computes (word 7 (length ns) 0) ns bs p b (t .proper-word) (t .says) (flats-plain q) (flats-compute q) (branched-computes r)
 
-pub nodes-say : {ws : List ℕ} {p : Prog} → Nodes ws p → Says ws p
-nodes-say nothing = words.nothing
-nodes-say (flat f q) = let t = flat-tested f in words.node (t .proper-word) (t .says) (nodes-say q)
-nodes-say (kind-4 {a = a} {b = b} h g q) = let t = range-tested a b h g in words.node (t .proper-word) (t .says) (nodes-say q)
-nodes-say (kind-6 {a = a} {b = b} {bs = bs} {ws = ws} h g e u q) =
+nodes-compute : {ws : List ℕ} {p : Prog} → Nodes ws p → Computes ws p
+nodes-compute nothing = nothing-computes
+nodes-compute (flat {w = w} {ws = ws} {i = i} {p = p} f q) = let t = flat-tested f in node-computes w ws i p (t .proper-word) (t .says) (nodes-compute q)
+nodes-compute (kind-4 {a = a} {b = b} {ws = ws} {p = p} h g q) = let t = range-tested a b h g in node-computes (word 4 a b) ws (range a b) p (t .proper-word) (t .says) (nodes-compute q)
+nodes-compute (kind-6 {a = a} {b = b} {bs = bs} {ws = ws} {br = br} {p = p} h g e u q) =
     let t = opens-tested a b (length bs) h g e (branched-some u) in
-    words.alternation (t .proper-word) (t .says) refl (branched-say u) (nodes-say q)
+    alternation-computes (word 6 a b) bs ws br p (t .proper-word) (t .says) (branched-computes u) (nodes-compute q)
+
+-- what is tested is listed, with the computed program: words of a branch
+flats-listed : (ws : List ℕ) → plainWords ws ≡ true → Flats ws (prog ws)
+flats-listed [] h = subst (Flats []) (sym prog-nil) no-node
+flats-listed (w ∷ ws) h =
+    let q = plain-item w ws h in
+    subst (Flats (w ∷ ws)) (sym (prog-item w ws (q .0) (q .1))) (a-node (flat-of w (q .0) (q .4) (q .1) (q .2)) (flats-listed ws (q .3)))
+
+-- a branch and those after it
+branch-listed : (w : ℕ) (ws : List ℕ) (k : ℕ) → shape w ≡ mark k → SoundBranches (w ∷ ws) → (1 ≤ length (drop k ws) → Branched (drop k ws) (branchesOf (drop k ws))) → Branched (w ∷ ws) (branchesOf (w ∷ ws))
+branch-listed w ws k e h r = subst (Branched (w ∷ ws)) (sym (branches-mark w ws k e)) (go (drop k ws) refl r)
+  where
+    o : Marked k ws
+    o = sound-branch w ws e h
+
+    ns : List ℕ
+    ns = take k ws
+
+    m : shape w ≡ mark (length ns)
+    m = e ∙ ap mark (sym (length-take-le k ws (o .fits)))
+
+    v : word 7 (length ns) 0 ≡ w
+    v = mark-word w (length ns) (branch-proper w ws h) m
+
+    go : (l : List ℕ) → drop k ws ≡ l → (1 ≤ length l → Branched l (branchesOf l)) → Branched (w ∷ ws) (or (prog ns) (branchesOf l))
+    go [] z f =
+        let a : take k ws ≡ ws = take-all k ws (omega (arith, length-drop k ws, ap length z)) in
+        subst₂ (λ (x : List ℕ) (b : Branches). Branched (w ∷ x) (or (prog ns) b)) a (sym (stop-computes .says))
+        (subst (λ (x : ℕ). Branched (x ∷ ns) (or (prog ns) stop)) v (last (of-mark w (length ns) m) (flats-listed ns (o .inside))))
+    go (x ∷ l) z f =
+        let a : ns ++ (x ∷ l) ≡ ws = ap (λ (y : List ℕ). ns ++ y) (sym z) ∙ take-append-drop k ws in
+        subst (λ (y : List ℕ). Branched (w ∷ y) (or (prog ns) (branchesOf (x ∷ l)))) a
+        (subst (λ (y : ℕ). Branched (y ∷ (ns ++ (x ∷ l))) (or (prog ns) (branchesOf (x ∷ l)))) v (more (of-mark w (length ns) m) (flats-listed ns (o .inside)) (f (omega arith))))
+
+branched-listed : (n : ℕ) (ws : List ℕ) → length ws ≤ n → SoundBranches ws → 1 ≤ length ws → Branched ws (branchesOf ws)
+branched-listed zero [] l h j = absurd (omega arith)
+branched-listed zero (w ∷ ws) l h j = absurd (omega arith)
+branched-listed (suc n) [] l h j = absurd (omega arith)
+branched-listed (suc n) (w ∷ ws) l h j =
+    let (k, e) = branch-shape w ws h in
+    branch-listed w ws k e h (λ g. branched-listed n (drop k ws) (drop-le k n ws (omega arith)) (sound-branch w ws e h .after) g)
+
+-- an item of one word
+node-listed : (w : ℕ) (ws : List ℕ) (i : Item) (p : Prog) → proper w ≡ true → shape w ≡ item i → Nodes ws p → Nodes (w ∷ ws) (i ▹ p)
+unfolding plain OfItem
+node-listed w ws (one t) p h e q = flat (flat-of w (one t) h e refl) q
+node-listed w ws (jump n) p h e q = flat (flat-of w (jump n) h e refl) q
+node-listed w ws (range a b) p h e q =
+    subst (λ (x : ℕ). Nodes (x ∷ ws) (range a b ▹ p)) (range-word w a b h e) (kind-4 (ordered w a b h e) (of-item w (range a b) e) q)
+node-listed w ws (alt bs) p h e q = absurd (of-item w (alt bs) e)
+
+-- alternatives
+alternation-listed : (w : ℕ) (ws : List ℕ) (k : ℕ) → shape w ≡ opens k → Sound (w ∷ ws) → Nodes (drop k ws) (prog (drop k ws)) → Nodes (w ∷ ws) (prog (w ∷ ws))
+alternation-listed w ws k e h r =
+    let o = sound-opens w ws e h in
+    let bs = take k ws in
+    let m : shape w ≡ opens (length bs) = e ∙ ap opens (sym (length-take-le k ws (o .fits))) in
+    let l = of-opens w (length bs) m in
+    let j : 1 ≤ k = opens-some w k e (sound-proper w ws h) in
+    let u : Branched bs (branchesOf bs) = branched-listed (length bs) bs (le-refl _) (o .inside) (omega (arith, length-take-le k ws (o .fits))) in
+    subst (Nodes (w ∷ ws)) (sym (prog-opens w ws k e))
+    (subst (λ (x : List ℕ). Nodes (w ∷ x) (alt (branchesOf bs) ▹ prog (drop k ws))) (take-append-drop k ws)
+    (subst (λ (x : ℕ). Nodes (x ∷ (bs ++ drop k ws)) (alt (branchesOf bs) ▹ prog (drop k ws))) (opens-word w (length bs) (sound-proper w ws h) m)
+    (kind-6 {a = length bs % 256} {b = length bs / 256} (omega arith) (omega arith) (omega arith) u r)))
+
+word-listed : (w : ℕ) (ws : List ℕ) → Sound (w ∷ ws) → (Sound ws → Nodes ws (prog ws)) → ((k : ℕ) → Sound (drop k ws) → Nodes (drop k ws) (prog (drop k ws))) → Nodes (w ∷ ws) (prog (w ∷ ws))
+word-listed w ws h a b = go (shape w) refl
+  where
+    go : (s : Shape) → shape w ≡ s → Nodes (w ∷ ws) (prog (w ∷ ws))
+    go (item i) e = subst (Nodes (w ∷ ws)) (sym (prog-item w ws i e)) (node-listed w ws i (prog ws) (sound-proper w ws h) e (a (sound-item w ws e h)))
+    go (opens k) e = alternation-listed w ws k e h (b k (sound-opens w ws e h .after))
+    go (mark k) e = absurd (sound-mark w ws e h)
+    go wrong e = absurd (sound-wrong w ws e h)
+
+nil-listed : Nodes [] (prog [])
+nil-listed = subst (Nodes []) (sym prog-nil) nothing
+
+nodes-listed : (n : ℕ) (ws : List ℕ) → length ws ≤ n → Sound ws → Nodes ws (prog ws)
+nodes-listed zero [] l h = nil-listed
+nodes-listed zero (w ∷ ws) l h = absurd (omega arith)
+nodes-listed (suc n) [] l h = nil-listed
+nodes-listed (suc n) (w ∷ ws) l h = word-listed w ws h (λ g. nodes-listed n ws (omega arith) g) (λ k g. nodes-listed n (drop k ws) (drop-le k n ws (omega arith)) g)
 
 -- sound words are the listed ones, and the program that is computed from them is the one that they say
+pub sound-says : (ws : List ℕ) → sound ws ≡ true → Nodes ws (prog ws)
+unfolding sound
+sound-says ws h = nodes-listed (length ws) ws (le-refl _) (and-right (leb (length ws) 512) (soundWords (length ws) ws) h)
+
+pub program-listed : {ws : List ℕ} {p : Prog} → Nodes ws p → prog ws ≡ p
+program-listed q = nodes-compute q .says
+
 pub sound-listed : (ws : List ℕ) → (sound ws ≡ true) ↔ SoundWords ws
+unfolding sound
 sound-listed ws = (
-  λ h. let s = sound-program ws h in record { few = s .short-enough; program = s .program; nodes = nodes-of (s .says) },
-  λ s. program-sound ws (record { short-enough = s .few; program = s .program; says = nodes-say (s .nodes) }),
+  λ h. record { few = leb-true (length ws) 512 (and-left (leb (length ws) 512) (soundWords (length ws) ws) h); program = prog ws; nodes = sound-says ws h },
+  λ s. and-both (le-leb (length ws) 512 (s .few)) (nodes-compute (s .nodes) .sounds),
 )
 
 pub not-sound : (ws : List ℕ) → (SoundWords ws → ⊥) → false ≡ sound ws
@@ -205,9 +196,3 @@ not-sound ws h = go (sound ws) refl
     go : (b : Bool) → sound ws ≡ b → false ≡ sound ws
     go true e = absurd (h (sound-listed ws .0 e))
     go false e = sym e
-
-pub program-listed : {ws : List ℕ} {p : Prog} → Nodes ws p → prog ws ≡ p
-program-listed q = program-one (nodes-say q)
-
-pub sound-says : (ws : List ℕ) → sound ws ≡ true → Nodes ws (prog ws)
-sound-says ws h = let s = sound-program ws h in subst (Nodes ws) (sym (program-one (s .says))) (nodes-of (s .says))

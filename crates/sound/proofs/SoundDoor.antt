@@ -3,16 +3,11 @@ use mathlib.Core.Path.{_≡_, refl, sym, _∙_}
 use mathlib.Core.Bool.{Bool, true, not, _&&_}
 use mathlib.Core.List.{List, [], _∷_}
 use Prim.Native.Nat.{ℕ}
-use Rattle.meaning.specs.Words.{SoundProgram, word, sound, soundWords, soundBranches, plainWords, plain, proper, properBy, shape, shapeBy}
-use Rattle.meaning.proofs.SaysLaws.{sound-program, program-sound}
+use Rattle.meaning.specs.Words.{word, sound, soundWords, soundBranches, plainWords, plain, proper, properBy, shape, shapeBy}
 
 -- the promise leaves one outcome; the words lent are only read
 pub one-outcome : (ws : List ℕ) (r s : Bool) → r ≡ sound ws → s ≡ sound ws → r ≡ s
 one-outcome ws r s e f = e ∙ sym f
-
--- it is true exactly of 01's sound programs
-pub sound-door : (ws : List ℕ) (r : Bool) → r ≡ sound ws → (r ≡ true → SoundProgram ws) × (SoundProgram ws → r ≡ true)
-sound-door ws r e = (λ h. sound-program ws (sym e ∙ h), λ p. e ∙ program-sound ws p)
 
 -- as 01 says, these are sound: the empty program; an alternation of an empty branch; a value with bits outside its mask
 pub empty-program : sound [] ≡ true

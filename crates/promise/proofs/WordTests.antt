@@ -1,0 +1,149 @@
+-- One word: what the soundness test asks of it is what its row of the table has. Assumes nothing.
+use mathlib.Core.Path.{_≡_, refl, sym, ap, _∙_, subst}
+use mathlib.Core.Bool.{Bool, true, false, cond}
+use Prim.Native.Nat.{ℕ, _+_, _*_, _/_, _%_, _≤_, _<_}
+use native.Mathlib.Omega.{arith}
+use lib.Dec.{eqb, ltb}
+use borrow.Author.Tests.{leb-true, le-leb}
+use Rattle.meaning.specs.Programs.{Test, byte, mask, negatedMask, any, dot, Item, one, jump, range, alt}
+use Rattle.meaning.specs.Words.{fieldSize, kindOf, firstOf, secondOf, Shape, item, opens, mark, wrong, shapeBy, shape, properBy, proper, plain}
+use Rattle.meaning.proofs.KindLaws.{Seen, seen, kind-opens, kind-range}
+use Rattle.meaning.proofs.MadeLaws.{made-shape, made-proper}
+use Rattle.meaning.proofs.SoundLaws.{and-right, false-true}
+use Rattle.nodes.specs.declared.ByteTest.the-variants.{Byte, Mask, NegatedMask, Dot}
+use Rattle.nodes.specs.declared.Node.the-variants.{One, Jump, JumpRange, Alternation, AltBranch}
+use Rattle.nodes.proofs.NodeLaws.{word-again}
+use Rattle.promise.specs.NodeWords.{word, Flat, kind-0, kind-1, kind-2, kind-3, kind-5}
+
+-- the fields of a shape that a word says are below 256; no word says `any` or whole alternatives
+unfoldable pub OfTest : Test → Type 0
+OfTest (byte v) = v < 256
+OfTest (mask v m) = (v < 256) × (m < 256)
+OfTest (negatedMask v m) = (v < 256) × (m < 256)
+OfTest any = ⊥
+OfTest dot = Unit {0}
+
+unfoldable pub OfItem : Item → Type 0
+OfItem (one t) = OfTest t
+OfItem (jump n) = n < 256
+OfItem (range a b) = b < 256
+OfItem (alt bs) = ⊥
+
+OfShape : Shape → Type 0
+OfShape (item i) = OfItem i
+OfShape (opens n) = n < 65536
+OfShape (mark n) = n < 256
+OfShape wrong = Unit {0}
+
+of-cond : (b : Bool) (x y : Shape) → OfShape x → OfShape y → OfShape (cond b x y)
+of-cond true x y p q = p
+of-cond false x y p q = q
+
+of-fields : (k a b : ℕ) → a < 256 → b < 256 → OfShape (shapeBy k a b)
+unfolding shapeBy OfShape OfItem OfTest
+of-fields k a b h g =
+    of-cond (eqb k 0) _ _ h
+    (of-cond (eqb k 1) _ _ (h, g)
+    (of-cond (eqb k 2) _ _ (h, g)
+    (of-cond (eqb k 3) _ _ h
+    (of-cond (eqb k 4) _ _ g
+    (of-cond (eqb k 5) _ _ tt
+    (of-cond (eqb k 6) _ _ (omega arith)
+    (of-cond (eqb k 7) _ _ h tt)))))))
+
+of-shape : (w : ℕ) → OfShape (shape w)
+unfolding shape
+of-shape w = of-fields (kindOf w) (firstOf w) (secondOf w) (omega arith) (omega arith)
+
+pub of-item : (w : ℕ) (i : Item) → shape w ≡ item i → OfItem i
+unfolding OfShape
+of-item w i e = subst OfShape e (of-shape w)
+
+pub of-opens : (w n : ℕ) → shape w ≡ opens n → n < 65536
+unfolding OfShape
+of-opens w n e = subst OfShape e (of-shape w)
+
+pub of-mark : (w n : ℕ) → shape w ≡ mark n → n < 256
+unfolding OfShape
+of-mark w n e = subst OfShape e (of-shape w)
+
+-- from the test to the table
+pub flat-of : (w : ℕ) (i : Item) → proper w ≡ true → shape w ≡ item i → plain i ≡ true → Flat w i
+unfolding OfItem OfTest plain
+flat-of w (one (byte v)) h e g = subst (λ (x : ℕ). Flat x (one (byte v))) (word-again w (One (Byte v)) h (sym e)) (kind-0 (of-item w (one (byte v)) e))
+flat-of w (one (mask v m)) h e g = let b = of-item w (one (mask v m)) e in subst (λ (x : ℕ). Flat x (one (mask v m))) (word-again w (One (Mask v m)) h (sym e)) (kind-1 (b .0) (b .1))
+flat-of w (one (negatedMask v m)) h e g = let b = of-item w (one (negatedMask v m)) e in subst (λ (x : ℕ). Flat x (one (negatedMask v m))) (word-again w (One (NegatedMask v m)) h (sym e)) (kind-2 (b .0) (b .1))
+flat-of w (one any) h e g = absurd (of-item w (one any) e)
+flat-of w (one dot) h e g = subst (λ (x : ℕ). Flat x (one dot)) (word-again w (One Dot) h (sym e)) kind-5
+flat-of w (jump n) h e g = subst (λ (x : ℕ). Flat x (jump n)) (word-again w (Jump n) h (sym e)) (kind-3 (of-item w (jump n) e))
+flat-of w (range a b) h e g = false-true g
+flat-of w (alt bs) h e g = absurd (of-item w (alt bs) e)
+
+-- a range's min is at most its max
+pub ordered : (w a b : ℕ) → proper w ≡ true → shape w ≡ item (range a b) → a ≤ b
+unfolding proper properBy
+ordered w a b h e =
+    let s : kindOf w ≡ 4 = subst (Seen (kindOf w)) e (seen w) in
+    let g : item (range (firstOf w) (secondOf w)) ≡ item (range a b) = sym (kind-range w s) ∙ e in
+    let x : firstOf w ≡ a = cc in
+    let y : secondOf w ≡ b = cc in
+    let f : properBy 4 (firstOf w) (secondOf w) ≡ true = sym (ap (λ (k : ℕ). properBy k (firstOf w) (secondOf w)) s) ∙ and-right (ltb w (256 * fieldSize * fieldSize)) (properBy (kindOf w) (firstOf w) (secondOf w)) h in
+    let l : firstOf w ≤ secondOf w = leb-true (firstOf w) (secondOf w) f in
+    omega arith
+
+-- an alternation counts one word or more
+pub opens-some : (w k : ℕ) → shape w ≡ opens k → proper w ≡ true → 1 ≤ k
+unfolding proper properBy
+opens-some w k e h =
+    let s : kindOf w ≡ 6 = subst (Seen (kindOf w)) e (seen w) in
+    let g : opens (w / 256 % 65536) ≡ opens k = sym (kind-opens w s) ∙ e in
+    let j : w / 256 % 65536 ≡ k = cc in
+    let f : properBy 6 (firstOf w) (secondOf w) ≡ true = sym (ap (λ (x : ℕ). properBy x (firstOf w) (secondOf w)) s) ∙ and-right (ltb w (256 * fieldSize * fieldSize)) (properBy (kindOf w) (firstOf w) (secondOf w)) h in
+    let l : 1 ≤ firstOf w + fieldSize * secondOf w = leb-true 1 (firstOf w + fieldSize * secondOf w) f in
+    omega arith
+
+-- and the words themselves
+pub range-word : (w a b : ℕ) → proper w ≡ true → shape w ≡ item (range a b) → word 4 a b ≡ w
+range-word w a b h e = word-again w (JumpRange a b) h (sym e)
+
+pub mark-word : (w n : ℕ) → proper w ≡ true → shape w ≡ mark n → word 7 n 0 ≡ w
+mark-word w n h e = word-again w (AltBranch n) h (sym e)
+
+pub opens-word : (w n : ℕ) → proper w ≡ true → shape w ≡ opens n → word 6 (n % 256) (n / 256) ≡ w
+opens-word w n h e = word-again w (Alternation n) h (sym e)
+
+-- from the table to the test
+pub record Tested (w : ℕ) (s : Shape) : Type 0 where
+  pub proper-word : proper w ≡ true
+  pub says : shape w ≡ s
+
+made : (k a b : ℕ) → k < 256 → a < 256 → b < 256 → properBy k a b ≡ true → Tested (word k a b) (shapeBy k a b)
+made k a b h f g e = record { proper-word = made-proper k a b h f g e; says = made-shape k a b h f g }
+
+pub flat-tested : {w : ℕ} {i : Item} → Flat w i → Tested w (item i)
+unfolding properBy shapeBy
+flat-tested (kind-0 {v = v} h) = made 0 v 0 (omega arith) h (omega arith) refl
+flat-tested (kind-1 {v = v} {m = m} h g) = made 1 v m (omega arith) h g refl
+flat-tested (kind-2 {v = v} {m = m} h g) = made 2 v m (omega arith) h g refl
+flat-tested (kind-3 {n = n} h) = made 3 n 0 (omega arith) h (omega arith) refl
+flat-tested kind-5 = made 5 0 0 (omega arith) (omega arith) (omega arith) refl
+
+pub flat-plain : {w : ℕ} {i : Item} → Flat w i → plain i ≡ true
+unfolding plain
+flat-plain (kind-0 h) = refl
+flat-plain (kind-1 h g) = refl
+flat-plain (kind-2 h g) = refl
+flat-plain (kind-3 h) = refl
+flat-plain kind-5 = refl
+
+pub range-tested : (a b : ℕ) → a ≤ b → b < 256 → Tested (word 4 a b) (item (range a b))
+unfolding properBy shapeBy
+range-tested a b h g = made 4 a b (omega arith) (omega arith) g (le-leb a b h)
+
+pub mark-tested : (n : ℕ) → n < 256 → Tested (word 7 n 0) (mark n)
+unfolding properBy shapeBy
+mark-tested n h = made 7 n 0 (omega arith) h (omega arith) refl
+
+pub opens-tested : (a b n : ℕ) → a < 256 → b < 256 → n ≡ a + 256 * b → 1 ≤ n → Tested (word 6 a b) (opens n)
+unfolding properBy shapeBy
+opens-tested a b n h g e l = subst (λ (x : ℕ). Tested (word 6 a b) (opens x)) (sym e) (made 6 a b (omega arith) h g (le-leb 1 (a + 256 * b) (omega arith)))
