@@ -1,11 +1,12 @@
 -- Walks over token entries. Assumes nothing.
 use mathlib.Core.Path.{_≡_, refl, sym, ap, ap₂, _∙_}
-use mathlib.Core.Bool.{Bool, true, false, _&&_, and-assoc}
+use mathlib.Core.Bool.{Bool, true, false, cond, not, _&&_, and-assoc}
 use mathlib.Core.Option.{none, some}
 use mathlib.Core.List.{List, [], _∷_, _++_, append-nil, append-assoc}
 use Prim.Native.Nat.{ℕ, suc, _+_, _-_, _*_, _≤_, _<_}
 use native.Mathlib.Omega.{arith}
 use native.Mathlib.Numerals.{add-one}
+use lib.Dec.{eqb, leb}
 use lib.ListN.{length, getD, take, drop, set, length-append, length-drop}
 use lib.Seq.{drop-drop, drop-at, drop-cons, set-at, getD-drop, take-all}
 use Rattle.meaning.specs.Tokens.{Token, Tokens, Lists, Byte, NotByte, MaskedByte, NotMaskedByte, Jump, Alternatives, nothing, _then_, neither, _or_}
@@ -16,10 +17,10 @@ use Rattle.emit.specs.Lists.{sizeAt, offsets}
 use Rattle.emit.proofs.AltLaws.{size-least}
 use Rattle.emit.proofs.OrderLaws.{Starts, offsets-count}
 use Rattle.emit.proofs.LinkLaws.{fields, alt-fields, alt-inside, starts-size}
-use Rattle.compiler.specs.Walks.{jumpNear, plainEntry, plainEntries, simpleAt}
+use Rattle.compiler.specs.Walks.{toOf, toldBy, plainEntries, simpleAt}
 
 -- entries four words at a time
-pub plain-step : (ws : List ℕ) → 4 ≤ length ws → plainEntries ws ≡ (plainEntry (getD ws 0 0) (getD ws 1 0) (getD ws 2 0) (getD ws 3 0) && plainEntries (take (length ws - 4) (drop 4 ws)))
+pub plain-step : (ws : List ℕ) → 4 ≤ length ws → plainEntries ws ≡ (plainToken (toldBy (getD ws 0 0) (getD ws 1 0) (getD ws 2 0) (getD ws 3 0)) && plainEntries (take (length ws - 4) (drop 4 ws)))
 unfolding plainEntries
 plain-step [] h = absurd (omega arith)
 plain-step (k ∷ []) h = absurd (omega arith)
@@ -27,7 +28,7 @@ plain-step (k ∷ (a ∷ [])) h = absurd (omega arith)
 plain-step (k ∷ (a ∷ (b ∷ []))) h = absurd (omega arith)
 plain-step (k ∷ (a ∷ (b ∷ (c ∷ ws)))) h =
     let e : suc (suc (suc (suc (length ws)))) - 4 ≡ length ws = omega arith in
-    ap (λ (l : List ℕ). plainEntry k a b c && plainEntries l) (sym (ap (λ (n : ℕ). take n ws) e ∙ take-all (length ws) ws (omega arith)))
+    ap (λ (l : List ℕ). plainToken (toldBy k a b c) && plainEntries l) (sym (ap (λ (n : ℕ). take n ws) e ∙ take-all (length ws) ws (omega arith)))
 
 pub plain-end : (ws : List ℕ) → length ws < 4 → plainEntries ws ≡ true
 unfolding plainEntries
@@ -37,9 +38,26 @@ plain-end (k ∷ (a ∷ [])) h = refl
 plain-end (k ∷ (a ∷ (b ∷ []))) h = refl
 plain-end (k ∷ (a ∷ (b ∷ (c ∷ ws)))) h = absurd (omega arith)
 
+-- what an entry of one kind asks
+pub near-plain : (a b c : ℕ) → plainToken (Jump a (toOf b c)) ≡ (simpleToken (Jump 0 (toOf b c)) && leb b a)
+unfolding toOf plainToken simpleToken
+near-plain a b c = go (eqb c 0)
+  where
+    go : (x : Bool) → plainToken (Jump a (cond x none (some b))) ≡ (simpleToken (Jump 0 (cond x none (some b))) && leb b a)
+    go true = refl
+    go false = refl
+
+pub other-plain : (k a : ℕ) → plainToken (cond (eqb k 5) (Alternatives neither) (Byte a)) ≡ not (eqb k 5)
+unfolding plainToken
+other-plain k a = go (eqb k 5)
+  where
+    go : (x : Bool) → plainToken (cond x (Alternatives neither) (Byte a)) ≡ not x
+    go true = refl
+    go false = refl
+
 -- what entries say of tokens
 plain-token : (t : Token) (r : List ℕ) → plainEntries (entriesOf t ++ r) ≡ (plainToken t && plainEntries r)
-unfolding entries plainEntries plainEntry jumpNear plainToken
+unfolding entries plainEntries toldBy toOf plainToken
 plain-token (Byte v) r = refl
 plain-token (NotByte v) r = refl
 plain-token (MaskedByte v m) r = refl
@@ -55,7 +73,7 @@ plain-tokens (t then ts) r =
     ap plainEntries (append-assoc (entriesOf t) (entries ts) r) ∙ plain-token t (entries ts ++ r) ∙ ap (λ (x : Bool). plainToken t && x) (plain-tokens ts r) ∙ sym (and-assoc (plainToken t) (plainTokens ts) (plainEntries r))
 
 plain-lists : (ls : Lists) → plainEntries (listEntries ls) ≡ plainBranches ls
-unfolding entries plainBranches plainEntries plainEntry
+unfolding entries plainBranches plainEntries toldBy plainToken
 plain-lists neither = refl
 plain-lists (ts or ls) = plain-tokens ts (listEntries ls) ∙ ap (λ (x : Bool). plainTokens ts && x) (plain-lists ls)
 
@@ -64,7 +82,7 @@ module _ (ws : List ℕ) (at : ℕ) (r : List ℕ) where
   third l e = sym (getD-drop at ws 3 0) ∙ ap (λ (x : List ℕ). getD x 3 0) e
 
   simple-token : (t : Token) → drop at ws ≡ entriesOf t ++ r → simpleAt ws at ≡ simpleToken t
-  unfolding simpleAt simpleToken entries jumpNear
+  unfolding simpleAt simpleToken entries toldBy toOf
   simple-token (Byte v) e = let f = fields ws at (entriesOf (Byte v) ++ r) e in rw (f .0)
   simple-token (NotByte v) e = let f = fields ws at (entriesOf (NotByte v) ++ r) e in rw (f .0)
   simple-token (MaskedByte v m) e = let f = fields ws at (entriesOf (MaskedByte v m) ++ r) e in rw (f .0)

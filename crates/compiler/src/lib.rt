@@ -5,14 +5,14 @@ ghost use mathlib.Core.List.{_++_};
 ghost use lib.Dec.{leb};
 ghost use Prim.Native.Nat.{_+_, _*_, _≤_};
 ghost use lib.ListN.{length, take, drop};
-ghost use Rattle.meaning.specs.Tokens.{Tokens};
+ghost use Rattle.meaning.specs.Tokens.{Tokens, Jump};
 ghost use Rattle.meaning.specs.Entries.{tokenCount, entries};
 ghost use Rattle.meaning.specs.Values.{Spelled};
-ghost use Rattle.compiling.specs.Compile.{simple, compile};
+ghost use Rattle.compiling.specs.Compile.{plainToken, simpleToken, simple, compile};
 ghost use Rattle.emit.specs.Lists.{sizeAt, offsets};
 ghost use Rattle.base.specs.Pools.{filled, cleared};
 ghost use Rattle.compiler.specs.Made.{Makes, limited};
-ghost use Rattle.compiler.specs.Walks.{jumpNear, plainEntry, plainEntries, simpleAt, Entered, Simply};
+ghost use Rattle.compiler.specs.Walks.{toOf, toldBy, plainEntries, simpleAt, Entered, Simply};
 use base::Refusal;
 use base::zero_words;
 use emit::add_tokens;
@@ -25,7 +25,7 @@ pub enum Made {
 
 // Whether a jump has an upper bound, within the limit.
 fn jump_near(b: u32, c: u32) -> bool
-    ensures { λ r. ⌜ r ≡ jumpNear b c ⌝ }
+    ensures { λ r. ⌜ r ≡ simpleToken (Jump 0 (toOf b c)) ⌝ }
 {
     if c == 0 {
         return false;
@@ -35,7 +35,7 @@ fn jump_near(b: u32, c: u32) -> bool
 
 // Whether an entry may stand inside a branch.
 fn plain_entry(kind: u32, a: u32, b: u32, c: u32) -> bool
-    ensures { λ r. ⌜ r ≡ plainEntry kind a b c ⌝ }
+    ensures { λ r. ⌜ r ≡ plainToken (toldBy kind a b c) ⌝ }
 {
     if kind == 4 {
         if jump_near(b, c) {

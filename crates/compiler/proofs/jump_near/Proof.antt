@@ -1,17 +1,18 @@
 -- `compiler::jump_near` meets its contract. Assumes nothing.
-use Rattle.compiler.specs.Walks.{jumpNear}
+use Rattle.compiling.specs.Compile.{simpleToken}
+use Rattle.compiler.specs.Walks.{toOf}
 use borrow.Author.Tests.{ne-eqb}
 use Rattle.compiler.proofs.jump_near.Statement.{statement}
 use Rattle.compiler.proofs.jump_near.Tie as tie
 
 returns : tie.Need-returns
-unfolding jumpNear
+unfolding simpleToken toOf
 returns c =
     let at-if1 = c .if1 in
     rw (at-if1 .taken)
 
 returns-2 : tie.Need-returns-2
-unfolding jumpNear
+unfolding simpleToken toOf
 returns-2 c =
     let at-if1 = c .if1 in
     rw (ne-eqb _ _ (at-if1 .left))

@@ -1,5 +1,6 @@
 -- `compiler::simple_at` meets its contract. Assumes nothing.
-use Rattle.compiler.specs.Walks.{simpleAt, plainEntries}
+use Rattle.compiling.specs.Compile.{simpleToken}
+use Rattle.compiler.specs.Walks.{toldBy, simpleAt, plainEntries}
 use Rattle.emit.proofs.AltLaws as alts
 use borrow.Author.Tests.{eq-eqb, ne-eqb}
 use lib.ListN.{getD, take, drop}
@@ -129,14 +130,14 @@ jump-near-requires : tie.Need-jump-near-requires
 jump-near-requires c κs = search needs
 
 returns-2 : tie.Need-returns-2
-unfolding simpleAt
+unfolding simpleAt simpleToken toldBy
 returns-2 c =
     let at-jump-near = c .jump-near in
     let at-if2 = c .before .before .before .if2 in
     rw (at-if2 .taken) (at-jump-near .ensures)
 
 returns-3 : tie.Need-returns-3
-unfolding simpleAt
+unfolding simpleAt simpleToken toldBy
 returns-3 c =
     let at-if2 = c .if2 in
     let at-if1 = c .before .if1 in

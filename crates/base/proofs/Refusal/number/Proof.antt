@@ -63,99 +63,61 @@ enum-told-19 : tie.Need-enum-told-19
 enum-told-19 c = search needs
 
 returns : tie.Need-returns
-returns c =
-    let at-enum-told = c .enum-told in
-    sym (ap numberOf (at-enum-told .given .1))
+returns c = sym (ap numberOf (c .enum-told .given .1))
 
 returns-2 : tie.Need-returns-2
-returns-2 c =
-    let at-enum-told2 = c .enum-told2 in
-    sym (ap numberOf (at-enum-told2 .given .1))
+returns-2 c = sym (ap numberOf (c .enum-told2 .given .1))
 
 returns-3 : tie.Need-returns-3
-returns-3 c =
-    let at-enum-told3 = c .enum-told3 in
-    sym (ap numberOf (at-enum-told3 .given .1))
+returns-3 c = sym (ap numberOf (c .enum-told3 .given .1))
 
 returns-4 : tie.Need-returns-4
-returns-4 c =
-    let at-enum-told4 = c .enum-told4 in
-    sym (ap numberOf (at-enum-told4 .given .1))
+returns-4 c = sym (ap numberOf (c .enum-told4 .given .1))
 
 returns-5 : tie.Need-returns-5
-returns-5 c =
-    let at-enum-told5 = c .enum-told5 in
-    sym (ap numberOf (at-enum-told5 .given .1))
+returns-5 c = sym (ap numberOf (c .enum-told5 .given .1))
 
 returns-6 : tie.Need-returns-6
-returns-6 c =
-    let at-enum-told6 = c .enum-told6 in
-    sym (ap numberOf (at-enum-told6 .given .1))
+returns-6 c = sym (ap numberOf (c .enum-told6 .given .1))
 
 returns-7 : tie.Need-returns-7
-returns-7 c =
-    let at-enum-told7 = c .enum-told7 in
-    sym (ap numberOf (at-enum-told7 .given .1))
+returns-7 c = sym (ap numberOf (c .enum-told7 .given .1))
 
 returns-8 : tie.Need-returns-8
-returns-8 c =
-    let at-enum-told8 = c .enum-told8 in
-    sym (ap numberOf (at-enum-told8 .given .1))
+returns-8 c = sym (ap numberOf (c .enum-told8 .given .1))
 
 returns-9 : tie.Need-returns-9
-returns-9 c =
-    let at-enum-told9 = c .enum-told9 in
-    sym (ap numberOf (at-enum-told9 .given .1))
+returns-9 c = sym (ap numberOf (c .enum-told9 .given .1))
 
 returns-10 : tie.Need-returns-10
-returns-10 c =
-    let at-enum-told10 = c .enum-told10 in
-    sym (ap numberOf (at-enum-told10 .given .1))
+returns-10 c = sym (ap numberOf (c .enum-told10 .given .1))
 
 returns-11 : tie.Need-returns-11
-returns-11 c =
-    let at-enum-told11 = c .enum-told11 in
-    sym (ap numberOf (at-enum-told11 .given .1))
+returns-11 c = sym (ap numberOf (c .enum-told11 .given .1))
 
 returns-12 : tie.Need-returns-12
-returns-12 c =
-    let at-enum-told12 = c .enum-told12 in
-    sym (ap numberOf (at-enum-told12 .given .1))
+returns-12 c = sym (ap numberOf (c .enum-told12 .given .1))
 
 returns-13 : tie.Need-returns-13
-returns-13 c =
-    let at-enum-told13 = c .enum-told13 in
-    sym (ap numberOf (at-enum-told13 .given .1))
+returns-13 c = sym (ap numberOf (c .enum-told13 .given .1))
 
 returns-14 : tie.Need-returns-14
-returns-14 c =
-    let at-enum-told14 = c .enum-told14 in
-    sym (ap numberOf (at-enum-told14 .given .1))
+returns-14 c = sym (ap numberOf (c .enum-told14 .given .1))
 
 returns-15 : tie.Need-returns-15
-returns-15 c =
-    let at-enum-told15 = c .enum-told15 in
-    sym (ap numberOf (at-enum-told15 .given .1))
+returns-15 c = sym (ap numberOf (c .enum-told15 .given .1))
 
 returns-16 : tie.Need-returns-16
-returns-16 c =
-    let at-enum-told16 = c .enum-told16 in
-    sym (ap numberOf (at-enum-told16 .given .1))
+returns-16 c = sym (ap numberOf (c .enum-told16 .given .1))
 
 returns-17 : tie.Need-returns-17
-returns-17 c =
-    let at-enum-told17 = c .enum-told17 in
-    sym (ap numberOf (at-enum-told17 .given .1))
+returns-17 c = sym (ap numberOf (c .enum-told17 .given .1))
 
 returns-18 : tie.Need-returns-18
-returns-18 c =
-    let at-enum-told18 = c .enum-told18 in
-    sym (ap numberOf (at-enum-told18 .given .1))
+returns-18 c = sym (ap numberOf (c .enum-told18 .given .1))
 
 returns-19 : tie.Need-returns-19
-returns-19 c =
-    let at-enum-told19 = c .enum-told19 in
-    sym (ap numberOf (at-enum-told19 .given .1))
+returns-19 c = sym (ap numberOf (c .enum-told19 .given .1))
 
 pub number-spec : {M : Type 1} → statement M
 number-spec =
