@@ -2,7 +2,7 @@
 use mathlib.Core.Path.{_≡_, refl, sym, ap, ap₂, _∙_, subst, subst₂}
 use mathlib.Core.Bool.{true}
 use mathlib.Core.List.{List, [], _∷_, _++_, append-nil}
-use Prim.Native.Nat.{ℕ, zero, suc, _+_, _*_, _-_, _/_, _%_, _≤_}
+use Prim.Native.Nat.{ℕ, zero, suc, _-_, _≤_}
 use native.Mathlib.Omega.{arith}
 use native.Mathlib.Nat.{le-refl}
 use lib.Dec.{leb, ltb}
@@ -10,7 +10,7 @@ use borrow.Author.Tests.{leb-true, le-leb}
 use lib.ListN.{length, take, drop, length-append, length-drop, take-append-drop}
 use lib.Seq.{take-append-seam, drop-append-seam, length-take-le, take-all}
 use Rattle.meaning.specs.Programs.{Item, Prog, Branches, alt, end, _▹_, stop, or}
-use Rattle.meaning.specs.Words.{fieldSize, kindOf, firstOf, secondOf, Shape, item, opens, mark, wrong, shape, properBy, proper, plain, plainProg, plainWords, Says, SaysIn, nothing, node, alternation, last, more, SoundProgram, soundWords, soundBranches, branches, prog, branchesOf, sound, Sound, SoundBranches}
+use Rattle.meaning.specs.Words.{kindOf, firstOf, secondOf, wordSize, countOf, Shape, item, opens, mark, wrong, shape, properBy, proper, plain, plainProg, plainWords, Says, SaysIn, nothing, node, alternation, last, more, SoundProgram, soundWords, soundBranches, branches, prog, branchesOf, sound, Sound, SoundBranches}
 use Rattle.meaning.proofs.KindLaws.{Seen, seen, kind-opens}
 use Rattle.meaning.proofs.WordLaws.{take-le, drop-le, prog-nil, prog-item, prog-opens, branches-mark}
 use Rattle.meaning.proofs.SoundLaws.{Marked, and-left, and-right, and-both, false-true, sound-proper, branch-proper, sound-item, sound-opens, sound-mark, sound-wrong, sound-branch, branch-shape, make-item, make-opens, make-branch, make-plain, plain-item, plain-sound, plain-nil}
@@ -79,10 +79,10 @@ opens-some : (w k : ℕ) → shape w ≡ opens k → proper w ≡ true → 1 ≤
 unfolding proper properBy
 opens-some w k e h =
     let s : kindOf w ≡ 6 = subst (Seen (kindOf w)) e (seen w) in
-    let g : opens (w / 256 % 65536) ≡ opens k = sym (kind-opens w s) ∙ e in
-    let j : w / 256 % 65536 ≡ k = cc in
-    let f : properBy 6 (firstOf w) (secondOf w) ≡ true = sym (ap (λ (x : ℕ). properBy x (firstOf w) (secondOf w)) s) ∙ and-right (ltb w (256 * fieldSize * fieldSize)) (properBy (kindOf w) (firstOf w) (secondOf w)) h in
-    let l : 1 ≤ firstOf w + fieldSize * secondOf w = leb-true 1 (firstOf w + fieldSize * secondOf w) f in
+    let g : opens (countOf w) ≡ opens k = sym (kind-opens w s refl) ∙ e in
+    let j : countOf w ≡ k = cc in
+    let f : properBy 6 (firstOf w) (secondOf w) ≡ true = sym (ap (λ (x : ℕ). properBy x (firstOf w) (secondOf w)) s) ∙ and-right (ltb w (wordSize)) (properBy (kindOf w) (firstOf w) (secondOf w)) h in
+    let l : 1 ≤ countOf w = leb-true 1 (countOf w) f in
     omega arith
 
 plain-prog : (ws : List ℕ) → plainWords ws ≡ true → plainProg (prog ws) ≡ true

@@ -102,7 +102,7 @@ ordered : (w a b : ℕ) → proper w ≡ true → shape w ≡ item (range a b) �
 unfolding proper properBy
 ordered w a b h e =
     let s : kindOf w ≡ 4 = subst (Seen (kindOf w)) e (seen w) in
-    let g : item (range (firstOf w) (secondOf w)) ≡ item (range a b) = sym (kind-range w s) ∙ e in
+    let g : item (range (firstOf w) (secondOf w)) ≡ item (range a b) = sym (kind-range w s refl refl) ∙ e in
     let x : firstOf w ≡ a = cc in
     let y : secondOf w ≡ b = cc in
     let f : properBy 4 (firstOf w) (secondOf w) ≡ true = sym (ap (λ (k : ℕ). properBy k (firstOf w) (secondOf w)) s) ∙ and-right (ltb w (256 * fieldSize * fieldSize)) (properBy (kindOf w) (firstOf w) (secondOf w)) h in
