@@ -2,17 +2,17 @@
 use mathlib.Core.Path.{_≡_, refl, sym, ap, ap₂, _∙_, subst}
 use mathlib.Core.Bool.{true}
 use mathlib.Core.List.{List, [], _∷_, _++_}
-use Prim.Native.Nat.{ℕ, _+_, _*_, _/_, _%_, _≤_, _<_}
+use Prim.Native.Nat.{ℕ, _≤_, _<_}
 use native.Mathlib.Omega.{arith}
 use lib.Dec.{leb}
 use lib.ListN.{length, take, drop, length-append}
 use lib.Seq.{take-at, drop-at}
 use borrow.Author.Tests.{leb-true, le-leb}
 use Rattle.meaning.specs.Programs.{Test, byte, mask, negatedMask, any, dot, Item, Prog, Branches, one, jump, range, alt, end, _▹_, stop, or}
-use Rattle.meaning.specs.Words.{fieldSize, word, item, opens, mark, shape, shapeBy, proper, properBy, plain, plainProg, prog, branchesOf, branches, plainWords, Sound, SoundBranches, soundWords, soundBranches}
+use Rattle.meaning.specs.Words.{fieldSize, countSize, word, item, opens, mark, shape, shapeBy, proper, properBy, plain, plainProg, prog, branchesOf, branches, plainWords, Sound, SoundBranches, soundWords, soundBranches}
 use Rattle.meaning.proofs.WordLaws.{prog-nil, prog-item, prog-opens, branches-mark}
 use Rattle.meaning.proofs.SoundLaws.{make-item, make-opens, make-branch, make-plain, plain-nil, and-left, and-right, false-true}
-use Rattle.meaning.proofs.MadeLaws.{made-shape, made-proper}
+use Rattle.meaning.proofs.MadeLaws.{made-shape, made-proper, count-shape, count-proper}
 use Rattle.compiling.specs.ProgramWords.{wordFor, opening, wordsFor, wordsOf, wordsIn, nodes}
 use Rattle.compiling.specs.Compiling.{branchLimit}
 use Rattle.compiling.specs.Compile.{shortIn, shortOf, short}
@@ -65,23 +65,14 @@ range-says : (a b : ℕ) → a ≤ b → b < fieldSize → Says (word 4 a b) (ra
 unfolding shapeBy properBy
 range-says a b l h = let g : a < fieldSize = omega arith in record { shaped = made-shape 4 a b (omega arith) g h; properly = made-proper 4 a b (omega arith) g h (le-leb a b l) }
 
-module _ (n : ℕ) (l : n < fieldSize * fieldSize) where
-  low : n % fieldSize < fieldSize
-  low = omega arith
-
-  high : n / fieldSize < fieldSize
-  high = omega arith
-
-  count : n % fieldSize + fieldSize * (n / fieldSize) ≡ n
-  count = omega arith
-
+module _ (n : ℕ) (l : n < countSize) where
   opens-shape : shape (opening n) ≡ opens n
-  unfolding opening shapeBy
-  opens-shape = made-shape 6 (n % fieldSize) (n / fieldSize) (omega arith) low high ∙ ap opens count
+  unfolding opening
+  opens-shape = count-shape n l
 
   opens-proper : 1 ≤ n → proper (opening n) ≡ true
-  unfolding opening properBy
-  opens-proper p = made-proper 6 (n % fieldSize) (n / fieldSize) (omega arith) low high (le-leb 1 _ (subst (λ (k : ℕ). 1 ≤ k) (sym count) p))
+  unfolding opening
+  opens-proper p = count-proper n l p
 
 module _ (n : ℕ) (l : n < fieldSize) where
   mark-shape : shape (word 7 n 0) ≡ mark n
@@ -122,7 +113,7 @@ word-said w i p e s q =
     }
 
 -- an alternation, before a program
-alt-said : (bs : Branches) (p : Prog) → 1 ≤ length (wordsIn bs) → length (wordsIn bs) < fieldSize * fieldSize → SaidIn bs → Said p → Said (alt bs ▹ p)
+alt-said : (bs : Branches) (p : Prog) → 1 ≤ length (wordsIn bs) → length (wordsIn bs) < countSize → SaidIn bs → Said p → Said (alt bs ▹ p)
 unfolding wordsOf plainProg plain
 alt-said bs p h l b q =
     let n = length (wordsIn bs) in
@@ -184,26 +175,26 @@ plain-short (alt bs ▹ p) h = false-true h
 mutual
   unfolding Fit wordsOf short shortOf shortIn
 
-  said-item : (i : Item) (p : Prog) → FitOf i → shortOf i ≡ true → length (wordsFor i) ≤ fieldSize * fieldSize → Said p → Said (i ▹ p)
+  said-item : (i : Item) (p : Prog) → FitOf i → shortOf i ≡ true → length (wordsFor i) ≤ countSize → Said p → Said (i ▹ p)
   said-item (one t) p h g l q = word-said (wordFor t) (one t) p refl (test-says t h) q
   said-item (jump n) p h g l q = word-said (word 3 n 0) (jump n) p refl (jump-says n h) q
   said-item (range a b) p h g l q = word-said (word 4 a b) (range a b) p refl (range-says a b (h .0) (h .1)) q
   said-item (alt bs) p h g l q = alt-said bs p (some-words bs h) (omega arith) (said-in bs (first-fits bs h) g (omega arith)) q
 
-  said : (p : Prog) → Fit p → short p ≡ true → nodes p ≤ fieldSize * fieldSize → Said p
+  said : (p : Prog) → Fit p → short p ≡ true → nodes p ≤ countSize → Said p
   said end h g l = nil-said
   said (i ▹ p) h g l =
       let e = length-append (wordsFor i) (wordsOf p) in
       said-item i p (h .0) (and-left (shortOf i) (short p) g) (omega arith) (said p (h .1) (and-right (shortOf i) (short p) g) (omega arith))
 
-  said-in : (bs : Branches) → FitMore bs → shortIn bs ≡ true → length (wordsIn bs) ≤ fieldSize * fieldSize → SaidIn bs
+  said-in : (bs : Branches) → FitMore bs → shortIn bs ≡ true → length (wordsIn bs) ≤ countSize → SaidIn bs
   said-in stop h g l = nil-said-in
   said-in (or p bs) h g l =
       let e = length-append (wordsOf p) (wordsIn bs) in
       let n : nodes p ≤ branchLimit = leb-true (nodes p) branchLimit (and-left (leb (nodes p) branchLimit) (shortIn bs) g) in
       branch-said p bs (h .1) (omega arith) (said p (h .0) (plain-short p (h .1)) (omega arith)) (said-in bs (h .2) (and-right (leb (nodes p) branchLimit) (shortIn bs) g) (omega arith))
 
-module _ (p : Prog) (h : Fit p) (g : short p ≡ true) (l : nodes p ≤ fieldSize * fieldSize) where
+module _ (p : Prog) (h : Fit p) (g : short p ≡ true) (l : nodes p ≤ countSize) where
   pub words-sound : Sound (wordsOf p)
   words-sound = said p h g l .sound
 

@@ -1,9 +1,9 @@
 -- The words of a program. Assumes nothing: these are definitions.
 use mathlib.Core.List.{List, [], _∷_, _++_}
-use Prim.Native.Nat.{ℕ, _/_, _%_}
+use Prim.Native.Nat.{ℕ}
 use lib.ListN.{length}
 use Rattle.meaning.specs.Programs.{Test, byte, mask, negatedMask, any, dot, Item, Prog, Branches, one, jump, range, alt, end, _▹_, stop, or}
-use Rattle.meaning.specs.Words.{fieldSize, word}
+use Rattle.meaning.specs.Words.{word, countWord}
 
 -- the word of a test; one that asks nothing is a Jump of 1, though no compiled program holds it
 unfoldable pub wordFor : Test → ℕ
@@ -15,7 +15,7 @@ wordFor dot = word 5 0 0
 
 -- an Alternation's word, by the number of words that fill it
 unfoldable pub opening : ℕ → ℕ
-opening n = word 6 (n % fieldSize) (n / fieldSize)
+opening n = countWord n
 
 -- the words of a program: an Alternation counts its branches with their marks, an AltBranch its nodes
 unfoldable mutual

@@ -10,8 +10,16 @@ ghost use Rattle.meaning.specs.Programs.{range, alt, _▹_};
 ghost use Rattle.meaning.specs.Rows.{forward};
 ghost use Rattle.meaning.specs.Words.{kindOf, prog, branchesOf, Sound, SoundBranches, plainWords};
 ghost use Rattle.steps.specs.Steps.{answer};
+use nodes::Field;
+use nodes::JUMP;
+use nodes::JUMP_RANGE;
 use nodes::NextWord;
+use nodes::NodeWord;
+use nodes::count;
+use nodes::first;
 use nodes::first_word;
+use nodes::kind;
+use nodes::second;
 use steps::Found;
 use steps::NextByte;
 use steps::first_byte;
@@ -19,7 +27,7 @@ use steps::tests_byte;
 use steps::word_passes;
 
 // A branch, which holds nodes of fixed length only: what it leaves of mem.
-fn flat(branch: &[u32], mem: &[u8]) -> Found
+fn flat(branch: &[NodeWord], mem: &[u8]) -> Found
     requires { ⌜ plainWords (now branch) ≡ true ⌝ }
     ensures { λ r. ⌜ r ≡ answer (forward (prog (now (branch .entry))) (now (mem .entry))) ⌝ }
 {
@@ -30,8 +38,8 @@ fn flat(branch: &[u32], mem: &[u8]) -> Found
             return Found::Left(m.len());
         };
         ns = &ns[1..];
-        if w % 256 == 3 {
-            let n = (w / 256 % 256) as usize;
+        if kind(w) == JUMP {
+            let n = first(w) as usize;
             if m.len() < n {
                 return Found::Nothing;
             }
@@ -49,7 +57,7 @@ fn flat(branch: &[u32], mem: &[u8]) -> Found
 }
 
 // What the first choice leaves of mem.
-pub fn check(nodes: &[u32], mem: &[u8]) -> Found
+pub fn check(nodes: &[NodeWord], mem: &[u8]) -> Found
     requires { ⌜ Sound (now nodes) ⌝ }
     ensures { λ r. ⌜ r ≡ answer (forward (prog (now (nodes .entry))) (now (mem .entry))) ⌝ }
 {
@@ -69,8 +77,8 @@ pub fn check(nodes: &[u32], mem: &[u8]) -> Found
                 return Found::Nothing;
             }
         } else {
-            if w % 256 == 3 {
-                let n = (w / 256 % 256) as usize;
+            if kind(w) == JUMP {
+                let n = first(w) as usize;
                 if m.len() < n {
                     return Found::Nothing;
                 }
@@ -83,29 +91,29 @@ pub fn check(nodes: &[u32], mem: &[u8]) -> Found
 }
 
 // A range, or alternatives with the range that directly follows them, before the rest.
-fn choices(w: u32, rest: &[u32], mem: &[u8]) -> Found
+fn choices(w: NodeWord, rest: &[NodeWord], mem: &[u8]) -> Found
     requires { ⌜ Sound (w ∷ now rest) × ((kindOf w ≡ 4) ⊎ (kindOf w ≡ 6)) ⌝ }
     ensures { λ r. ⌜ r ≡ answer (forward (prog (w ∷ now (rest .entry))) (now (mem .entry))) ⌝ }
 {
-    if w % 256 == 4 {
-        let from = (w / 256 % 256) as u8;
-        let to = (w / 65536 % 256) as u8;
+    if kind(w) == JUMP_RANGE {
+        let from = first(w);
+        let to = second(w);
         return jumps(&rest[0..], &mem[0..], from, to);
     }
-    let count = (w / 256 % 65536) as usize;
-    let after = &rest[count..];
+    let size = count(w) as usize;
+    let after = &rest[size..];
     if let NextWord::Word(x) = first_word(after) {
-        if x % 256 == 4 {
-            let from = (x / 256 % 256) as u8;
-            let to = (x / 65536 % 256) as u8;
-            return branches(&rest[..count], &after[1..], &mem[0..], from, to);
+        if kind(x) == JUMP_RANGE {
+            let from = first(x);
+            let to = second(x);
+            return branches(&rest[..size], &after[1..], &mem[0..], from, to);
         }
     }
-    branches(&rest[..count], &after[0..], &mem[0..], 0, 0)
+    branches(&rest[..size], &after[0..], &mem[0..], 0, 0)
 }
 
 // A range before the rest: the shortest length for which the rest fits.
-fn jumps(rest: &[u32], mem: &[u8], from: u8, to: u8) -> Found
+fn jumps(rest: &[NodeWord], mem: &[u8], from: Field, to: Field) -> Found
     requires { ⌜ Sound (now rest) ⌝ }
     ensures { λ r. ⌜ r ≡ answer (forward (range from to ▹ prog (now (rest .entry))) (now (mem .entry))) ⌝ }
 {
@@ -128,7 +136,7 @@ fn jumps(rest: &[u32], mem: &[u8], from: u8, to: u8) -> Found
 }
 
 // Alternatives, a range and the rest: the first branch and then the shortest length for which the rest fits.
-fn branches(alts: &[u32], rest: &[u32], mem: &[u8], from: u8, to: u8) -> Found
+fn branches(alts: &[NodeWord], rest: &[NodeWord], mem: &[u8], from: Field, to: Field) -> Found
     requires { ⌜ SoundBranches (now alts) × Sound (now rest) ⌝ }
     ensures { λ r. ⌜ r ≡ answer (forward (alt (branchesOf (now (alts .entry))) ▹ range from to ▹ prog (now (rest .entry))) (now (mem .entry))) ⌝ }
 {
@@ -139,7 +147,7 @@ fn branches(alts: &[u32], rest: &[u32], mem: &[u8], from: u8, to: u8) -> Found
             break 'branches Found::Nothing;
         };
         bs = &bs[1..];
-        let size = (w / 256 % 256) as usize;
+        let size = first(w) as usize;
         let got = flat(&bs[..size], mem);
         if let Found::Left(left) = got {
             let used = mem.len() - left;

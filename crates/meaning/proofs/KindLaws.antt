@@ -1,12 +1,11 @@
 -- The kind of a word and what it says. Assumes nothing.
-use mathlib.Core.Path.{_≡_, refl, ap}
+use mathlib.Core.Path.{_≡_, refl}
 use mathlib.Core.Bool.{Bool, true, false, cond}
-use Prim.Native.Nat.{ℕ, _+_, _*_, _/_, _%_}
-use native.Mathlib.Omega.{arith}
+use Prim.Native.Nat.{ℕ}
 use lib.Dec.{eqb}
 use borrow.Author.Tests.{eqb-true}
 use Rattle.meaning.specs.Programs.{byte, mask, negatedMask, dot, one, jump, range, alt}
-use Rattle.meaning.specs.Words.{fieldSize, kindOf, firstOf, secondOf, Shape, item, opens, mark, wrong, shapeBy, shape}
+use Rattle.meaning.specs.Words.{kindOf, firstOf, secondOf, countBy, countOf, Shape, item, opens, mark, wrong, shapeBy, shape}
 
 -- the kind that a shape has
 abbrev pub Seen : ℕ → Shape → Type 0
@@ -22,7 +21,7 @@ seen-by : (k a b : ℕ) → Seen k (shapeBy k a b)
 unfolding shapeBy
 seen-by k a b = go (eqb k 0) (eqb k 1) (eqb k 2) (eqb k 3) (eqb k 4) (eqb k 5) (eqb k 6) (eqb k 7) (eqb-true k 3) (eqb-true k 4) (eqb-true k 6) (eqb-true k 7)
   where
-    go : (x y z u v s t q : Bool) → (u ≡ true → k ≡ 3) → (v ≡ true → k ≡ 4) → (t ≡ true → k ≡ 6) → (q ≡ true → k ≡ 7) → Seen k (cond x (item (one (byte a))) (cond y (item (one (mask a b))) (cond z (item (one (negatedMask a b))) (cond u (item (jump a)) (cond v (item (range a b)) (cond s (item (one dot)) (cond t (opens (a + fieldSize * b)) (cond q (mark a) wrong))))))))
+    go : (x y z u v s t q : Bool) → (u ≡ true → k ≡ 3) → (v ≡ true → k ≡ 4) → (t ≡ true → k ≡ 6) → (q ≡ true → k ≡ 7) → Seen k (cond x (item (one (byte a))) (cond y (item (one (mask a b))) (cond z (item (one (negatedMask a b))) (cond u (item (jump a)) (cond v (item (range a b)) (cond s (item (one dot)) (cond t (opens (countBy a b)) (cond q (mark a) wrong))))))))
     go true y z u v s t q e f g h = tt
     go false true z u v s t q e f g h = tt
     go false false true u v s t q e f g h = tt
@@ -38,19 +37,19 @@ module _ (w : ℕ) where
   unfolding shape
   seen = seen-by (kindOf w) (firstOf w) (secondOf w)
 
-  -- the shape of a word by its kind
-  pub kind-jump : kindOf w ≡ 3 → shape w ≡ item (jump (firstOf w))
+  -- the shape of a word by its kind, with the fields as they were read out of it
+  pub kind-jump : {a : ℕ} → kindOf w ≡ 3 → a ≡ firstOf w → shape w ≡ item (jump a)
   unfolding shape shapeBy
-  kind-jump e = rw e
+  kind-jump e f = rw (e, f)
 
-  pub kind-range : kindOf w ≡ 4 → shape w ≡ item (range (firstOf w) (secondOf w))
+  pub kind-range : {a b : ℕ} → kindOf w ≡ 4 → a ≡ firstOf w → b ≡ secondOf w → shape w ≡ item (range a b)
   unfolding shape shapeBy
-  kind-range e = rw e
+  kind-range e f g = rw (e, f, g)
 
-  pub kind-opens : kindOf w ≡ 6 → shape w ≡ opens (w / 256 % 65536)
+  pub kind-opens : {n : ℕ} → kindOf w ≡ 6 → n ≡ countOf w → shape w ≡ opens n
   unfolding shape shapeBy
-  kind-opens e = rw e (ap opens (omega arith))
+  kind-opens e f = rw (e, f)
 
-  pub kind-mark : kindOf w ≡ 7 → shape w ≡ mark (firstOf w)
+  pub kind-mark : {n : ℕ} → kindOf w ≡ 7 → n ≡ firstOf w → shape w ≡ mark n
   unfolding shape shapeBy
-  kind-mark e = rw e
+  kind-mark e f = rw (e, f)

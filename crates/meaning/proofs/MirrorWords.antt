@@ -2,13 +2,13 @@
 use mathlib.Core.Path.{_≡_, refl, sym, ap, ap₂, _∙_, subst}
 use mathlib.Core.Bool.{true}
 use mathlib.Core.List.{List, [], _∷_, _++_}
-use Prim.Native.Nat.{ℕ, zero, suc, _+_, _-_, _%_, _≤_}
+use Prim.Native.Nat.{ℕ, zero, suc, _+_, _-_, _≤_}
 use native.Mathlib.Omega.{arith}
 use native.Mathlib.Nat.{le-refl}
 use lib.ListN.{length, take, drop, length-append, length-drop}
 use lib.Seq.{take-at, drop-at, take-length, drop-length, length-take-le}
 use Rattle.meaning.specs.Programs.{Item, Prog, Branches, one, jump, range, alt, _▹_, or, _⧺_, mirror, mirrorOf, mirrorIn}
-use Rattle.meaning.specs.Words.{Shape, item, opens, mark, wrong, shape, prog, branchesOf, branches, plainWords, Sound, SoundBranches, soundBranches, soundWords, mirrorItems, mirrorBranches, mirrorWords}
+use Rattle.meaning.specs.Words.{kindOf, Shape, item, opens, mark, wrong, shape, prog, branchesOf, branches, plainWords, Sound, SoundBranches, soundBranches, soundWords, mirrorItems, mirrorBranches, mirrorWords}
 use Rattle.meaning.proofs.KindLaws.{Seen, seen}
 use Rattle.meaning.proofs.WordLaws.{take-le, drop-le, prog-nil, prog-item, prog-opens, branches-mark}
 use Rattle.meaning.proofs.SoundLaws.{sound-proper, branch-proper, sound-item, sound-opens, sound-mark, sound-wrong, sound-branch, branch-shape, make-item, make-opens, make-branch, plain-item, plain-sound, make-plain, plain-append, plain-nil}
@@ -33,9 +33,9 @@ sound-nil = refl
 -- an item of one word is its own mirror
 self-word : (w : ℕ) (i : Item) → shape w ≡ item i → mirrorOf i ≡ i
 unfolding mirror
-self-word w i e = go i (subst (Seen (w % 256)) e (seen w))
+self-word w i e = go i (subst (Seen (kindOf w)) e (seen w))
   where
-    go : (j : Item) → Seen (w % 256) (item j) → mirrorOf j ≡ j
+    go : (j : Item) → Seen (kindOf w) (item j) → mirrorOf j ≡ j
     go (one t) h = refl
     go (jump n) h = refl
     go (range a b) h = refl

@@ -36,6 +36,23 @@ firstOf w = firstBy fieldSize w
 abbrev pub secondOf : ℕ → ℕ
 secondOf w = secondBy fieldSize w
 
+-- how many words there are of a kind and two fields
+abbrev pub wordSize : ℕ
+wordSize = 256 * fieldSize * fieldSize
+
+-- An Alternation's count takes both fields: how many values it has, the count of the fields a and b, of a word, and the word of a count.
+abbrev pub countSize : ℕ
+countSize = fieldSize * fieldSize
+
+abbrev pub countBy : ℕ → ℕ → ℕ
+countBy a b = a + fieldSize * b
+
+abbrev pub countOf : ℕ → ℕ
+countOf w = countBy (firstOf w) (secondOf w)
+
+abbrev pub countWord : ℕ → ℕ
+countWord n = word 6 (n % fieldSize) (n / fieldSize)
+
 -- what one word says by its kind and fields, read without judging (`proper` judges): an item that is one word; alternatives, whose branches
 -- are the next so many words; a branch, whose nodes are the next so many words; or a kind that 01 does not have
 pub data Shape : Type 0 where
@@ -53,7 +70,7 @@ shapeBy k a b =
     (cond (eqb k 3) (item (jump a))
     (cond (eqb k 4) (item (range a b))
     (cond (eqb k 5) (item (one dot))
-    (cond (eqb k 6) (opens (a + fieldSize * b))
+    (cond (eqb k 6) (opens (countBy a b))
     (cond (eqb k 7) (mark a) wrong)))))))
 
 unfoldable pub shape : ℕ → Shape
@@ -68,12 +85,12 @@ properBy k a b =
     (cond (eqb k 3) (eqb b 0)
     (cond (eqb k 4) (leb a b)
     (cond (eqb k 5) (eqb a 0 && eqb b 0)
-    (cond (eqb k 6) (leb 1 (a + fieldSize * b))
+    (cond (eqb k 6) (leb 1 (countBy a b))
     (cond (eqb k 7) (eqb b 0) false)))))))
 
 -- a word that may stand in a sound program, as far as it tells by itself
 unfoldable pub proper : ℕ → Bool
-proper w = ltb w (256 * fieldSize * fieldSize) && properBy (kindOf w) (firstOf w) (secondOf w)
+proper w = ltb w wordSize && properBy (kindOf w) (firstOf w) (secondOf w)
 
 -- what may stand in a branch: kinds 0, 1, 2, 3 and 5
 unfoldable pub plain : Item → Bool

@@ -1,15 +1,15 @@
 -- A word taken apart into a node and made from it: on proper words the two are inverse. Assumes nothing.
 use mathlib.Core.Path.{_≡_, refl, sym, ap, _∙_, subst}
 use mathlib.Core.Bool.{Bool, true, false, _&&_}
-use Prim.Native.Nat.{ℕ, _*_, _/_, _%_, _<_}
+use Prim.Native.Nat.{ℕ, _<_}
 use native.Mathlib.Omega.{arith}
 use lib.Dec.{eqb, ltb}
 use borrow.Author.Tests.{eqb-true, ltb-true}
 use Rattle.meaning.specs.Programs.{Test, byte, mask, negatedMask, any, dot, one, jump, range, alt}
-use Rattle.meaning.specs.Words.{fieldSize, word, kindOf, firstOf, secondOf, Shape, item, opens, mark, wrong, shapeBy, shape, properBy, proper}
+use Rattle.meaning.specs.Words.{fieldSize, word, kindOf, firstOf, secondOf, wordSize, Shape, item, opens, mark, wrong, shapeBy, shape, properBy, proper}
 use Rattle.meaning.proofs.SoundLaws.{and-left, and-right, false-true}
 use Rattle.meaning.proofs.FieldLaws.{word-made}
-use Rattle.meaning.proofs.MadeLaws.{made-shape}
+use Rattle.meaning.proofs.MadeLaws.{made-shape, count-shape}
 use Rattle.nodes.specs.declared.ByteTest.the-variants.{Byte, Mask, NegatedMask, Dot}
 use Rattle.nodes.specs.declared.Node.{Node}
 use Rattle.nodes.specs.declared.Node.the-variants.{One, Jump, JumpRange, Alternation, AltBranch, Bad}
@@ -79,8 +79,8 @@ made-again k a b ha hb = by-kind (λ (j : ℕ). properBy j a b ≡ true → word
 pub word-again : (w : ℕ) (n : Node) → proper w ≡ true → shapeOf n ≡ shape w → wordOf n ≡ w
 unfolding proper shape
 word-again w n p e =
-    let l : w < 256 * fieldSize * fieldSize = ltb-true _ _ (and-left (ltb w (256 * fieldSize * fieldSize)) (properBy (kindOf w) (firstOf w) (secondOf w)) p) in
-    let f : properBy (kindOf w) (firstOf w) (secondOf w) ≡ true = and-right (ltb w (256 * fieldSize * fieldSize)) _ p in
+    let l : w < wordSize = ltb-true _ _ (and-left (ltb w (wordSize)) (properBy (kindOf w) (firstOf w) (secondOf w)) p) in
+    let f : properBy (kindOf w) (firstOf w) (secondOf w) ≡ true = and-right (ltb w (wordSize)) _ p in
     sym (ap wordOf (node-in n)) ∙ ap (λ (s : Shape). wordOf (nodeIn s)) e ∙ made-again (kindOf w) (firstOf w) (secondOf w) (omega arith) (omega arith) f ∙ word-made fieldSize w l
 
 -- the word of a node says that node: node_of (node_word n) = n
@@ -92,6 +92,6 @@ shape-again (One (NegatedMask v m)) h = made-shape 2 v m (omega arith) (h .0) (h
 shape-again (One Dot) h = made-shape 5 0 0 (omega arith) (omega arith) (omega arith)
 shape-again (Jump n) h = made-shape 3 n 0 (omega arith) h (omega arith)
 shape-again (JumpRange a b) h = made-shape 4 a b (omega arith) (h .0) (h .1)
-shape-again (Alternation n) h = made-shape 6 (n % fieldSize) (n / fieldSize) (omega arith) (omega arith) (omega arith) ∙ ap opens (omega arith)
+shape-again (Alternation n) h = count-shape n h
 shape-again (AltBranch n) h = made-shape 7 n 0 (omega arith) h (omega arith)
 shape-again Bad h = made-shape 8 0 0 (omega arith) (omega arith) (omega arith)

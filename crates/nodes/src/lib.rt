@@ -1,9 +1,46 @@
 // Translated from boreal's boreal/src/matcher/validator/simple.rs (MIT OR Apache-2.0), commit 7010b5e967; see NOTICE.
-// A node word and the node that it says: the one taken apart into the other, and made from it.
+// A node word and the node that it says: the one taken apart into the other, and made from it. Nowhere else is a word taken apart or made by
+// arithmetic, so what a word's layout is stands here: the types, the sizes, and the small functions for kind, fields and count.
 ghost use mathlib.Core.Path.{_≡_};
-ghost use Prim.Native.Nat.{_<_};
-ghost use Rattle.meaning.specs.Words.{word, shape, proper};
+ghost use Prim.Native.Nat.{_≤_, _<_};
+ghost use Rattle.meaning.specs.Words.{kindOf, firstOf, secondOf, countOf, word, countWord, shape, proper};
 ghost use Rattle.nodes.specs.Nodes.{shapeOf, testWord, wordOf, firstWord};
+
+// A word of a program; a field of it; and an Alternation's count, which takes both fields.
+pub type NodeWord = u32;
+
+pub type Field = u8;
+
+pub type Count = u16;
+
+// The kinds, in the lowest part of a word. They keep the word's type: of kinds that are bytes the compiler makes one table of jumps in
+// the searches, bytes of a pattern included, and they take up to twice the time.
+pub const BYTE: NodeWord = 0;
+
+pub const MASK: NodeWord = 1;
+
+pub const NEGATED_MASK: NodeWord = 2;
+
+pub const JUMP: NodeWord = 3;
+
+pub const JUMP_RANGE: NodeWord = 4;
+
+pub const DOT: NodeWord = 5;
+
+pub const ALTERNATION: NodeWord = 6;
+
+pub const ALT_BRANCH: NodeWord = 7;
+
+// How many values a kind has, a field, and a count; where the second field begins; and how many words there are.
+const KINDS: NodeWord = 256;
+
+const FIELDS: NodeWord = 256;
+
+const COUNTS: NodeWord = FIELDS * FIELDS;
+
+const SECOND: NodeWord = KINDS * FIELDS;
+
+const WORDS: NodeWord = SECOND * FIELDS;
 
 // What is asked of one byte.
 pub enum ByteTest {
@@ -16,20 +53,20 @@ pub enum ByteTest {
 // Every word says one of these: Bad is for the kinds that 01 does not have.
 pub enum Node {
     One(ByteTest),
-    Jump(u8),
-    JumpRange(u8, u8),
-    Alternation(u16),
-    AltBranch(u8),
+    Jump(Field),
+    JumpRange(Field, Field),
+    Alternation(Count),
+    AltBranch(Field),
     Bad,
 }
 
 pub enum NextWord {
-    Word(u32),
+    Word(NodeWord),
     NoWord,
 }
 
 // The first of the words.
-pub fn first_word(ws: &[u32]) -> NextWord
+pub fn first_word(ws: &[NodeWord]) -> NextWord
     ensures { λ r. ⌜ r ≡ firstWord (now (ws .entry)) ⌝ }
 {
     if 0 < ws.len() {
@@ -39,78 +76,116 @@ pub fn first_word(ws: &[u32]) -> NextWord
     }
 }
 
+pub fn kind(w: NodeWord) -> NodeWord
+    ensures { λ r. ⌜ r ≡ kindOf w ⌝ }
+{
+    w % KINDS
+}
+
+pub fn first(w: NodeWord) -> Field
+    ensures { λ r. ⌜ r ≡ firstOf w ⌝ }
+{
+    (w / KINDS % FIELDS) as Field
+}
+
+pub fn second(w: NodeWord) -> Field
+    ensures { λ r. ⌜ r ≡ secondOf w ⌝ }
+{
+    (w / SECOND % FIELDS) as Field
+}
+
+// What an Alternation counts.
+pub fn count(w: NodeWord) -> Count
+    ensures { λ r. ⌜ r ≡ countOf w ⌝ }
+{
+    (w / KINDS % COUNTS) as Count
+}
+
 // The node that a word says.
-pub fn node_of(w: u32) -> Node
+pub fn node_of(w: NodeWord) -> Node
     ensures { λ r. ⌜ shapeOf r ≡ shape w ⌝ }
 {
-    let a = (w / 256 % 256) as u8;
-    let b = (w / 65536 % 256) as u8;
-    let count = (w / 256 % 65536) as u16;
-    let k = w % 256;
-    match k {
-        0 => Node::One(ByteTest::Byte(a)),
-        1 => Node::One(ByteTest::Mask(a, b)),
-        2 => Node::One(ByteTest::NegatedMask(a, b)),
-        3 => Node::Jump(a),
-        4 => Node::JumpRange(a, b),
-        5 => Node::One(ByteTest::Dot),
-        6 => Node::Alternation(count),
-        7 => Node::AltBranch(a),
+    let a = first(w);
+    let b = second(w);
+    match kind(w) {
+        BYTE => Node::One(ByteTest::Byte(a)),
+        MASK => Node::One(ByteTest::Mask(a, b)),
+        NEGATED_MASK => Node::One(ByteTest::NegatedMask(a, b)),
+        JUMP => Node::Jump(a),
+        JUMP_RANGE => Node::JumpRange(a, b),
+        DOT => Node::One(ByteTest::Dot),
+        ALTERNATION => Node::Alternation(count(w)),
+        ALT_BRANCH => Node::AltBranch(a),
         _ => Node::Bad,
     }
 }
 
 // The word of a kind and two fields.
-fn made(k: u8, a: u8, b: u8) -> u32
+fn made(k: NodeWord, a: Field, b: Field) -> NodeWord
+    requires { ⌜ k < 256 ⌝ }
     ensures { λ r. ⌜ r ≡ word k a b ⌝ }
 {
-    k as u32 + 256 * (a as u32) + 65536 * (b as u32)
+    k + KINDS * (a as NodeWord) + SECOND * (b as NodeWord)
 }
 
-fn test_word(t: ByteTest) -> u32
+// The word of an Alternation.
+fn counted(n: Count) -> NodeWord
+    ensures { λ r. ⌜ r ≡ countWord n ⌝ }
+{
+    ALTERNATION + KINDS * (n as NodeWord)
+}
+
+fn test_word(t: ByteTest) -> NodeWord
     ensures { λ r. ⌜ r ≡ testWord t ⌝ }
 {
     match t {
-        ByteTest::Byte(v) => made(0, v, 0),
-        ByteTest::Mask(v, m) => made(1, v, m),
-        ByteTest::NegatedMask(v, m) => made(2, v, m),
-        ByteTest::Dot => made(5, 0, 0),
+        ByteTest::Byte(v) => made(BYTE, v, 0),
+        ByteTest::Mask(v, m) => made(MASK, v, m),
+        ByteTest::NegatedMask(v, m) => made(NEGATED_MASK, v, m),
+        ByteTest::Dot => made(DOT, 0, 0),
     }
 }
 
 // The word of a node.
-pub fn node_word(n: Node) -> u32
+pub fn node_word(n: Node) -> NodeWord
     ensures { λ r. ⌜ r ≡ wordOf n ⌝ }
 {
     match n {
         Node::One(t) => test_word(t),
-        Node::Jump(a) => made(3, a, 0),
-        Node::JumpRange(a, b) => made(4, a, b),
-        Node::Alternation(k) => 6 + 256 * (k as u32),
-        Node::AltBranch(a) => made(7, a, 0),
+        Node::Jump(a) => made(JUMP, a, 0),
+        Node::JumpRange(a, b) => made(JUMP_RANGE, a, b),
+        Node::Alternation(k) => counted(k),
+        Node::AltBranch(a) => made(ALT_BRANCH, a, 0),
         Node::Bad => made(8, 0, 0),
     }
 }
 
+// An AltBranch's word that counts past a field too: such a branch is refused later.
+pub fn branch_word(n: usize) -> NodeWord
+    requires { ⌜ n ≤ 4096 ⌝ }
+    ensures { λ r. ⌜ r ≡ word 7 n 0 ⌝ }
+{
+    ALT_BRANCH + KINDS * (n as NodeWord)
+}
+
 // Whether a word may stand in a sound program, as far as it tells by itself.
-pub fn proper_word(w: u32) -> bool
+pub fn proper_word(w: NodeWord) -> bool
     ensures { λ r. ⌜ r ≡ proper w ⌝ }
 {
-    if 16777216 <= w {
+    if WORDS <= w {
         return false;
     }
-    let a = w / 256 % 256;
-    let b = w / 65536 % 256;
-    let k = w % 256;
-    match k {
-        0 => b == 0,
-        1 => true,
-        2 => true,
-        3 => b == 0,
-        4 => a <= b,
-        5 => a == 0 && b == 0,
-        6 => 1 <= a + 256 * b,
-        7 => b == 0,
+    let a = first(w);
+    let b = second(w);
+    match kind(w) {
+        BYTE => b == 0,
+        MASK => true,
+        NEGATED_MASK => true,
+        JUMP => b == 0,
+        JUMP_RANGE => a <= b,
+        DOT => a == 0 && b == 0,
+        ALTERNATION => 1 <= count(w),
+        ALT_BRANCH => b == 0,
         _ => false,
     }
 }

@@ -6,7 +6,7 @@ use native.Mathlib.Omega.{arith}
 use lib.Dec.{eqb, ltb}
 use borrow.Author.Tests.{leb-true, le-leb}
 use Rattle.meaning.specs.Programs.{Test, byte, mask, negatedMask, any, dot, Item, one, jump, range, alt}
-use Rattle.meaning.specs.Words.{fieldSize, kindOf, firstOf, secondOf, Shape, item, opens, mark, wrong, shapeBy, shape, properBy, proper, plain}
+use Rattle.meaning.specs.Words.{kindOf, firstOf, secondOf, wordSize, countOf, Shape, item, opens, mark, wrong, shapeBy, shape, properBy, proper, plain}
 use Rattle.meaning.proofs.KindLaws.{Seen, seen, kind-opens, kind-range}
 use Rattle.meaning.proofs.MadeLaws.{made-shape, made-proper}
 use Rattle.meaning.proofs.SoundLaws.{and-right, false-true}
@@ -84,10 +84,10 @@ pub ordered : (w a b : ℕ) → proper w ≡ true → shape w ≡ item (range a 
 unfolding proper properBy
 ordered w a b h e =
     let s : kindOf w ≡ 4 = subst (Seen (kindOf w)) e (seen w) in
-    let g : item (range (firstOf w) (secondOf w)) ≡ item (range a b) = sym (kind-range w s) ∙ e in
+    let g : item (range (firstOf w) (secondOf w)) ≡ item (range a b) = sym (kind-range w s refl refl) ∙ e in
     let x : firstOf w ≡ a = cc in
     let y : secondOf w ≡ b = cc in
-    let f : properBy 4 (firstOf w) (secondOf w) ≡ true = sym (ap (λ (k : ℕ). properBy k (firstOf w) (secondOf w)) s) ∙ and-right (ltb w (256 * fieldSize * fieldSize)) (properBy (kindOf w) (firstOf w) (secondOf w)) h in
+    let f : properBy 4 (firstOf w) (secondOf w) ≡ true = sym (ap (λ (k : ℕ). properBy k (firstOf w) (secondOf w)) s) ∙ and-right (ltb w wordSize) (properBy (kindOf w) (firstOf w) (secondOf w)) h in
     let l : firstOf w ≤ secondOf w = leb-true (firstOf w) (secondOf w) f in
     omega arith
 
@@ -96,10 +96,10 @@ pub opens-some : (w k : ℕ) → shape w ≡ opens k → proper w ≡ true → 1
 unfolding proper properBy
 opens-some w k e h =
     let s : kindOf w ≡ 6 = subst (Seen (kindOf w)) e (seen w) in
-    let g : opens (w / 256 % 65536) ≡ opens k = sym (kind-opens w s) ∙ e in
-    let j : w / 256 % 65536 ≡ k = cc in
-    let f : properBy 6 (firstOf w) (secondOf w) ≡ true = sym (ap (λ (x : ℕ). properBy x (firstOf w) (secondOf w)) s) ∙ and-right (ltb w (256 * fieldSize * fieldSize)) (properBy (kindOf w) (firstOf w) (secondOf w)) h in
-    let l : 1 ≤ firstOf w + fieldSize * secondOf w = leb-true 1 (firstOf w + fieldSize * secondOf w) f in
+    let g : opens (countOf w) ≡ opens k = sym (kind-opens w s refl) ∙ e in
+    let j : countOf w ≡ k = cc in
+    let f : properBy 6 (firstOf w) (secondOf w) ≡ true = sym (ap (λ (x : ℕ). properBy x (firstOf w) (secondOf w)) s) ∙ and-right (ltb w wordSize) (properBy (kindOf w) (firstOf w) (secondOf w)) h in
+    let l : 1 ≤ countOf w = leb-true 1 (countOf w) f in
     omega arith
 
 -- and the words themselves

@@ -4,6 +4,14 @@ ghost use mathlib.Core.Path.{_≡_};
 ghost use mathlib.Core.List.{reverse};
 ghost use Rattle.meaning.specs.Words.{shape};
 ghost use Rattle.steps.specs.Steps.{firstByte, isTest, passShape};
+use nodes::BYTE;
+use nodes::DOT;
+use nodes::MASK;
+use nodes::NEGATED_MASK;
+use nodes::NodeWord;
+use nodes::first;
+use nodes::kind;
+use nodes::second;
 
 // What a check finds: how many bytes of the window it leaves.
 pub enum Found {
@@ -39,35 +47,35 @@ pub fn last_byte(s: &[u8]) -> NextByte
 }
 
 // Whether a word asks something of one byte. Byte stands first here and below: most nodes are bytes.
-pub fn tests_byte(w: u32) -> bool
+pub fn tests_byte(w: NodeWord) -> bool
     ensures { λ r. ⌜ r ≡ isTest (shape w) ⌝ }
 {
-    let k = w % 256;
-    if k == 0 {
+    let k = kind(w);
+    if k == BYTE {
         return true;
     }
     match k {
-        1 => true,
-        2 => true,
-        5 => true,
+        MASK => true,
+        NEGATED_MASK => true,
+        DOT => true,
         _ => false,
     }
 }
 
 // Whether a byte passes the test that a word says.
-pub fn word_passes(w: u32, c: u8) -> bool
+pub fn word_passes(w: NodeWord, c: u8) -> bool
     ensures { λ r. ⌜ r ≡ passShape (shape w) c ⌝ }
 {
-    let a = (w / 256 % 256) as u8;
-    let b = (w / 65536 % 256) as u8;
-    let k = w % 256;
-    if k == 0 {
+    let a = first(w);
+    let b = second(w);
+    let k = kind(w);
+    if k == BYTE {
         return c == a;
     }
     match k {
-        1 => (c & b) == a,
-        2 => (c & b) != a,
-        5 => c != 10,
+        MASK => (c & b) == a,
+        NEGATED_MASK => (c & b) != a,
+        DOT => c != 10,
         _ => false,
     }
 }

@@ -3,7 +3,7 @@
 use mathlib.Core.Path.{_≡_, refl, sym, ap, ap₂, subst, _∙_}
 use mathlib.Core.Logic.{_⊎_, ⊎-elim}
 use mathlib.Core.List.{List}
-use Prim.Native.Nat.{_+_, _*_, _-_, _/_, _%_, _≤_}
+use Prim.Native.Nat.{_+_, _*_, _-_, _≤_}
 use native.Mathlib.Omega.{arith}
 use lib.ListN.{length}
 use lib.Seq.{length-take-le}
@@ -39,7 +39,11 @@ use Rattle.forward.proofs.jumps.Reads as jumps
 use Rattle.forward.proofs.jumps.Kinds as jumps-kinds
 use Rattle.forward.proofs.+branches+check+choices+jumps.Lts-jumps as jumps-lts
 use Rattle.forward.proofs.flat.Reads as flat-reads
+use Rattle.nodes.proofs.count.Reads as count-reads
+use Rattle.nodes.proofs.first.Reads as first-reads
 use Rattle.nodes.proofs.first_word.Reads as first-word-reads
+use Rattle.nodes.proofs.kind.Reads as kind-reads
+use Rattle.nodes.proofs.second.Reads as second-reads
 use Rattle.steps.proofs.first_byte.Reads as first-byte-reads
 use Rattle.steps.proofs.tests_byte.Reads as tests-byte-reads
 use Rattle.steps.proofs.word_passes.Reads as word-passes-reads
@@ -83,13 +87,13 @@ abbrev jumps-below : ℕ → In 2 jumps-kinds.ps
 jumps-below t = and 2 jumps-kinds.ps (falls 2 jumps-kinds.ps _<_ μ-jumps t) jumps.Pre
 
 abbrev branches-claims : ℕ → branches-lts.Claims
-branches-claims t = (first-word-reads.Asked, first-word-reads.Learnt, flat-reads.Asked, flat-reads.Learnt, check-below t, check.Post)
+branches-claims t = (first-word-reads.Asked, first-word-reads.Learnt, first-reads.Asked, first-reads.Learnt, flat-reads.Asked, flat-reads.Learnt, check-below t, check.Post)
 
 abbrev check-claims : ℕ → check-lts.Claims
-check-claims t = (first-word-reads.Asked, first-word-reads.Learnt, tests-byte-reads.Asked, tests-byte-reads.Learnt, first-byte-reads.Asked, first-byte-reads.Learnt, word-passes-reads.Asked, word-passes-reads.Learnt, choices-below t, choices.Post)
+check-claims t = (first-word-reads.Asked, first-word-reads.Learnt, tests-byte-reads.Asked, tests-byte-reads.Learnt, first-byte-reads.Asked, first-byte-reads.Learnt, word-passes-reads.Asked, word-passes-reads.Learnt, kind-reads.Asked, kind-reads.Learnt, first-reads.Asked, first-reads.Learnt, choices-below t, choices.Post)
 
 abbrev choices-claims : ℕ → choices-lts.Claims
-choices-claims t = (jumps-below t, jumps.Post, first-word-reads.Asked, first-word-reads.Learnt, branches-below t, branches.Post)
+choices-claims t = (kind-reads.Asked, kind-reads.Learnt, first-reads.Asked, first-reads.Learnt, second-reads.Asked, second-reads.Learnt, jumps-below t, jumps.Post, count-reads.Asked, count-reads.Learnt, first-word-reads.Asked, first-word-reads.Learnt, branches-below t, branches.Post)
 
 abbrev jumps-claims : ℕ → jumps-lts.Claims
 jumps-claims t = (check-below t, check.Post)
@@ -154,31 +158,36 @@ module _ (t : ℕ) where
   branches-part-bs-end : branches-lts.Need-part-bs-end (branches-claims t) (branches-at t) branches.Post branches-Inv-loop branches-μ-loop branches-Inv-branches branches-μ-branches
   branches-part-bs-end c = search needs
 
+  branches-first-requires : branches-lts.Need-first-requires (branches-claims t) (branches-at t) branches.Post branches-Inv-loop branches-μ-loop branches-Inv-branches branches-μ-branches
+  branches-first-requires c κs = search needs
+
   branches-cast-size : branches-lts.Need-cast-size (branches-claims t) (branches-at t) branches.Post branches-Inv-loop branches-μ-loop branches-Inv-branches branches-μ-branches
   branches-cast-size c = search needs
 
   branches-slice-aggregate-flat : branches-lts.Need-slice-aggregate-flat (branches-claims t) (branches-at t) branches.Post branches-Inv-loop branches-μ-loop branches-Inv-branches branches-μ-branches
   branches-slice-aggregate-flat c =
-      let at-w = c .before .before .before .w in
-      let at-first-word = c .before .before .before .before .before .first-word in
-      let at-branches = c .before .before .before .before .before .before .branches in
+      let at-first = c .before .first in
+      let at-w = c .before .before .before .before .w in
+      let at-first-word = c .before .before .before .before .before .before .first-word in
+      let at-branches = c .before .before .before .before .before .before .before .branches in
       let L = at-branches .bs .now in
       let W = at-w .given .0 .0 in
       let e = sym (at-first-word .ensures) ∙ at-w .given .1 in
       let sb = at-branches .inv .0 in
-      let marked = alts.head-marked L W e sb in
+      let marked = alts.head-marked L W e (at-first .ensures) sb in
       sym (length-take-le _ _ (marked .fits))
 
   branches-flat-requires : branches-lts.Need-flat-requires (branches-claims t) (branches-at t) branches.Post branches-Inv-loop branches-μ-loop branches-Inv-branches branches-μ-branches
   branches-flat-requires c κs =
-      let at-w = c .before .before .before .w in
-      let at-first-word = c .before .before .before .before .before .first-word in
-      let at-branches = c .before .before .before .before .before .before .branches in
+      let at-first = c .before .first in
+      let at-w = c .before .before .before .before .w in
+      let at-first-word = c .before .before .before .before .before .before .first-word in
+      let at-branches = c .before .before .before .before .before .before .before .branches in
       let L = at-branches .bs .now in
       let W = at-w .given .0 .0 in
       let e = sym (at-first-word .ensures) ∙ at-w .given .1 in
       let sb = at-branches .inv .0 in
-      let marked = alts.head-marked L W e sb in
+      let marked = alts.head-marked L W e (at-first .ensures) sb in
       marked .inside
 
   branches-enum-known-got : branches-lts.Need-enum-known-got (branches-claims t) (branches-at t) branches.Post branches-Inv-loop branches-μ-loop branches-Inv-branches branches-μ-branches
@@ -188,7 +197,7 @@ module _ (t : ℕ) where
   branches-sub-used c =
       let at-got = c .before .got in
       let at-flat = c .before .before .before .flat in
-      let at-start = c .before .before .before .before .before .before .before .before .before .before .before .before .before .before in
+      let at-start = c .before .before .before .before .before .before .before .before .before .before .before .before .before .before .before in
       let M = at-start .args .mem .now in
       let fits = sym (at-got .given .1) ∙ at-flat .ensures in
       left-fits short _ M _ fits
@@ -225,7 +234,7 @@ module _ (t : ℕ) where
 
   branches-check-requires : branches-lts.Need-check-requires (branches-claims t) (branches-at t) branches.Post branches-Inv-loop branches-μ-loop branches-Inv-branches branches-μ-branches
   branches-check-requires c κs =
-      let at-start = c .before .before .before .before .before .before .before .before .before .before .before .before .before .before .before .before .before .before .before .before in
+      let at-start = c .before .before .before .before .before .before .before .before .before .before .before .before .before .before .before .before .before .before .before .before .before in
       let R = at-start .args .rest .now in
       (omega (arith, length-from 0 R, at-start .pre .0), subst Sound (sym (whole R)) (at-start .pre .1 .1))
 
@@ -249,7 +258,7 @@ module _ (t : ℕ) where
       let at-loop-test = c .before .before .before .before .before .before .loop-test in
       let at-loop = c .before .before .before .before .before .before .before .loop in
       let at-got = c .before .before .before .before .before .before .before .before .before .before .got in
-      let at-start = c .before .before .before .before .before .before .before .before .before .before .before .before .before .before .before .before .before .before .before .before .before .before .before in
+      let at-start = c .before .before .before .before .before .before .before .before .before .before .before .before .before .before .before .before .before .before .before .before .before .before .before .before in
       let p = prog (at-start .args .rest .now) in
       let M = at-start .args .mem .now in
       let N = from (length M - at-got .given .0 .0) M in
@@ -266,26 +275,28 @@ module _ (t : ℕ) where
 
   branches-sub-bs-2 : branches-lts.Need-sub-bs-2 (branches-claims t) (branches-at t) branches.Post branches-Inv-loop branches-μ-loop branches-Inv-branches branches-μ-branches
   branches-sub-bs-2 c =
-      let at-w = c .before .before .before .before .before .w in
-      let at-first-word = c .before .before .before .before .before .before .before .first-word in
-      let at-branches = c .before .before .before .before .before .before .before .before .branches in
+      let at-first = c .before .before .before .first in
+      let at-w = c .before .before .before .before .before .before .w in
+      let at-first-word = c .before .before .before .before .before .before .before .before .first-word in
+      let at-branches = c .before .before .before .before .before .before .before .before .before .branches in
       let L = at-branches .bs .now in
       let W = at-w .given .0 .0 in
       let e = sym (at-first-word .ensures) ∙ at-w .given .1 in
       let sb = at-branches .inv .0 in
-      let marked = alts.head-marked L W e sb in
+      let marked = alts.head-marked L W e (at-first .ensures) sb in
       marked .fits
 
   branches-part-bs-start-2 : branches-lts.Need-part-bs-start-2 (branches-claims t) (branches-at t) branches.Post branches-Inv-loop branches-μ-loop branches-Inv-branches branches-μ-branches
   branches-part-bs-start-2 c =
-      let at-w = c .before .before .before .before .before .w in
-      let at-first-word = c .before .before .before .before .before .before .before .first-word in
-      let at-branches = c .before .before .before .before .before .before .before .before .branches in
+      let at-first = c .before .before .before .first in
+      let at-w = c .before .before .before .before .before .before .w in
+      let at-first-word = c .before .before .before .before .before .before .before .before .first-word in
+      let at-branches = c .before .before .before .before .before .before .before .before .before .branches in
       let L = at-branches .bs .now in
       let W = at-w .given .0 .0 in
       let e = sym (at-first-word .ensures) ∙ at-w .given .1 in
       let sb = at-branches .inv .0 in
-      let marked = alts.head-marked L W e sb in
+      let marked = alts.head-marked L W e (at-first .ensures) sb in
       marked .fits
 
   branches-part-bs-end-2 : branches-lts.Need-part-bs-end-2 (branches-claims t) (branches-at t) branches.Post branches-Inv-loop branches-μ-loop branches-Inv-branches branches-μ-branches
@@ -293,22 +304,24 @@ module _ (t : ℕ) where
 
   branches-branches-less : branches-lts.Need-branches-less (branches-claims t) (branches-at t) branches.Post branches-Inv-loop branches-μ-loop branches-Inv-branches branches-μ-branches
   branches-branches-less c =
-      let at-w = c .before .before .before .before .before .before .w in
-      let at-first-word = c .before .before .before .before .before .before .before .before .first-word in
-      let at-branches = c .before .before .before .before .before .before .before .before .before .branches in
+      let at-first = c .before .before .before .before .first in
+      let at-w = c .before .before .before .before .before .before .before .w in
+      let at-first-word = c .before .before .before .before .before .before .before .before .before .first-word in
+      let at-branches = c .before .before .before .before .before .before .before .before .before .before .branches in
       let L = at-branches .bs .now in
       let W = at-w .given .0 .0 in
       let e = sym (at-first-word .ensures) ∙ at-w .given .1 in
-      omega (arith, word-pos L W e, length-from 1 L, length-from (W / 256 % 256) (from 1 L))
+      omega (arith, word-pos L W e, length-from 1 L, length-from (at-first .result) (from 1 L))
 
   branches-branches-again : branches-lts.Need-branches-again (branches-claims t) (branches-at t) branches.Post branches-Inv-loop branches-μ-loop branches-Inv-branches branches-μ-branches
   branches-branches-again c =
       let at-match2 = c .before .match2 in
       let at-flat = c .before .before .flat in
-      let at-w = c .before .before .before .before .before .before .w in
-      let at-first-word = c .before .before .before .before .before .before .before .before .first-word in
-      let at-branches = c .before .before .before .before .before .before .before .before .before .branches in
-      let at-start = c .before .before .before .before .before .before .before .before .before .before .before .before .before in
+      let at-first = c .before .before .before .before .first in
+      let at-w = c .before .before .before .before .before .before .before .w in
+      let at-first-word = c .before .before .before .before .before .before .before .before .before .first-word in
+      let at-branches = c .before .before .before .before .before .before .before .before .before .before .branches in
+      let at-start = c .before .before .before .before .before .before .before .before .before .before .before .before .before .before in
       let L = at-branches .bs .now in
       let W = at-w .given .0 .0 in
       let e = sym (at-first-word .ensures) ∙ at-w .given .1 in
@@ -317,12 +330,12 @@ module _ (t : ℕ) where
       let q = range (at-start .args .from) (at-start .args .to) ▹ p in
       let M = at-start .args .mem .now in
       let T = at-start .args .to in (
-        alts.head-after L W e sb,
+        alts.head-after L W e (at-first .ensures) sb,
         at-branches .inv .1 ∙ ⊎-elim
-            (λ w. alts.head-skip L W e sb short q M _ _ (to-end _ M) (sym (w .1 .given .1) ∙ at-flat .ensures) (w .4 .inv ∙ run-range-empty p _ short (w .4 .n) T (w .5 .left)))
+            (λ w. alts.head-skip L W e (at-first .ensures) sb short q M _ _ (to-end _ M) (sym (w .1 .given .1) ∙ at-flat .ensures) (w .4 .inv ∙ run-range-empty p _ short (w .4 .n) T (w .5 .left)))
             (λ v. ⊎-elim
-            (λ w. alts.head-skip L W e sb short q M _ _ (to-end _ M) (sym (w .1 .given .1) ∙ at-flat .ensures) (w .4 .inv ∙ ranges.range-short p _ (w .4 .n) T (w .6 .taken)))
-            (λ w. alts.head-none L W e sb short q M (sym (w .1 .given .1) ∙ at-flat .ensures)) v)
+            (λ w. alts.head-skip L W e (at-first .ensures) sb short q M _ _ (to-end _ M) (sym (w .1 .given .1) ∙ at-flat .ensures) (w .4 .inv ∙ ranges.range-short p _ (w .4 .n) T (w .6 .taken)))
+            (λ w. alts.head-none L W e (at-first .ensures) sb short q M (sym (w .1 .given .1) ∙ at-flat .ensures)) v)
             (at-match2 .came),
       )
 
@@ -347,10 +360,11 @@ module _ (t : ℕ) where
       let at-loop = c .before .before .before .before .before .before .before .before .loop in
       let at-got = c .before .before .before .before .before .before .before .before .before .before .before .got in
       let at-flat = c .before .before .before .before .before .before .before .before .before .before .before .before .before .flat in
-      let at-w = c .before .before .before .before .before .before .before .before .before .before .before .before .before .before .before .before .before .w in
-      let at-first-word = c .before .before .before .before .before .before .before .before .before .before .before .before .before .before .before .before .before .before .before .first-word in
-      let at-branches = c .before .before .before .before .before .before .before .before .before .before .before .before .before .before .before .before .before .before .before .before .branches in
-      let at-start = c .before .before .before .before .before .before .before .before .before .before .before .before .before .before .before .before .before .before .before .before .before .before .before .before in
+      let at-first = c .before .before .before .before .before .before .before .before .before .before .before .before .before .before .before .first in
+      let at-w = c .before .before .before .before .before .before .before .before .before .before .before .before .before .before .before .before .before .before .w in
+      let at-first-word = c .before .before .before .before .before .before .before .before .before .before .before .before .before .before .before .before .before .before .before .before .first-word in
+      let at-branches = c .before .before .before .before .before .before .before .before .before .before .before .before .before .before .before .before .before .before .before .before .before .branches in
+      let at-start = c .before .before .before .before .before .before .before .before .before .before .before .before .before .before .before .before .before .before .before .before .before .before .before .before .before in
       let L = at-branches .bs .now in
       let W = at-w .given .0 .0 in
       let e = sym (at-first-word .ensures) ∙ at-w .given .1 in
@@ -363,7 +377,7 @@ module _ (t : ℕ) where
       let T = at-start .args .to in
       let R = at-start .args .rest .now in
       let tried = at-check .ensures ∙ ap (λ (l : List ℕ). answer (forward (prog l) (from (at-loop .n) N))) (whole R) in
-      alts.head-take L W e sb short q M _ _ (to-end _ M) fits _
+      alts.head-take L W e (at-first .ensures) sb short q M _ _ (to-end _ M) fits _
       (ranges.range-take p N _ (at-loop .n) T (to-end (at-loop .n) N) (at-loop-test .taken) (at-if1 .left) _ (sym (at-got2 .given .1) ∙ tried) ∙ ap answer (sym (at-loop .inv)))
       ∙ ap answer (sym (at-branches .inv .1))
 
@@ -520,22 +534,30 @@ module _ (t : ℕ) where
       let f = sym (at-first-byte .ensures) ∙ at-b .given .1 in
       ap answer (sym (inv ∙ turns.stop-one L W e short M (test .0) B (test .1) f (passes-as W B (test .0) (test .1) (sym (at-if2 .left) ∙ at-word-passes .ensures))))
 
+  check-kind-requires : check-lts.Need-kind-requires (check-claims t) (check-at t) check.Post check-Inv-loop check-μ-loop
+  check-kind-requires c κs = search needs
+
+  check-first-requires : check-lts.Need-first-requires (check-claims t) (check-at t) check.Post check-Inv-loop check-μ-loop
+  check-first-requires c κs = search needs
+
   check-cast-n : check-lts.Need-cast-n (check-claims t) (check-at t) check.Post check-Inv-loop check-μ-loop
   check-cast-n c = search needs
 
   check-returns-4 : check-lts.Need-returns-4 (check-claims t) (check-at t) check.Post check-Inv-loop check-μ-loop
   check-returns-4 c =
       let at-if4 = c .if4 in
-      let at-if3 = c .before .if3 in
-      let at-w = c .before .before .before .before .before .before .w in
-      let at-first-word = c .before .before .before .before .before .before .before .before .first-word in
-      let at-loop = c .before .before .before .before .before .before .before .before .before .loop in
+      let at-first = c .before .first in
+      let at-if3 = c .before .before .if3 in
+      let at-kind = c .before .before .before .kind in
+      let at-w = c .before .before .before .before .before .before .before .before .w in
+      let at-first-word = c .before .before .before .before .before .before .before .before .before .before .first-word in
+      let at-loop = c .before .before .before .before .before .before .before .before .before .before .before .loop in
       let inv = at-loop .inv .2 in
       let L = at-loop .ns .now in
       let W = at-w .given .0 .0 in
       let e = sym (at-first-word .ensures) ∙ at-w .given .1 in
       let M = at-loop .m .now in
-      let kind = kind-jump W (at-if3 .taken) in
+      let kind = kind-jump W (sym (at-kind .ensures) ∙ at-if3 .taken) (at-first .ensures) in
       ap answer (sym (inv ∙ turns.stop-jump L W e short M _ kind (at-if4 .taken)))
 
   check-sub-m-2 : check-lts.Need-sub-m-2 (check-claims t) (check-at t) check.Post check-Inv-loop check-μ-loop
@@ -549,9 +571,9 @@ module _ (t : ℕ) where
 
   check-loop-less-2 : check-lts.Need-loop-less-2 (check-claims t) (check-at t) check.Post check-Inv-loop check-μ-loop
   check-loop-less-2 c =
-      let at-w = c .before .before .before .before .before .before .before .w in
-      let at-first-word = c .before .before .before .before .before .before .before .before .before .first-word in
-      let at-loop = c .before .before .before .before .before .before .before .before .before .before .loop in
+      let at-w = c .before .before .before .before .before .before .before .before .before .w in
+      let at-first-word = c .before .before .before .before .before .before .before .before .before .before .before .first-word in
+      let at-loop = c .before .before .before .before .before .before .before .before .before .before .before .before .loop in
       let L = at-loop .ns .now in
       let W = at-w .given .0 .0 in
       let e = sym (at-first-word .ensures) ∙ at-w .given .1 in
@@ -560,14 +582,16 @@ module _ (t : ℕ) where
   check-loop-again-2 : check-lts.Need-loop-again-2 (check-claims t) (check-at t) check.Post check-Inv-loop check-μ-loop
   check-loop-again-2 c =
       let at-if4 = c .before .if4 in
-      let at-if3 = c .before .before .if3 in
-      let at-w = c .before .before .before .before .before .before .before .w in
-      let at-first-word = c .before .before .before .before .before .before .before .before .before .first-word in
-      let at-loop = c .before .before .before .before .before .before .before .before .before .before .loop in
+      let at-first = c .before .before .first in
+      let at-if3 = c .before .before .before .if3 in
+      let at-kind = c .before .before .before .before .kind in
+      let at-w = c .before .before .before .before .before .before .before .before .before .w in
+      let at-first-word = c .before .before .before .before .before .before .before .before .before .before .before .first-word in
+      let at-loop = c .before .before .before .before .before .before .before .before .before .before .before .before .loop in
       let L = at-loop .ns .now in
       let W = at-w .given .0 .0 in
       let e = sym (at-first-word .ensures) ∙ at-w .given .1 in
-      let kind = kind-jump W (at-if3 .taken) in
+      let kind = kind-jump W (sym (at-kind .ensures) ∙ at-if3 .taken) (at-first .ensures) in
       let sound = at-loop .inv .1 in
       let inv = at-loop .inv .2 in
       let M = at-loop .m .now in
@@ -594,24 +618,25 @@ module _ (t : ℕ) where
   check-choices-requires : check-lts.Need-choices-requires (check-claims t) (check-at t) check.Post check-Inv-loop check-μ-loop
   check-choices-requires c κs =
       let at-if3 = c .before .before .if3 in
-      let at-if1 = c .before .before .before .if1 in
-      let at-tests-byte = c .before .before .before .before .tests-byte in
-      let at-w = c .before .before .before .before .before .before .before .w in
-      let at-first-word = c .before .before .before .before .before .before .before .before .before .first-word in
-      let at-loop = c .before .before .before .before .before .before .before .before .before .before .loop in
-      let at-start = c .before .before .before .before .before .before .before .before .before .before .before .before .before in
+      let at-kind = c .before .before .before .kind in
+      let at-if1 = c .before .before .before .before .if1 in
+      let at-tests-byte = c .before .before .before .before .before .tests-byte in
+      let at-w = c .before .before .before .before .before .before .before .before .w in
+      let at-first-word = c .before .before .before .before .before .before .before .before .before .before .first-word in
+      let at-loop = c .before .before .before .before .before .before .before .before .before .before .before .loop in
+      let at-start = c .before .before .before .before .before .before .before .before .before .before .before .before .before .before in
       let L = at-loop .ns .now in
       let W = at-w .given .0 .0 in
       let e = sym (at-first-word .ensures) ∙ at-w .given .1 in
       let sound = at-loop .inv .1 in
-      (omega (arith, word-pos L W e, length-from 1 L, at-loop .inv .0, length-from 0 (from 1 L), at-start .pre .0), (subst Sound (sym (word-whole L W e)) sound, turns.choice-kind L W e sound (sym (at-if1 .left) ∙ at-tests-byte .ensures) (at-if3 .left)))
+      (omega (arith, word-pos L W e, length-from 1 L, at-loop .inv .0, length-from 0 (from 1 L), at-start .pre .0), (subst Sound (sym (word-whole L W e)) sound, turns.choice-kind L W e sound (sym (at-if1 .left) ∙ at-tests-byte .ensures) (λ z. at-if3 .left (at-kind .ensures ∙ z))))
 
   check-returns-5 : check-lts.Need-returns-5 (check-claims t) (check-at t) check.Post check-Inv-loop check-μ-loop
   check-returns-5 c =
       let at-choices = c .choices in
-      let at-w = c .before .before .before .before .before .before .before .before .w in
-      let at-first-word = c .before .before .before .before .before .before .before .before .before .before .first-word in
-      let at-loop = c .before .before .before .before .before .before .before .before .before .before .before .loop in
+      let at-w = c .before .before .before .before .before .before .before .before .before .w in
+      let at-first-word = c .before .before .before .before .before .before .before .before .before .before .before .first-word in
+      let at-loop = c .before .before .before .before .before .before .before .before .before .before .before .before .loop in
       let L = at-loop .ns .now in
       let W = at-w .given .0 .0 in
       let e = sym (at-first-word .ensures) ∙ at-w .given .1 in
@@ -619,11 +644,14 @@ module _ (t : ℕ) where
       let inv = at-loop .inv .2 in
       at-choices .ensures ∙ ap₂ (λ (x y : List ℕ). answer (forward (prog x) y)) (word-whole L W e) (whole M) ∙ ap answer (sym inv)
 
-  choices-cast-from : choices-lts.Need-cast-from (choices-claims t) (choices-at t) choices.Post
-  choices-cast-from c = search needs
+  choices-kind-requires : choices-lts.Need-kind-requires (choices-claims t) (choices-at t) choices.Post
+  choices-kind-requires c κs = search needs
 
-  choices-cast-to : choices-lts.Need-cast-to (choices-claims t) (choices-at t) choices.Post
-  choices-cast-to c = search needs
+  choices-first-requires : choices-lts.Need-first-requires (choices-claims t) (choices-at t) choices.Post
+  choices-first-requires c κs = search needs
+
+  choices-second-requires : choices-lts.Need-second-requires (choices-claims t) (choices-at t) choices.Post
+  choices-second-requires c κs = search needs
 
   choices-sub-jumps : choices-lts.Need-sub-jumps (choices-claims t) (choices-at t) choices.Post
   choices-sub-jumps c = search needs
@@ -645,49 +673,60 @@ module _ (t : ℕ) where
 
   choices-jumps-requires : choices-lts.Need-jumps-requires (choices-claims t) (choices-at t) choices.Post
   choices-jumps-requires c κs =
-      let at-if1 = c .before .before .if1 in
-      let at-start = c .before .before .before .before .before in
+      let at-if1 = c .before .before .before .before .if1 in
+      let at-kind = c .before .before .before .before .before .kind in
+      let at-start = c .before .before .before .before .before .before .before .before in
       let R = at-start .args .rest .now in
       let W = at-start .args .w in
       let sound = at-start .pre .1 .0 in
-      (omega (arith, length-from 0 R, at-start .pre .0), choice.range-after W R (at-if1 .taken) sound)
+      (omega (arith, length-from 0 R, at-start .pre .0), choice.range-after W R (sym (at-kind .ensures) ∙ at-if1 .taken) sound)
 
   choices-returns : choices-lts.Need-returns (choices-claims t) (choices-at t) choices.Post
   choices-returns c =
       let at-jumps = c .jumps in
-      let at-if1 = c .before .before .before .if1 in
-      let at-start = c .before .before .before .before .before .before in
+      let at-second = c .before .before .before .second in
+      let at-first = c .before .before .before .before .first in
+      let at-if1 = c .before .before .before .before .before .if1 in
+      let at-kind = c .before .before .before .before .before .before .kind in
+      let at-start = c .before .before .before .before .before .before .before .before .before in
       let W = at-start .args .w in
       let R = at-start .args .rest .now in
       let M = at-start .args .mem .now in
-      at-jumps .ensures ∙ ap answer (choice.range-alone W R (at-if1 .taken) short M _ (whole M))
+      at-jumps .ensures ∙ ap answer (choice.range-alone W R (sym (at-kind .ensures) ∙ at-if1 .taken) (at-first .ensures) (at-second .ensures) short M _ (whole M))
 
-  choices-cast-count : choices-lts.Need-cast-count (choices-claims t) (choices-at t) choices.Post
-  choices-cast-count c = search needs
+  choices-count-requires : choices-lts.Need-count-requires (choices-claims t) (choices-at t) choices.Post
+  choices-count-requires c κs = search needs
+
+  choices-cast-size : choices-lts.Need-cast-size (choices-claims t) (choices-at t) choices.Post
+  choices-cast-size c = search needs
 
   choices-mul-after : choices-lts.Need-mul-after (choices-claims t) (choices-at t) choices.Post
   choices-mul-after c = search needs
 
   choices-sub-after : choices-lts.Need-sub-after (choices-claims t) (choices-at t) choices.Post
   choices-sub-after c =
-      let at-if1 = c .if1 in
-      let at-start = c .before .before .before in
+      let at-count = c .count in
+      let at-if1 = c .before .if1 in
+      let at-kind = c .before .before .kind in
+      let at-start = c .before .before .before .before .before in
       let W = at-start .args .w in
       let R = at-start .args .rest .now in
-      let k = choice.is-alt W (at-start .pre .1 .1) (at-if1 .left) in
+      let k = choice.is-alt W (at-start .pre .1 .1) (λ z. at-if1 .left (at-kind .ensures ∙ z)) in
       let sound = at-start .pre .1 .0 in
-      let opened = choice.opened W R k sound in
+      let opened = choice.opened W R k (at-count .ensures) sound in
       opened .fits
 
   choices-part-after-start : choices-lts.Need-part-after-start (choices-claims t) (choices-at t) choices.Post
   choices-part-after-start c =
-      let at-if1 = c .if1 in
-      let at-start = c .before .before .before in
+      let at-count = c .count in
+      let at-if1 = c .before .if1 in
+      let at-kind = c .before .before .kind in
+      let at-start = c .before .before .before .before .before in
       let W = at-start .args .w in
       let R = at-start .args .rest .now in
-      let k = choice.is-alt W (at-start .pre .1 .1) (at-if1 .left) in
+      let k = choice.is-alt W (at-start .pre .1 .1) (λ z. at-if1 .left (at-kind .ensures ∙ z)) in
       let sound = at-start .pre .1 .0 in
-      let opened = choice.opened W R k sound in
+      let opened = choice.opened W R k (at-count .ensures) sound in
       opened .fits
 
   choices-part-after-end : choices-lts.Need-part-after-end (choices-claims t) (choices-at t) choices.Post
@@ -699,43 +738,50 @@ module _ (t : ℕ) where
   choices-enum-known-x : choices-lts.Need-enum-known-x (choices-claims t) (choices-at t) choices.Post
   choices-enum-known-x c = search needs
 
-  choices-cast-from-2 : choices-lts.Need-cast-from-2 (choices-claims t) (choices-at t) choices.Post
-  choices-cast-from-2 c = search needs
+  choices-kind-requires-2 : choices-lts.Need-kind-requires-2 (choices-claims t) (choices-at t) choices.Post
+  choices-kind-requires-2 c κs = search needs
 
-  choices-cast-to-2 : choices-lts.Need-cast-to-2 (choices-claims t) (choices-at t) choices.Post
-  choices-cast-to-2 c = search needs
+  choices-first-requires-2 : choices-lts.Need-first-requires-2 (choices-claims t) (choices-at t) choices.Post
+  choices-first-requires-2 c κs = search needs
+
+  choices-second-requires-2 : choices-lts.Need-second-requires-2 (choices-claims t) (choices-at t) choices.Post
+  choices-second-requires-2 c κs = search needs
 
   choices-slice-aggregate-branches : choices-lts.Need-slice-aggregate-branches (choices-claims t) (choices-at t) choices.Post
   choices-slice-aggregate-branches c =
-      let at-if1 = c .before .before .before .before .before .before .before .if1 in
-      let at-start = c .before .before .before .before .before .before .before .before .before .before in
+      let at-count = c .before .before .before .before .before .before .before .before .before .before .count in
+      let at-if1 = c .before .before .before .before .before .before .before .before .before .before .before .if1 in
+      let at-kind = c .before .before .before .before .before .before .before .before .before .before .before .before .kind in
+      let at-start = c .before .before .before .before .before .before .before .before .before .before .before .before .before .before .before in
       let W = at-start .args .w in
       let R = at-start .args .rest .now in
-      let k = choice.is-alt W (at-start .pre .1 .1) (at-if1 .left) in
+      let k = choice.is-alt W (at-start .pre .1 .1) (λ z. at-if1 .left (at-kind .ensures ∙ z)) in
       let sound = at-start .pre .1 .0 in
-      let opened = choice.opened W R k sound in
+      let opened = choice.opened W R k (at-count .ensures) sound in
       sym (length-take-le _ _ (opened .fits))
 
   choices-sub-branches : choices-lts.Need-sub-branches (choices-claims t) (choices-at t) choices.Post
   choices-sub-branches c =
-      let at-x = c .before .before .before .x in
-      let at-first-word = c .before .before .before .before .before .first-word in
-      let at-start = c .before .before .before .before .before .before .before .before .before .before in
+      let at-x = c .before .before .before .before .before .before .x in
+      let at-first-word = c .before .before .before .before .before .before .before .before .first-word in
+      let at-count = c .before .before .before .before .before .before .before .before .before .before .count in
+      let at-start = c .before .before .before .before .before .before .before .before .before .before .before .before .before .before .before in
       let W = at-start .args .w in
       let R = at-start .args .rest .now in
-      let A = from (W / 256 % 65536) R in
+      let A = from (at-count .result) R in
       let X = at-x .given .0 .0 in
       let e = sym (at-first-word .ensures) ∙ at-x .given .1 in
       word-pos A X e
 
   choices-part-branches-start : choices-lts.Need-part-branches-start (choices-claims t) (choices-at t) choices.Post
   choices-part-branches-start c =
-      let at-x = c .before .before .before .x in
-      let at-first-word = c .before .before .before .before .before .first-word in
-      let at-start = c .before .before .before .before .before .before .before .before .before .before in
+      let at-x = c .before .before .before .before .before .before .x in
+      let at-first-word = c .before .before .before .before .before .before .before .before .first-word in
+      let at-count = c .before .before .before .before .before .before .before .before .before .before .count in
+      let at-start = c .before .before .before .before .before .before .before .before .before .before .before .before .before .before .before in
       let W = at-start .args .w in
       let R = at-start .args .rest .now in
-      let A = from (W / 256 % 65536) R in
+      let A = from (at-count .result) R in
       let X = at-x .given .0 .0 in
       let e = sym (at-first-word .ensures) ∙ at-x .given .1 in
       word-pos A X e
@@ -754,50 +800,60 @@ module _ (t : ℕ) where
 
   choices-branches-requires : choices-lts.Need-branches-requires (choices-claims t) (choices-at t) choices.Post
   choices-branches-requires c κs =
-      let at-if2 = c .before .before .before .if2 in
-      let at-x = c .before .before .before .before .before .x in
-      let at-first-word = c .before .before .before .before .before .before .before .first-word in
-      let at-if1 = c .before .before .before .before .before .before .before .before .before .if1 in
-      let at-start = c .before .before .before .before .before .before .before .before .before .before .before .before in
+      let at-if2 = c .before .before .before .before .before .if2 in
+      let at-kind2 = c .before .before .before .before .before .before .kind2 in
+      let at-x = c .before .before .before .before .before .before .before .before .x in
+      let at-first-word = c .before .before .before .before .before .before .before .before .before .before .first-word in
+      let at-count = c .before .before .before .before .before .before .before .before .before .before .before .before .count in
+      let at-if1 = c .before .before .before .before .before .before .before .before .before .before .before .before .before .if1 in
+      let at-kind = c .before .before .before .before .before .before .before .before .before .before .before .before .before .before .kind in
+      let at-start = c .before .before .before .before .before .before .before .before .before .before .before .before .before .before .before .before .before in
       let W = at-start .args .w in
       let R = at-start .args .rest .now in
-      let A = from (W / 256 % 65536) R in
-      let K = W / 256 % 65536 in
-      let k = choice.is-alt W (at-start .pre .1 .1) (at-if1 .left) in
+      let A = from (at-count .result) R in
+      let K = at-count .result in
+      let k = choice.is-alt W (at-start .pre .1 .1) (λ z. at-if1 .left (at-kind .ensures ∙ z)) in
       let sound = at-start .pre .1 .0 in
-      let opened = choice.opened W R k sound in
+      let opened = choice.opened W R k (at-count .ensures) sound in
       let X = at-x .given .0 .0 in
       let e = sym (at-first-word .ensures) ∙ at-x .given .1 in
-      (omega (arith, length-from 1 A, length-from K R, at-start .pre .0), (opened .inside, choice.range-sound W R k X e (at-if2 .taken) sound))
+      (omega (arith, length-from 1 A, length-from K R, at-start .pre .0), (opened .inside, choice.range-sound W R k (at-count .ensures) X e (sym (at-kind2 .ensures) ∙ at-if2 .taken) sound))
 
   choices-returns-2 : choices-lts.Need-returns-2 (choices-claims t) (choices-at t) choices.Post
   choices-returns-2 c =
       let at-branches = c .branches in
-      let at-if2 = c .before .before .before .before .if2 in
-      let at-x = c .before .before .before .before .before .before .x in
-      let at-first-word = c .before .before .before .before .before .before .before .before .first-word in
-      let at-if1 = c .before .before .before .before .before .before .before .before .before .before .if1 in
-      let at-start = c .before .before .before .before .before .before .before .before .before .before .before .before .before in
+      let at-second2 = c .before .before .before .before .second2 in
+      let at-first2 = c .before .before .before .before .before .first2 in
+      let at-if2 = c .before .before .before .before .before .before .if2 in
+      let at-kind2 = c .before .before .before .before .before .before .before .kind2 in
+      let at-x = c .before .before .before .before .before .before .before .before .before .x in
+      let at-first-word = c .before .before .before .before .before .before .before .before .before .before .before .first-word in
+      let at-count = c .before .before .before .before .before .before .before .before .before .before .before .before .before .count in
+      let at-if1 = c .before .before .before .before .before .before .before .before .before .before .before .before .before .before .if1 in
+      let at-kind = c .before .before .before .before .before .before .before .before .before .before .before .before .before .before .before .kind in
+      let at-start = c .before .before .before .before .before .before .before .before .before .before .before .before .before .before .before .before .before .before in
       let W = at-start .args .w in
       let R = at-start .args .rest .now in
-      let k = choice.is-alt W (at-start .pre .1 .1) (at-if1 .left) in
+      let k = choice.is-alt W (at-start .pre .1 .1) (λ z. at-if1 .left (at-kind .ensures ∙ z)) in
       let X = at-x .given .0 .0 in
       let e = sym (at-first-word .ensures) ∙ at-x .given .1 in
       let M = at-start .args .mem .now in
-      at-branches .ensures ∙ ap answer (choice.alt-range W R k X e (at-if2 .taken) short M _ (whole M))
+      at-branches .ensures ∙ ap answer (choice.alt-range W R k (at-count .ensures) X e (sym (at-kind2 .ensures) ∙ at-if2 .taken) (at-first2 .ensures) (at-second2 .ensures) short M _ (whole M))
 
   choices-enum-told : choices-lts.Need-enum-told (choices-claims t) (choices-at t) choices.Post
   choices-enum-told c = search needs
 
   choices-slice-aggregate-branches-2 : choices-lts.Need-slice-aggregate-branches-2 (choices-claims t) (choices-at t) choices.Post
   choices-slice-aggregate-branches-2 c =
-      let at-if1 = c .before .before .before .before .if1 in
-      let at-start = c .before .before .before .before .before .before .before in
+      let at-count = c .before .before .before .before .count in
+      let at-if1 = c .before .before .before .before .before .if1 in
+      let at-kind = c .before .before .before .before .before .before .kind in
+      let at-start = c .before .before .before .before .before .before .before .before .before in
       let W = at-start .args .w in
       let R = at-start .args .rest .now in
-      let k = choice.is-alt W (at-start .pre .1 .1) (at-if1 .left) in
+      let k = choice.is-alt W (at-start .pre .1 .1) (λ z. at-if1 .left (at-kind .ensures ∙ z)) in
       let sound = at-start .pre .1 .0 in
-      let opened = choice.opened W R k sound in
+      let opened = choice.opened W R k (at-count .ensures) sound in
       sym (length-take-le _ _ (opened .fits))
 
   choices-sub-branches-3 : choices-lts.Need-sub-branches-3 (choices-claims t) (choices-at t) choices.Post
@@ -820,27 +876,31 @@ module _ (t : ℕ) where
 
   choices-branches-requires-2 : choices-lts.Need-branches-requires-2 (choices-claims t) (choices-at t) choices.Post
   choices-branches-requires-2 c κs =
-      let at-if1 = c .before .before .before .before .before .before .if1 in
-      let at-start = c .before .before .before .before .before .before .before .before .before in
+      let at-count = c .before .before .before .before .before .before .count in
+      let at-if1 = c .before .before .before .before .before .before .before .if1 in
+      let at-kind = c .before .before .before .before .before .before .before .before .kind in
+      let at-start = c .before .before .before .before .before .before .before .before .before .before .before in
       let W = at-start .args .w in
       let R = at-start .args .rest .now in
-      let A = from (W / 256 % 65536) R in
-      let K = W / 256 % 65536 in
-      let k = choice.is-alt W (at-start .pre .1 .1) (at-if1 .left) in
+      let A = from (at-count .result) R in
+      let K = at-count .result in
+      let k = choice.is-alt W (at-start .pre .1 .1) (λ z. at-if1 .left (at-kind .ensures ∙ z)) in
       let sound = at-start .pre .1 .0 in
-      let opened = choice.opened W R k sound in
-      (omega (arith, length-from 0 A, length-from K R, at-start .pre .0), (opened .inside, choice.alone-sound W R k sound))
+      let opened = choice.opened W R k (at-count .ensures) sound in
+      (omega (arith, length-from 0 A, length-from K R, at-start .pre .0), (opened .inside, choice.alone-sound W R k (at-count .ensures) sound))
 
   choices-returns-3 : choices-lts.Need-returns-3 (choices-claims t) (choices-at t) choices.Post
   choices-returns-3 c =
       let at-branches2 = c .branches2 in
-      let at-if1 = c .before .before .before .before .before .before .before .if1 in
-      let at-start = c .before .before .before .before .before .before .before .before .before .before in
+      let at-count = c .before .before .before .before .before .before .before .count in
+      let at-if1 = c .before .before .before .before .before .before .before .before .if1 in
+      let at-kind = c .before .before .before .before .before .before .before .before .before .kind in
+      let at-start = c .before .before .before .before .before .before .before .before .before .before .before .before in
       let W = at-start .args .w in
       let R = at-start .args .rest .now in
-      let k = choice.is-alt W (at-start .pre .1 .1) (at-if1 .left) in
+      let k = choice.is-alt W (at-start .pre .1 .1) (λ z. at-if1 .left (at-kind .ensures ∙ z)) in
       let M = at-start .args .mem .now in
-      at-branches2 .ensures ∙ ap answer (choice.alt-alone W R k short M _ (whole M))
+      at-branches2 .ensures ∙ ap answer (choice.alt-alone W R k (at-count .ensures) short M _ (whole M))
 
   jumps-loop-holds : jumps-lts.Need-loop-holds (jumps-claims t) (jumps-at t) jumps.Post jumps-Inv-loop jumps-μ-loop
   jumps-loop-holds c = refl
@@ -928,7 +988,7 @@ pub +branches+check+choices+jumps-spec : {M : Type 1} → statement M
     close μ-branches μ-check μ-choices μ-jumps
     (λ t. branches-lts.spec (branches-claims t) (branches-at t) branches.Post branches-Inv-loop branches-μ-loop branches-Inv-branches branches-μ-branches
     (branches-branches-holds t) (branches-first-word-requires t) (branches-enum-known-w t) (branches-enum-told t)
-    (branches-sub-bs t) (branches-part-bs-start t) (branches-part-bs-end t) (branches-cast-size t)
+    (branches-sub-bs t) (branches-part-bs-start t) (branches-part-bs-end t) (branches-first-requires t) (branches-cast-size t)
     (branches-slice-aggregate-flat t) (branches-flat-requires t) (branches-enum-known-got t) (branches-sub-used t)
     (branches-sub-tail t) (branches-part-tail-start t) (branches-part-tail-end t) (branches-loop-holds t)
     (branches-sub-check t) (branches-part-check-start t) (branches-part-check-end t) (branches-sub-check-2 t)
@@ -943,16 +1003,16 @@ pub +branches+check+choices+jumps-spec : {M : Type 1} → statement M
     (check-tests-byte-requires t) (check-first-byte-requires t) (check-enum-known-b t) (check-enum-told-2 t)
     (check-returns-2 t) (check-sub-m t) (check-part-m-start t) (check-part-m-end t)
     (check-word-passes-requires t) (check-loop-less t) (check-loop-again t) (check-returns-3 t)
-    (check-cast-n t) (check-returns-4 t) (check-sub-m-2 t) (check-part-m-start-2 t)
+    (check-kind-requires t) (check-first-requires t) (check-cast-n t) (check-returns-4 t) (check-sub-m-2 t) (check-part-m-start-2 t)
     (check-part-m-end-2 t) (check-loop-less-2 t) (check-loop-again-2 t) (check-sub-choices t)
     (check-part-choices-start t) (check-part-choices-end t) (check-sub-choices-2 t) (check-part-choices-start-2 t)
     (check-part-choices-end-2 t) (check-choices-requires t) (check-returns-5 t))
     (λ t. choices-lts.spec (choices-claims t) (choices-at t) choices.Post
-    (choices-cast-from t) (choices-cast-to t) (choices-sub-jumps t) (choices-part-jumps-start t)
+    (choices-kind-requires t) (choices-first-requires t) (choices-second-requires t) (choices-sub-jumps t) (choices-part-jumps-start t)
     (choices-part-jumps-end t) (choices-sub-jumps-2 t) (choices-part-jumps-start-2 t) (choices-part-jumps-end-2 t)
-    (choices-jumps-requires t) (choices-returns t) (choices-cast-count t) (choices-mul-after t)
+    (choices-jumps-requires t) (choices-returns t) (choices-count-requires t) (choices-cast-size t) (choices-mul-after t)
     (choices-sub-after t) (choices-part-after-start t) (choices-part-after-end t) (choices-first-word-requires t)
-    (choices-enum-known-x t) (choices-cast-from-2 t) (choices-cast-to-2 t) (choices-slice-aggregate-branches t)
+    (choices-enum-known-x t) (choices-kind-requires-2 t) (choices-first-requires-2 t) (choices-second-requires-2 t) (choices-slice-aggregate-branches t)
     (choices-sub-branches t) (choices-part-branches-start t) (choices-part-branches-end t) (choices-sub-branches-2 t)
     (choices-part-branches-start-2 t) (choices-part-branches-end-2 t) (choices-branches-requires t) (choices-returns-2 t)
     (choices-enum-told t) (choices-slice-aggregate-branches-2 t) (choices-sub-branches-3 t) (choices-part-branches-start-3 t)

@@ -67,22 +67,30 @@ part-ns-start c =
 part-ns-end : tie.Need-part-ns-end Inv-loop μ-loop
 part-ns-end c = search needs
 
+kind-requires : tie.Need-kind-requires Inv-loop μ-loop
+kind-requires c κs = search needs
+
+first-requires : tie.Need-first-requires Inv-loop μ-loop
+first-requires c κs = search needs
+
 cast-n : tie.Need-cast-n Inv-loop μ-loop
 cast-n c = search needs
 
 returns-2 : tie.Need-returns-2 Inv-loop μ-loop
 returns-2 c =
     let at-if2 = c .if2 in
-    let at-if1 = c .before .if1 in
-    let at-w = c .before .before .before .before .w in
-    let at-first-word = c .before .before .before .before .before .before .first-word in
-    let at-loop = c .before .before .before .before .before .before .before .loop in
+    let at-first = c .before .first in
+    let at-if1 = c .before .before .if1 in
+    let at-kind = c .before .before .before .kind in
+    let at-w = c .before .before .before .before .before .before .w in
+    let at-first-word = c .before .before .before .before .before .before .before .before .first-word in
+    let at-loop = c .before .before .before .before .before .before .before .before .before .loop in
     let inv = at-loop .inv .1 in
     let L = at-loop .ns .now in
     let W = at-w .given .0 .0 in
     let e = sym (at-first-word .ensures) ∙ at-w .given .1 in
     let M = at-loop .m .now in
-    let kind = kind-jump W (at-if1 .taken) in
+    let kind = kind-jump W (sym (at-kind .ensures) ∙ at-if1 .taken) (at-first .ensures) in
     ap answer (sym (inv ∙ turns.stop-jump L W e short M _ kind (at-if2 .taken)))
 
 sub-m : tie.Need-sub-m Inv-loop μ-loop
@@ -96,9 +104,9 @@ part-m-end c = search needs
 
 loop-less : tie.Need-loop-less Inv-loop μ-loop
 loop-less c =
-    let at-w = c .before .before .before .before .before .w in
-    let at-first-word = c .before .before .before .before .before .before .before .first-word in
-    let at-loop = c .before .before .before .before .before .before .before .before .loop in
+    let at-w = c .before .before .before .before .before .before .before .w in
+    let at-first-word = c .before .before .before .before .before .before .before .before .before .first-word in
+    let at-loop = c .before .before .before .before .before .before .before .before .before .before .loop in
     let L = at-loop .ns .now in
     let W = at-w .given .0 .0 in
     let e = sym (at-first-word .ensures) ∙ at-w .given .1 in
@@ -107,17 +115,19 @@ loop-less c =
 loop-again : tie.Need-loop-again Inv-loop μ-loop
 loop-again c =
     let at-if2 = c .before .if2 in
-    let at-if1 = c .before .before .if1 in
-    let at-w = c .before .before .before .before .before .w in
-    let at-first-word = c .before .before .before .before .before .before .before .first-word in
-    let at-loop = c .before .before .before .before .before .before .before .before .loop in
+    let at-first = c .before .before .first in
+    let at-if1 = c .before .before .before .if1 in
+    let at-kind = c .before .before .before .before .kind in
+    let at-w = c .before .before .before .before .before .before .before .w in
+    let at-first-word = c .before .before .before .before .before .before .before .before .before .first-word in
+    let at-loop = c .before .before .before .before .before .before .before .before .before .before .loop in
     let L = at-loop .ns .now in
     let W = at-w .given .0 .0 in
     let e = sym (at-first-word .ensures) ∙ at-w .given .1 in
     let plain = at-loop .inv .0 in
     let inv = at-loop .inv .1 in
     let M = at-loop .m .now in
-    let kind = kind-jump W (at-if1 .taken) in
+    let kind = kind-jump W (sym (at-kind .ensures) ∙ at-if1 .taken) (at-first .ensures) in
     (turns.plain-tail L W e plain, inv ∙ turns.turn-jump L W e short M _ _ (to-end _ M) kind (at-if2 .left))
 
 first-byte-requires : tie.Need-first-byte-requires Inv-loop μ-loop
@@ -134,23 +144,24 @@ returns-3 c =
     let at-enum-told2 = c .enum-told2 in
     let at-first-byte = c .before .before .first-byte in
     let at-if1 = c .before .before .before .if1 in
-    let at-w = c .before .before .before .before .before .before .w in
-    let at-first-word = c .before .before .before .before .before .before .before .before .first-word in
-    let at-loop = c .before .before .before .before .before .before .before .before .before .loop in
+    let at-kind = c .before .before .before .before .kind in
+    let at-w = c .before .before .before .before .before .before .before .w in
+    let at-first-word = c .before .before .before .before .before .before .before .before .before .first-word in
+    let at-loop = c .before .before .before .before .before .before .before .before .before .before .loop in
     let inv = at-loop .inv .1 in
     let L = at-loop .ns .now in
     let W = at-w .given .0 .0 in
     let e = sym (at-first-word .ensures) ∙ at-w .given .1 in
     let M = at-loop .m .now in
     let plain = at-loop .inv .0 in
-    let test = turns.plain-test L W e plain (at-if1 .left) in
+    let test = turns.plain-test L W e plain (λ z. at-if1 .left (at-kind .ensures ∙ z)) in
     ap answer (sym (inv ∙ turns.stop-short L W e short M (test .0) (test .1) (sym (at-first-byte .ensures) ∙ at-enum-told2 .given .1)))
 
 sub-m-2 : tie.Need-sub-m-2 Inv-loop μ-loop
 sub-m-2 c =
     let at-b = c .before .b in
     let at-first-byte = c .before .before .before .first-byte in
-    let at-loop = c .before .before .before .before .before .before .before .before .before .before .loop in
+    let at-loop = c .before .before .before .before .before .before .before .before .before .before .before .loop in
     let M = at-loop .m .now in
     let B = at-b .given .0 .0 in
     let f = sym (at-first-byte .ensures) ∙ at-b .given .1 in
@@ -160,7 +171,7 @@ part-m-start-2 : tie.Need-part-m-start-2 Inv-loop μ-loop
 part-m-start-2 c =
     let at-b = c .before .b in
     let at-first-byte = c .before .before .before .first-byte in
-    let at-loop = c .before .before .before .before .before .before .before .before .before .before .loop in
+    let at-loop = c .before .before .before .before .before .before .before .before .before .before .before .loop in
     let M = at-loop .m .now in
     let B = at-b .given .0 .0 in
     let f = sym (at-first-byte .ensures) ∙ at-b .given .1 in
@@ -174,9 +185,9 @@ word-passes-requires c κs = search needs
 
 loop-less-2 : tie.Need-loop-less-2 Inv-loop μ-loop
 loop-less-2 c =
-    let at-w = c .before .before .before .before .before .before .before .before .before .before .w in
-    let at-first-word = c .before .before .before .before .before .before .before .before .before .before .before .before .first-word in
-    let at-loop = c .before .before .before .before .before .before .before .before .before .before .before .before .before .loop in
+    let at-w = c .before .before .before .before .before .before .before .before .before .before .before .w in
+    let at-first-word = c .before .before .before .before .before .before .before .before .before .before .before .before .before .first-word in
+    let at-loop = c .before .before .before .before .before .before .before .before .before .before .before .before .before .before .loop in
     let L = at-loop .ns .now in
     let W = at-w .given .0 .0 in
     let e = sym (at-first-word .ensures) ∙ at-w .given .1 in
@@ -189,16 +200,17 @@ loop-again-2 c =
     let at-b = c .before .before .before .before .b in
     let at-first-byte = c .before .before .before .before .before .before .first-byte in
     let at-if1 = c .before .before .before .before .before .before .before .if1 in
-    let at-w = c .before .before .before .before .before .before .before .before .before .before .w in
-    let at-first-word = c .before .before .before .before .before .before .before .before .before .before .before .before .first-word in
-    let at-loop = c .before .before .before .before .before .before .before .before .before .before .before .before .before .loop in
+    let at-kind = c .before .before .before .before .before .before .before .before .kind in
+    let at-w = c .before .before .before .before .before .before .before .before .before .before .before .w in
+    let at-first-word = c .before .before .before .before .before .before .before .before .before .before .before .before .before .first-word in
+    let at-loop = c .before .before .before .before .before .before .before .before .before .before .before .before .before .before .loop in
     let L = at-loop .ns .now in
     let W = at-w .given .0 .0 in
     let e = sym (at-first-word .ensures) ∙ at-w .given .1 in
     let plain = at-loop .inv .0 in
     let inv = at-loop .inv .1 in
     let M = at-loop .m .now in
-    let test = turns.plain-test L W e plain (at-if1 .left) in
+    let test = turns.plain-test L W e plain (λ z. at-if1 .left (at-kind .ensures ∙ z)) in
     let B = at-b .given .0 .0 in
     let f = sym (at-first-byte .ensures) ∙ at-b .given .1 in
     (turns.plain-tail L W e plain, inv ∙ turns.turn-one L W e short M _ (to-end 1 M) (test .0) B (test .1) f (passes-as W B (test .0) (test .1) (sym (at-if3 .taken) ∙ at-word-passes .ensures)))
@@ -210,16 +222,17 @@ returns-4 c =
     let at-b = c .before .before .before .before .b in
     let at-first-byte = c .before .before .before .before .before .before .first-byte in
     let at-if1 = c .before .before .before .before .before .before .before .if1 in
-    let at-w = c .before .before .before .before .before .before .before .before .before .before .w in
-    let at-first-word = c .before .before .before .before .before .before .before .before .before .before .before .before .first-word in
-    let at-loop = c .before .before .before .before .before .before .before .before .before .before .before .before .before .loop in
+    let at-kind = c .before .before .before .before .before .before .before .before .kind in
+    let at-w = c .before .before .before .before .before .before .before .before .before .before .before .w in
+    let at-first-word = c .before .before .before .before .before .before .before .before .before .before .before .before .before .first-word in
+    let at-loop = c .before .before .before .before .before .before .before .before .before .before .before .before .before .before .loop in
     let inv = at-loop .inv .1 in
     let L = at-loop .ns .now in
     let W = at-w .given .0 .0 in
     let e = sym (at-first-word .ensures) ∙ at-w .given .1 in
     let M = at-loop .m .now in
     let plain = at-loop .inv .0 in
-    let test = turns.plain-test L W e plain (at-if1 .left) in
+    let test = turns.plain-test L W e plain (λ z. at-if1 .left (at-kind .ensures ∙ z)) in
     let B = at-b .given .0 .0 in
     let f = sym (at-first-byte .ensures) ∙ at-b .given .1 in
     ap answer (sym (inv ∙ turns.stop-one L W e short M (test .0) B (test .1) f (passes-as W B (test .0) (test .1) (sym (at-if3 .left) ∙ at-word-passes .ensures))))
@@ -238,6 +251,8 @@ flat-spec =
     sub-ns
     part-ns-start
     part-ns-end
+    kind-requires
+    first-requires
     cast-n
     returns-2
     sub-m

@@ -1,6 +1,5 @@
 -- Each arm of the match is a case of the definition. Assumes nothing.
 use mathlib.Core.Path.{_∙_}
-use native.Mathlib.Omega.{arith}
 use borrow.Author.Needs.{needs}
 use Rattle.nodes.proofs.node_word.Statement.{statement}
 use Rattle.nodes.proofs.node_word.Tie as tie
@@ -26,14 +25,8 @@ made-requires-2 c κs = search needs
 enum-known-n-4 : tie.Need-enum-known-n-4
 enum-known-n-4 c = search needs
 
-cast-result : tie.Need-cast-result
-cast-result c = search needs
-
-mul-result : tie.Need-mul-result
-mul-result c = search needs
-
-add-result : tie.Need-add-result
-add-result c = search needs
+counted-requires : tie.Need-counted-requires
+counted-requires c κs = search needs
 
 enum-known-n-5 : tie.Need-enum-known-n-5
 enum-known-n-5 c = search needs
@@ -64,8 +57,9 @@ returns-3 c =
 
 returns-4 : tie.Need-returns-4
 returns-4 c =
-    let at-n4 = c .before .n4 in
-    rw (at-n4 .given .1) (omega arith)
+    let at-counted = c .counted in
+    let at-n4 = c .before .before .n4 in
+    at-counted .ensures ∙ rw (at-n4 .given .1)
 
 returns-5 : tie.Need-returns-5
 returns-5 c =
@@ -87,9 +81,7 @@ node-word-spec =
     enum-known-n-3
     made-requires-2
     enum-known-n-4
-    cast-result
-    mul-result
-    add-result
+    counted-requires
     enum-known-n-5
     made-requires-3
     enum-told

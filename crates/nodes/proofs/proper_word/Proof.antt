@@ -1,4 +1,5 @@
 -- Each arm of the match is a kind of the definition. Assumes nothing.
+use mathlib.Core.Path.{sym, _∙_}
 use borrow.Author.Tests.{eq-eqb, ne-eqb, lt-ltb, le-ltb}
 use Rattle.meaning.specs.Words.{proper, properBy}
 use borrow.Author.Needs.{needs}
@@ -11,91 +12,130 @@ returns c =
     let at-if1 = c .if1 in
     rw (le-ltb _ _ (at-if1 .taken))
 
-mul-result : tie.Need-mul-result
-mul-result c = search needs
+first-requires : tie.Need-first-requires
+first-requires c κs = search needs
 
-add-result : tie.Need-add-result
-add-result c = search needs
+second-requires : tie.Need-second-requires
+second-requires c κs = search needs
+
+kind-requires : tie.Need-kind-requires
+kind-requires c κs = search needs
+
+count-requires : tie.Need-count-requires
+count-requires c κs = search needs
 
 returns-2 : tie.Need-returns-2
 unfolding proper properBy
 returns-2 c =
     let at-match = c .match in
-    let at-if1 = c .before .if1 in
-    rw (lt-ltb _ _ (at-if1 .left), at-match .keys1)
+    let at-kind = c .before .kind in
+    let at-second = c .before .before .second in
+    let at-if1 = c .before .before .before .before .if1 in
+    let k = sym (at-kind .ensures) ∙ at-match .keys1 in
+    rw (lt-ltb _ _ (at-if1 .left), k, at-second .ensures)
 
 returns-3 : tie.Need-returns-3
 unfolding proper properBy
 returns-3 c =
     let at-match = c .match in
-    let at-if1 = c .before .if1 in
-    rw (lt-ltb _ _ (at-if1 .left), at-match .keys2)
+    let at-kind = c .before .kind in
+    let at-if1 = c .before .before .before .before .if1 in
+    let k = sym (at-kind .ensures) ∙ at-match .keys2 in
+    rw (lt-ltb _ _ (at-if1 .left), k)
 
 returns-4 : tie.Need-returns-4
 unfolding proper properBy
 returns-4 c =
     let at-match = c .match in
-    let at-if1 = c .before .if1 in
-    rw (lt-ltb _ _ (at-if1 .left), at-match .keys3)
+    let at-kind = c .before .kind in
+    let at-if1 = c .before .before .before .before .if1 in
+    let k = sym (at-kind .ensures) ∙ at-match .keys3 in
+    rw (lt-ltb _ _ (at-if1 .left), k)
 
 returns-5 : tie.Need-returns-5
 unfolding proper properBy
 returns-5 c =
     let at-match = c .match in
-    let at-if1 = c .before .if1 in
-    rw (lt-ltb _ _ (at-if1 .left), at-match .keys4)
+    let at-kind = c .before .kind in
+    let at-second = c .before .before .second in
+    let at-if1 = c .before .before .before .before .if1 in
+    let k = sym (at-kind .ensures) ∙ at-match .keys4 in
+    rw (lt-ltb _ _ (at-if1 .left), k, at-second .ensures)
 
 returns-6 : tie.Need-returns-6
 unfolding proper properBy
 returns-6 c =
     let at-match = c .match in
-    let at-if1 = c .before .if1 in
-    rw (lt-ltb _ _ (at-if1 .left), at-match .keys5)
+    let at-kind = c .before .kind in
+    let at-second = c .before .before .second in
+    let at-first = c .before .before .before .first in
+    let at-if1 = c .before .before .before .before .if1 in
+    let k = sym (at-kind .ensures) ∙ at-match .keys5 in
+    rw (lt-ltb _ _ (at-if1 .left), k, at-first .ensures, at-second .ensures)
 
 returns-7 : tie.Need-returns-7
 unfolding proper properBy
 returns-7 c =
     let at-if2 = c .if2 in
     let at-match = c .before .match in
-    let at-if1 = c .before .before .if1 in
-    rw (lt-ltb _ _ (at-if1 .left), at-match .keys6, eq-eqb _ 0 (at-if2 .taken))
+    let at-kind = c .before .before .kind in
+    let at-second = c .before .before .before .second in
+    let at-first = c .before .before .before .before .first in
+    let at-if1 = c .before .before .before .before .before .if1 in
+    let k = sym (at-kind .ensures) ∙ at-match .keys6 in
+    let z = sym (at-first .ensures) ∙ at-if2 .taken in
+    rw (lt-ltb _ _ (at-if1 .left), k, eq-eqb _ 0 z, at-second .ensures)
 
 returns-8 : tie.Need-returns-8
 unfolding proper properBy
 returns-8 c =
     let at-if2 = c .if2 in
     let at-match = c .before .match in
-    let at-if1 = c .before .before .if1 in
-    rw (lt-ltb _ _ (at-if1 .left), at-match .keys6, ne-eqb _ 0 (at-if2 .left))
+    let at-kind = c .before .before .kind in
+    let at-first = c .before .before .before .before .first in
+    let at-if1 = c .before .before .before .before .before .if1 in
+    let k = sym (at-kind .ensures) ∙ at-match .keys6 in
+    rw (lt-ltb _ _ (at-if1 .left), k, sym (at-first .ensures), ne-eqb _ 0 (at-if2 .left))
 
 returns-9 : tie.Need-returns-9
 unfolding proper properBy
 returns-9 c =
-    let at-match = c .match in
-    let at-if1 = c .before .if1 in
-    rw (lt-ltb _ _ (at-if1 .left), at-match .keys7)
+    let at-count = c .count in
+    let at-match = c .before .match in
+    let at-kind = c .before .before .kind in
+    let at-if1 = c .before .before .before .before .before .if1 in
+    let k = sym (at-kind .ensures) ∙ at-match .keys7 in
+    rw (lt-ltb _ _ (at-if1 .left), k, at-count .ensures)
 
 returns-10 : tie.Need-returns-10
 unfolding proper properBy
 returns-10 c =
     let at-match = c .match in
-    let at-if1 = c .before .if1 in
-    rw (lt-ltb _ _ (at-if1 .left), at-match .keys8)
+    let at-kind = c .before .kind in
+    let at-second = c .before .before .second in
+    let at-if1 = c .before .before .before .before .if1 in
+    let k = sym (at-kind .ensures) ∙ at-match .keys8 in
+    rw (lt-ltb _ _ (at-if1 .left), k, at-second .ensures)
 
 returns-11 : tie.Need-returns-11
 unfolding proper properBy
 returns-11 c =
     let at-match = c .match in
-    let at-if1 = c .before .if1 in
-    let r = at-match .rest in simp (lt-ltb _ _ (at-if1 .left), ne-eqb _ 0 (r .0 .0 .0 .0 .0 .0 .0 .1), ne-eqb _ 1 (r .0 .0 .0 .0 .0 .0 .1), ne-eqb _ 2 (r .0 .0 .0 .0 .0 .1), ne-eqb _ 3 (r .0 .0 .0 .0 .1), ne-eqb _ 4 (r .0 .0 .0 .1), ne-eqb _ 5 (r .0 .0 .1), ne-eqb _ 6 (r .0 .1), ne-eqb _ 7 (r .1))
+    let at-kind = c .before .kind in
+    let at-if1 = c .before .before .before .before .if1 in
+    let r = at-match .rest in
+    let k = sym (at-kind .ensures) in
+    simp (lt-ltb _ _ (at-if1 .left), k, ne-eqb _ 0 (r .0 .0 .0 .0 .0 .0 .0 .1), ne-eqb _ 1 (r .0 .0 .0 .0 .0 .0 .1), ne-eqb _ 2 (r .0 .0 .0 .0 .0 .1), ne-eqb _ 3 (r .0 .0 .0 .0 .1), ne-eqb _ 4 (r .0 .0 .0 .1), ne-eqb _ 5 (r .0 .0 .1), ne-eqb _ 6 (r .0 .1), ne-eqb _ 7 (r .1))
 
 pub proper-word-spec : {M : Type 1} → statement M
 proper-word-spec =
     tie.close
     (tie.spec
     returns
-    mul-result
-    add-result
+    first-requires
+    second-requires
+    kind-requires
+    count-requires
     returns-2
     returns-3
     returns-4

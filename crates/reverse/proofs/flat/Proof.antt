@@ -70,22 +70,30 @@ part-ns-start c =
 part-ns-end : tie.Need-part-ns-end Inv-loop μ-loop
 part-ns-end c = search needs
 
+kind-requires : tie.Need-kind-requires Inv-loop μ-loop
+kind-requires c κs = search needs
+
+first-requires : tie.Need-first-requires Inv-loop μ-loop
+first-requires c κs = search needs
+
 cast-n : tie.Need-cast-n Inv-loop μ-loop
 cast-n c = search needs
 
 returns-2 : tie.Need-returns-2 Inv-loop μ-loop
 returns-2 c =
     let at-if2 = c .if2 in
-    let at-if1 = c .before .if1 in
-    let at-w = c .before .before .before .before .w in
-    let at-first-word = c .before .before .before .before .before .before .first-word in
-    let at-loop = c .before .before .before .before .before .before .before .loop in
+    let at-first = c .before .first in
+    let at-if1 = c .before .before .if1 in
+    let at-kind = c .before .before .before .kind in
+    let at-w = c .before .before .before .before .before .before .w in
+    let at-first-word = c .before .before .before .before .before .before .before .before .first-word in
+    let at-loop = c .before .before .before .before .before .before .before .before .before .loop in
     let inv = at-loop .inv .1 in
     let L = at-loop .ns .now in
     let W = at-w .given .0 .0 in
     let e = sym (at-first-word .ensures) ∙ at-w .given .1 in
     let M = at-loop .m .now in
-    let kind = kind-jump W (at-if1 .taken) in
+    let kind = kind-jump W (sym (at-kind .ensures) ∙ at-if1 .taken) (at-first .ensures) in
     ap answer (sym (inv ∙ turns.stop-jump L W e long (reverse M) _ kind (omega (arith, at-if2 .taken, length-reverse M))))
 
 sub-keep : tie.Need-sub-keep Inv-loop μ-loop
@@ -93,15 +101,15 @@ sub-keep c = search needs
 
 slice-aggregate-m : tie.Need-slice-aggregate-m Inv-loop μ-loop
 slice-aggregate-m c =
-    let at-loop = c .before .before .before .before .before .before .before .before .loop in
+    let at-loop = c .before .before .before .before .before .before .before .before .before .before .loop in
     let M = at-loop .m .now in
     sym (length-take-le _ M (omega arith))
 
 loop-less : tie.Need-loop-less Inv-loop μ-loop
 loop-less c =
-    let at-w = c .before .before .before .before .before .w in
-    let at-first-word = c .before .before .before .before .before .before .before .first-word in
-    let at-loop = c .before .before .before .before .before .before .before .before .loop in
+    let at-w = c .before .before .before .before .before .before .before .w in
+    let at-first-word = c .before .before .before .before .before .before .before .before .before .first-word in
+    let at-loop = c .before .before .before .before .before .before .before .before .before .before .loop in
     let L = at-loop .ns .now in
     let W = at-w .given .0 .0 in
     let e = sym (at-first-word .ensures) ∙ at-w .given .1 in
@@ -110,17 +118,19 @@ loop-less c =
 loop-again : tie.Need-loop-again Inv-loop μ-loop
 loop-again c =
     let at-if2 = c .before .if2 in
-    let at-if1 = c .before .before .if1 in
-    let at-w = c .before .before .before .before .before .w in
-    let at-first-word = c .before .before .before .before .before .before .before .first-word in
-    let at-loop = c .before .before .before .before .before .before .before .before .loop in
+    let at-first = c .before .before .first in
+    let at-if1 = c .before .before .before .if1 in
+    let at-kind = c .before .before .before .before .kind in
+    let at-w = c .before .before .before .before .before .before .before .w in
+    let at-first-word = c .before .before .before .before .before .before .before .before .before .first-word in
+    let at-loop = c .before .before .before .before .before .before .before .before .before .before .loop in
     let L = at-loop .ns .now in
     let W = at-w .given .0 .0 in
     let e = sym (at-first-word .ensures) ∙ at-w .given .1 in
     let plain = at-loop .inv .0 in
     let inv = at-loop .inv .1 in
     let M = at-loop .m .now in
-    let kind = kind-jump W (at-if1 .taken) in
+    let kind = kind-jump W (sym (at-kind .ensures) ∙ at-if1 .taken) (at-first .ensures) in
     (turns.plain-tail L W e plain, inv ∙ turns.turn-jump L W e long (reverse M) _ _ (back-part _ M (at-if2 .left)) kind (omega (arith, at-if2 .left, length-reverse M)))
 
 last-byte-requires : tie.Need-last-byte-requires Inv-loop μ-loop
@@ -137,23 +147,24 @@ returns-3 c =
     let at-enum-told2 = c .enum-told2 in
     let at-last-byte = c .before .before .last-byte in
     let at-if1 = c .before .before .before .if1 in
-    let at-w = c .before .before .before .before .before .before .w in
-    let at-first-word = c .before .before .before .before .before .before .before .before .first-word in
-    let at-loop = c .before .before .before .before .before .before .before .before .before .loop in
+    let at-kind = c .before .before .before .before .kind in
+    let at-w = c .before .before .before .before .before .before .before .w in
+    let at-first-word = c .before .before .before .before .before .before .before .before .before .first-word in
+    let at-loop = c .before .before .before .before .before .before .before .before .before .before .loop in
     let inv = at-loop .inv .1 in
     let L = at-loop .ns .now in
     let W = at-w .given .0 .0 in
     let e = sym (at-first-word .ensures) ∙ at-w .given .1 in
     let M = at-loop .m .now in
     let plain = at-loop .inv .0 in
-    let test = turns.plain-test L W e plain (at-if1 .left) in
+    let test = turns.plain-test L W e plain (λ z. at-if1 .left (at-kind .ensures ∙ z)) in
     ap answer (sym (inv ∙ turns.stop-short L W e long (reverse M) (test .0) (test .1) (sym (at-last-byte .ensures) ∙ at-enum-told2 .given .1)))
 
 sub-keep-2 : tie.Need-sub-keep-2 Inv-loop μ-loop
 sub-keep-2 c =
     let at-b = c .before .b in
     let at-last-byte = c .before .before .before .last-byte in
-    let at-loop = c .before .before .before .before .before .before .before .before .before .before .loop in
+    let at-loop = c .before .before .before .before .before .before .before .before .before .before .before .loop in
     let M = at-loop .m .now in
     let B = at-b .given .0 .0 in
     let f = sym (at-last-byte .ensures) ∙ at-b .given .1 in
@@ -164,7 +175,7 @@ slice-aggregate-m-2 : tie.Need-slice-aggregate-m-2 Inv-loop μ-loop
 slice-aggregate-m-2 c =
     let at-b = c .before .before .b in
     let at-last-byte = c .before .before .before .before .last-byte in
-    let at-loop = c .before .before .before .before .before .before .before .before .before .before .before .loop in
+    let at-loop = c .before .before .before .before .before .before .before .before .before .before .before .before .loop in
     let M = at-loop .m .now in
     let B = at-b .given .0 .0 in
     let f = sym (at-last-byte .ensures) ∙ at-b .given .1 in
@@ -176,9 +187,9 @@ word-passes-requires c κs = search needs
 
 loop-less-2 : tie.Need-loop-less-2 Inv-loop μ-loop
 loop-less-2 c =
-    let at-w = c .before .before .before .before .before .before .before .before .before .before .w in
-    let at-first-word = c .before .before .before .before .before .before .before .before .before .before .before .before .first-word in
-    let at-loop = c .before .before .before .before .before .before .before .before .before .before .before .before .before .loop in
+    let at-w = c .before .before .before .before .before .before .before .before .before .before .before .w in
+    let at-first-word = c .before .before .before .before .before .before .before .before .before .before .before .before .before .first-word in
+    let at-loop = c .before .before .before .before .before .before .before .before .before .before .before .before .before .before .loop in
     let L = at-loop .ns .now in
     let W = at-w .given .0 .0 in
     let e = sym (at-first-word .ensures) ∙ at-w .given .1 in
@@ -191,9 +202,10 @@ loop-again-2 c =
     let at-b = c .before .before .before .before .b in
     let at-last-byte = c .before .before .before .before .before .before .last-byte in
     let at-if1 = c .before .before .before .before .before .before .before .if1 in
-    let at-w = c .before .before .before .before .before .before .before .before .before .before .w in
-    let at-first-word = c .before .before .before .before .before .before .before .before .before .before .before .before .first-word in
-    let at-loop = c .before .before .before .before .before .before .before .before .before .before .before .before .before .loop in
+    let at-kind = c .before .before .before .before .before .before .before .before .kind in
+    let at-w = c .before .before .before .before .before .before .before .before .before .before .before .w in
+    let at-first-word = c .before .before .before .before .before .before .before .before .before .before .before .before .before .first-word in
+    let at-loop = c .before .before .before .before .before .before .before .before .before .before .before .before .before .before .loop in
     let L = at-loop .ns .now in
     let W = at-w .given .0 .0 in
     let e = sym (at-first-word .ensures) ∙ at-w .given .1 in
@@ -203,7 +215,7 @@ loop-again-2 c =
     let B = at-b .given .0 .0 in
     let f = sym (at-last-byte .ensures) ∙ at-b .given .1 in
     let pos = last-pos M B f in
-    let test = turns.plain-test L W e plain (at-if1 .left) in
+    let test = turns.plain-test L W e plain (λ z. at-if1 .left (at-kind .ensures ∙ z)) in
     (turns.plain-tail L W e plain, inv ∙ turns.turn-one L W e long (reverse M) _ (back-part 1 M pos) (test .0) B (test .1) f (passes-as W B (test .0) (test .1) (sym (at-if3 .taken) ∙ at-word-passes .ensures)))
 
 returns-4 : tie.Need-returns-4 Inv-loop μ-loop
@@ -213,16 +225,17 @@ returns-4 c =
     let at-b = c .before .before .before .before .b in
     let at-last-byte = c .before .before .before .before .before .before .last-byte in
     let at-if1 = c .before .before .before .before .before .before .before .if1 in
-    let at-w = c .before .before .before .before .before .before .before .before .before .before .w in
-    let at-first-word = c .before .before .before .before .before .before .before .before .before .before .before .before .first-word in
-    let at-loop = c .before .before .before .before .before .before .before .before .before .before .before .before .before .loop in
+    let at-kind = c .before .before .before .before .before .before .before .before .kind in
+    let at-w = c .before .before .before .before .before .before .before .before .before .before .before .w in
+    let at-first-word = c .before .before .before .before .before .before .before .before .before .before .before .before .before .first-word in
+    let at-loop = c .before .before .before .before .before .before .before .before .before .before .before .before .before .before .loop in
     let inv = at-loop .inv .1 in
     let L = at-loop .ns .now in
     let W = at-w .given .0 .0 in
     let e = sym (at-first-word .ensures) ∙ at-w .given .1 in
     let M = at-loop .m .now in
     let plain = at-loop .inv .0 in
-    let test = turns.plain-test L W e plain (at-if1 .left) in
+    let test = turns.plain-test L W e plain (λ z. at-if1 .left (at-kind .ensures ∙ z)) in
     let B = at-b .given .0 .0 in
     let f = sym (at-last-byte .ensures) ∙ at-b .given .1 in
     ap answer (sym (inv ∙ turns.stop-one L W e long (reverse M) (test .0) B (test .1) f (passes-as W B (test .0) (test .1) (sym (at-if3 .left) ∙ at-word-passes .ensures))))
@@ -241,6 +254,8 @@ flat-spec =
     sub-ns
     part-ns-start
     part-ns-end
+    kind-requires
+    first-requires
     cast-n
     returns-2
     sub-keep

@@ -1,4 +1,5 @@
 -- `steps::word_passes` meets its contract. Assumes nothing.
+use mathlib.Core.Path.{sym, _∙_}
 use borrow.Author.Needs.{needs}
 use Rattle.meaning.specs.Programs.{pass}
 use Rattle.meaning.specs.Words.{shape, shapeBy}
@@ -6,43 +7,57 @@ use Rattle.steps.proofs.Tests.{no-pass}
 use Rattle.steps.proofs.word_passes.Statement.{statement}
 use Rattle.steps.proofs.word_passes.Tie as tie
 
-cast-a : tie.Need-cast-a
-cast-a c = search needs
+first-requires : tie.Need-first-requires
+first-requires c κs = search needs
 
-cast-b : tie.Need-cast-b
-cast-b c = search needs
+second-requires : tie.Need-second-requires
+second-requires c κs = search needs
+
+kind-requires : tie.Need-kind-requires
+kind-requires c κs = search needs
 
 returns : tie.Need-returns
 unfolding shape shapeBy pass
 returns c =
     let at-if1 = c .if1 in
-    rw (at-if1 .taken)
+    let at-kind = c .before .kind in
+    let at-first = c .before .before .before .first in
+    rw (sym (at-kind .ensures) ∙ at-if1 .taken, at-first .ensures)
 
 returns-2 : tie.Need-returns-2
 unfolding shape shapeBy pass
 returns-2 c =
     let at-match = c .match in
-    rw (at-match .keys1)
+    let at-kind = c .before .before .kind in
+    let at-second = c .before .before .before .second in
+    let at-first = c .before .before .before .before .first in
+    rw (sym (at-kind .ensures) ∙ at-match .keys1, at-first .ensures, at-second .ensures)
 
 returns-3 : tie.Need-returns-3
 unfolding shape shapeBy pass
 returns-3 c =
     let at-match = c .match in
-    rw (at-match .keys2)
+    let at-kind = c .before .before .kind in
+    let at-second = c .before .before .before .second in
+    let at-first = c .before .before .before .before .first in
+    rw (sym (at-kind .ensures) ∙ at-match .keys2, at-first .ensures, at-second .ensures)
 
 returns-4 : tie.Need-returns-4
 unfolding shape shapeBy pass
 returns-4 c =
     let at-match = c .match in
-    rw (at-match .keys3)
+    let at-kind = c .before .before .kind in
+    rw (sym (at-kind .ensures) ∙ at-match .keys3)
 
 returns-5 : tie.Need-returns-5
 unfolding shape
 returns-5 c =
     let at-match = c .match in
     let at-if1 = c .before .if1 in
-    let r = at-match .rest in no-pass _ _ _ _ (at-if1 .left) (r .0 .0 .1) (r .0 .1) (r .1)
+    let at-kind = c .before .before .kind in
+    let r = at-match .rest in
+    rw (sym (at-kind .ensures)) (no-pass _ _ _ _ (at-if1 .left) (r .0 .0 .1) (r .0 .1) (r .1))
 
 pub word-passes-spec : {M : Type 1} → statement M
 word-passes-spec =
-    tie.close (tie.spec cast-a cast-b returns returns-2 returns-3 returns-4 returns-5)
+    tie.close (tie.spec first-requires second-requires kind-requires returns returns-2 returns-3 returns-4 returns-5)
