@@ -2,8 +2,8 @@
 // A node word and the node that it says: the one taken apart into the other, and made from it. Nowhere else is a word taken apart or made by
 // arithmetic, so what a word's layout is stands here: the types, the sizes, and the small functions for kind, fields and count.
 ghost use mathlib.Core.Path.{_≡_};
-ghost use Prim.Native.Nat.{_≤_, _<_};
-ghost use Rattle.meaning.specs.Words.{kindOf, firstOf, secondOf, countOf, word, countWord, shape, proper};
+ghost use Prim.Native.Nat.{_%_, _≤_, _<_};
+ghost use Rattle.meaning.specs.Words.{fieldSize, kindOf, firstOf, secondOf, countOf, word, countWord, shape, proper};
 ghost use Rattle.nodes.specs.Nodes.{shapeOf, testWord, wordOf, firstWord};
 
 // A word of a program; a field of it; and an Alternation's count, which takes both fields.
@@ -101,6 +101,13 @@ pub fn count(w: NodeWord) -> Count
     (w / KINDS % COUNTS) as Count
 }
 
+// What of a number fits a field.
+pub fn field(n: u32) -> Field
+    ensures { λ r. ⌜ r ≡ n % fieldSize ⌝ }
+{
+    (n % FIELDS) as Field
+}
+
 // The node that a word says.
 pub fn node_of(w: NodeWord) -> Node
     ensures { λ r. ⌜ shapeOf r ≡ shape w ⌝ }
@@ -160,7 +167,7 @@ pub fn node_word(n: Node) -> NodeWord
     }
 }
 
-// An AltBranch's word that counts past a field too: such a branch is refused later.
+// An AltBranch's word. It counts past what a sound program has: a branch that long is refused later, by 14.
 pub fn branch_word(n: usize) -> NodeWord
     requires { ⌜ n ≤ 4096 ⌝ }
     ensures { λ r. ⌜ r ≡ word 7 n 0 ⌝ }
