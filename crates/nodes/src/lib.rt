@@ -3,6 +3,8 @@
 // arithmetic, so what a word's layout is stands here: the types, the sizes, and the small functions for kind, fields and count.
 ghost use mathlib.Core.Path.{_≡_};
 ghost use Prim.Native.Nat.{_%_, _≤_, _<_};
+ghost use lib.ListN.{length};
+ghost use Rattle.base.specs.Pools.{zeroed};
 ghost use Rattle.meaning.specs.Words.{fieldSize, kindOf, firstOf, secondOf, countOf, word, countWord, shape, proper};
 ghost use Rattle.nodes.specs.Nodes.{shapeOf, testWord, wordOf, firstWord};
 
@@ -194,5 +196,17 @@ pub fn proper_word(w: NodeWord) -> bool
         ALTERNATION => 1 <= count(w),
         ALT_BRANCH => b == 0,
         _ => false,
+    }
+}
+
+// Zeros the words of a program's pool from `from` up to `to`, and leaves the others.
+pub fn zero_nodes(pool: &mut [NodeWord], from: usize, to: usize)
+    requires { ⌜ (from ≤ to) × (to ≤ length (now pool)) ⌝ }
+    ensures { λ _. ⌜ now (pool .exit) ≡ zeroed from to (now (pool .entry)) ⌝ }
+{
+    let mut i = from;
+    while i < to {
+        pool[i] = 0;
+        i += 1;
     }
 }
