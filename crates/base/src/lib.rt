@@ -1,4 +1,4 @@
-// What every door shares: the numbered refusals, and the zeroing of a pool.
+// What every door shares: the numbered refusals; and the zeroing of a pool of tokens (programs' pools are zeroed by crate nodes).
 ghost use mathlib.Core.Path.{_≡_};
 ghost use Prim.Native.Nat.{_-_, _≤_};
 ghost use lib.ListN.{length};
@@ -57,7 +57,7 @@ impl Refusal {
     }
 }
 
-// Zeros the words from `from` up to `to`, and leaves the others.
+// Zeros the words of a tokens' pool from `from` up to `to`, and leaves the others.
 pub fn zero_words(pool: &mut [u32], from: usize, to: usize)
     requires { ⌜ (from ≤ to) × (to ≤ length (now pool)) ⌝ }
     ensures { λ _. ⌜ now (pool .exit) ≡ zeroed from to (now (pool .entry)) ⌝ }

@@ -14,8 +14,10 @@ ghost use Rattle.base.specs.Pools.{filled, cleared};
 ghost use Rattle.compiler.specs.Made.{Makes, limited};
 ghost use Rattle.compiler.specs.Walks.{toOf, toldBy, plainEntries, simpleAt, Entered, Simply};
 use base::Refusal;
-use base::zero_words;
+use emit::JUMP_LIMIT;
 use emit::add_tokens;
+use nodes::NodeWord;
+use nodes::zero_nodes;
 
 // How many words each program has, or why there is none.
 pub enum Made {
@@ -30,7 +32,7 @@ fn jump_near(b: u32, c: u32) -> bool
     if c == 0 {
         return false;
     }
-    b <= 255
+    b <= JUMP_LIMIT
 }
 
 // Whether an entry may stand inside a branch.
@@ -120,7 +122,7 @@ pub fn find_starts(ws: &[u32], starts: &mut [u16]) -> usize
 }
 
 // The first n of the words to the front of the pool.
-fn copy_words(pool: &mut [u32], words: &[u32], n: usize)
+fn copy_words(pool: &mut [NodeWord], words: &[NodeWord], n: usize)
     requires { ⌜ (n ≤ length (now words)) × (n ≤ length (now pool)) ⌝ }
     ensures { λ _. ⌜ now (pool .exit) ≡ take n (now (words .entry)) ++ drop n (now (pool .entry)) ⌝ }
 {
@@ -132,32 +134,32 @@ fn copy_words(pool: &mut [u32], words: &[u32], n: usize)
 }
 
 // A program's words in its pool, and zeros in the rest of the 512.
-fn fill(pool: &mut [u32], words: &[u32], n: usize)
+fn fill(pool: &mut [NodeWord], words: &[NodeWord], n: usize)
     requires { ⌜ (n ≤ length (now words)) × (n ≤ 512) × (512 ≤ length (now pool)) ⌝ }
     ensures { λ _. ⌜ now (pool .exit) ≡ filled 512 (take n (now (words .entry))) (now (pool .entry)) ⌝ }
 {
     copy_words(pool, words, n);
-    zero_words(pool, n, 512);
+    zero_nodes(pool, n, 512);
 }
 
 // Zeros in the first 512 words of both pools.
-pub fn clear(forward: &mut [u32], reverse: &mut [u32])
+pub fn clear(forward: &mut [NodeWord], reverse: &mut [NodeWord])
     requires { ⌜ (512 ≤ length (now forward)) × (512 ≤ length (now reverse)) ⌝ }
     ensures { λ _. ⌜ (now (forward .exit) ≡ cleared 512 (now (forward .entry))) × (now (reverse .exit) ≡ cleared 512 (now (reverse .entry))) ⌝ }
 {
-    zero_words(forward, 0, 512);
-    zero_words(reverse, 0, 512);
+    zero_nodes(forward, 0, 512);
+    zero_nodes(reverse, 0, 512);
 }
 
 // 14, then 13, or both programs: n words of the one, m of the other, and whether a branch is above its limit.
 fn finish(
-    first: &[u32],
+    first: &[NodeWord],
     n: usize,
-    second: &[u32],
+    second: &[NodeWord],
     m: usize,
     long: bool,
-    forward: &mut [u32],
-    reverse: &mut [u32],
+    forward: &mut [NodeWord],
+    reverse: &mut [NodeWord],
 ) -> Made
     requires { ⌜ (n ≤ length (now first)) × (m ≤ length (now second)) × (512 ≤ length (now forward)) × (512 ≤ length (now reverse)) ⌝ }
     ensures { λ r. ⌜ Makes (limited (not long) (leb n 512 && leb m 512) (take n (now (first .entry))) (take m (now (second .entry)))) r
@@ -190,15 +192,15 @@ fn either(a: bool, b: bool) -> bool
 }
 
 // Both programs of simple tokens. Their words are made on the stack, where all that entries can give fit, 1,024 words each.
-fn compile_simple(tokens: &[u32], forward: &mut [u32], reverse: &mut [u32]) -> Made
+fn compile_simple(tokens: &[u32], forward: &mut [NodeWord], reverse: &mut [NodeWord]) -> Made
     requires { ⌜ Entered (now tokens) × Simply (now tokens) × (512 ≤ length (now forward)) × (512 ≤ length (now reverse)) ⌝ }
     ensures { λ r. ⌜ ((ts : Tokens) → now (tokens .entry) ≡ entries ts → Spelled ts → Makes (compile ts) r
         (now (forward .entry)) (now (forward .exit)) (now (reverse .entry)) (now (reverse .exit))) ⌝ }
 {
     let mut starts = [0u16; 1024];
     let count = find_starts(tokens, &mut starts);
-    let mut first = [0u32; 1024];
-    let mut second = [0u32; 1024];
+    let mut first: [NodeWord; 1024] = [0; 1024];
+    let mut second: [NodeWord; 1024] = [0; 1024];
     let f = add_tokens(tokens, &starts[0..count], false, &mut first);
     let r = add_tokens(tokens, &starts[0..count], true, &mut second);
     let long = either(f.long, r.long);
@@ -206,7 +208,7 @@ fn compile_simple(tokens: &[u32], forward: &mut [u32], reverse: &mut [u32]) -> M
 }
 
 // The programs of tokens, forwards and from every list read backwards; 12 first, then 14, then 13.
-pub fn compile_tokens(tokens: &[u32], forward: &mut [u32], reverse: &mut [u32]) -> Made
+pub fn compile_tokens(tokens: &[u32], forward: &mut [NodeWord], reverse: &mut [NodeWord]) -> Made
     requires { ⌜ Entered (now tokens) × (512 ≤ length (now forward)) × (512 ≤ length (now reverse)) ⌝ }
     ensures { λ r. ⌜ ((ts : Tokens) → now (tokens .entry) ≡ entries ts → Spelled ts → Makes (compile ts) r
         (now (forward .entry)) (now (forward .exit)) (now (reverse .entry)) (now (reverse .exit))) ⌝ }

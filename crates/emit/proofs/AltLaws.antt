@@ -2,7 +2,7 @@
 use mathlib.Core.Path.{_≡_, refl, sym, ap, ap₂, _∙_, subst}
 use mathlib.Core.Bool.{Bool, true, false, cond, not, _||_, or-false}
 use mathlib.Core.List.{List, [], _∷_, _++_, append-assoc}
-use Prim.Native.Nat.{ℕ, zero, suc, _+_, _-_, _*_, _/_, _%_, _≤_, _<_}
+use Prim.Native.Nat.{ℕ, zero, suc, _+_, _-_, _*_, _≤_, _<_}
 use native.Mathlib.Omega.{arith}
 use lib.Dec.{eqb}
 use lib.ListN.{length, getD, take, drop, set, length-append, length-drop, take-append-drop}
@@ -11,7 +11,7 @@ use borrow.Author.Tests.{eq-eqb, ne-eqb}
 use borrow.Rule.Slice.PartMut.{putMid}
 use Rattle.base.proofs.LentLaws.{lent-rest}
 use Rattle.meaning.specs.Programs.{Item, Prog, Branches, one, jump, range, alt, end, _▹_, _⧺_}
-use Rattle.meaning.specs.Words.{fieldSize, word}
+use Rattle.meaning.specs.Words.{countWord}
 use Rattle.compiling.specs.ProgramWords.{opening, wordsFor, wordsOf, wordsIn}
 use Rattle.compiling.specs.Compiling.{jumpOf, add}
 use Rattle.compiling.specs.Compile.{shortIn, shortOf}
@@ -94,7 +94,7 @@ module _ (ws : List ℕ) (at : ℕ) where
     alt-few b = subst (λ (x : Branches). suc (length (wordsIn x)) ≤ getD ws (at + 2) 0 + 1) (handed-alt b) (omega (arith, handed-few b))
 
     -- the alternation's word before its branches
-    pub alternation : (b : Bool) (out ys : List ℕ) (count w : ℕ) (long : Bool) → 1 ≤ length out → count ≡ length (wordsIn (branchesAt b (getD ws (at + 1) 0) handed)) → long ≡ not (shortIn (branchesAt b (getD ws (at + 1) 0) handed)) → ys ≡ wordsIn (branchesAt b (getD ws (at + 1) 0) handed) ++ drop count (take (length out - 1) (drop 1 out)) → w ≡ word 6 (count % fieldSize) (count / fieldSize) → (count + 1 ≡ length (wordsFor (alt (altAt b ws at)))) × (long ≡ not (shortIn (altAt b ws at))) × (set (putMid 1 (length out - 1) out ys) 0 w ≡ wordsFor (alt (altAt b ws at)) ++ drop (count + 1) out)
+    pub alternation : (b : Bool) (out ys : List ℕ) (count w : ℕ) (long : Bool) → 1 ≤ length out → count ≡ length (wordsIn (branchesAt b (getD ws (at + 1) 0) handed)) → long ≡ not (shortIn (branchesAt b (getD ws (at + 1) 0) handed)) → ys ≡ wordsIn (branchesAt b (getD ws (at + 1) 0) handed) ++ drop count (take (length out - 1) (drop 1 out)) → w ≡ countWord count → (count + 1 ≡ length (wordsFor (alt (altAt b ws at)))) × (long ≡ not (shortIn (altAt b ws at))) × (set (putMid 1 (length out - 1) out ys) 0 w ≡ wordsFor (alt (altAt b ws at)) ++ drop (count + 1) out)
     unfolding wordsFor opening
     alternation b out ys count w long r ec el ey ew =
         let bs = branchesAt b (getD ws (at + 1) 0) handed in

@@ -11,14 +11,14 @@ use lib.ListN.{length, getD, drop, set, length-append, length-drop}
 use lib.Seq.{set-at, drop-cons}
 use borrow.Author.Tests.{leb-true, leb-false, le-leb, lt-leb}
 use Rattle.meaning.specs.Programs.{byte, mask, negatedMask, Item, Prog, one, jump, range, alt, end, _▹_, _⧺_}
-use Rattle.meaning.specs.Words.{word}
+use Rattle.meaning.specs.Words.{fieldSize, word}
 use Rattle.compiling.specs.ProgramWords.{wordFor, wordsFor, wordsOf, nodes}
 use Rattle.compiling.specs.Compiling.{jumpLimit, jumpOf, pairBy, add}
 use Rattle.emit.specs.declared.Piece.{Piece}
 use Rattle.emit.specs.declared.Piece.the-variants.{Word, Gap}
 use Rattle.emit.specs.declared.Last.{Last}
 use Rattle.emit.specs.declared.Last.the-variants.{Grows, Fixed}
-use Rattle.emit.specs.Items.{maskItem, notMaskItem, jumpItem, entryItem, pieceOf, growing, lastOf, Behind, putCount, putLast, putOut}
+use Rattle.emit.specs.Items.{byteIn, maskItem, notMaskItem, jumpItem, entryItem, pieceOf, growing, lastOf, Behind, putCount, putLast, putOut}
 
 -- the words of p stand at the front of what was o, there are n of them, and the last node is as told
 pub record Holds (p : Prog) (o out : List ℕ) (n : ℕ) (last : Last) : Type 0 where
@@ -35,9 +35,9 @@ Single (alt bs) = ⊥
 
 pub entry-single : (k a b : ℕ) → Single (entryItem k a b)
 unfolding entryItem maskItem notMaskItem jumpItem
-entry-single k a b = go (eqb k 0) (eqb k 1) (eqb k 2) (eqb k 3) (eqb b 0) (eqb b 1) (ltb (a % 256) (b % 256))
+entry-single k a b = go (eqb k 0) (eqb k 1) (eqb k 2) (eqb k 3) (eqb b 0) (eqb b 1) (ltb (a % fieldSize) (b % fieldSize))
   where
-    go : (x y z u v s t : Bool) → Single (cond x (one (byte (a % 256))) (cond y (one (negatedMask (a % 256) 0xFF)) (cond z (cond v (one (mask (a % 16) 0x0F)) (cond s (one (mask (16 * (a % 16)) 0xF0)) (jump 1))) (cond u (cond v (one (negatedMask (a % 16) 0x0F)) (cond s (one (negatedMask (16 * (a % 16)) 0xF0)) (one (negatedMask 0 0)))) (cond t (range (a % 256) (b % 256)) (jump (a % 256)))))))
+    go : (x y z u v s t : Bool) → Single (cond x (one (byte (byteIn a))) (cond y (one (negatedMask (byteIn a) 0xFF)) (cond z (cond v (one (mask (a % 16) 0x0F)) (cond s (one (mask (16 * (a % 16)) 0xF0)) (jump 1))) (cond u (cond v (one (negatedMask (a % 16) 0x0F)) (cond s (one (negatedMask (16 * (a % 16)) 0xF0)) (one (negatedMask 0 0)))) (cond t (range (a % fieldSize) (b % fieldSize)) (jump (a % fieldSize)))))))
     go true y z u v s t = tt
     go false true z u v s t = tt
     go false false true u true s t = tt

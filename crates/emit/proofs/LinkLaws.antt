@@ -14,6 +14,7 @@ use Rattle.meaning.specs.Tokens.{Mask, left, right, all, Token, Tokens, Lists, 
 use Rattle.meaning.specs.Values.{SpelledOne, Spelled, SpelledMore}
 use Rattle.meaning.specs.Entries.{maskNumber, entriesIn, tokenCount, listCount, entriesOf, entries, listEntries}
 use Rattle.meaning.specs.Programs.{byte, mask, negatedMask, Item, one, alt, end, or as branch}
+use Rattle.meaning.specs.Words.{fieldSize}
 use Rattle.meaning.proofs.TokenLaws.{fours-in}
 use Rattle.meaning.proofs.SoundLaws.{and-left, and-right, false-true}
 use Rattle.compiling.specs.ProgramWords.{nodes}
@@ -56,12 +57,12 @@ not-mask-from v left h = ap (λ (x : ℕ). one (negatedMask x 0x0F)) (mod-eq-of-
 not-mask-from v right h = ap (λ (x : ℕ). one (negatedMask (16 * x) 0xF0)) (mod-eq-of-lt h)
 not-mask-from v all h = refl
 
-jump-from : (from to : ℕ) → from ≤ to → leb to jumpLimit ≡ true → jumpItem (from % 256) (to % 256) ≡ itemOf (Jump from (some to))
+jump-from : (from to : ℕ) → from ≤ to → leb to jumpLimit ≡ true → jumpItem (from % fieldSize) (to % fieldSize) ≡ itemOf (Jump from (some to))
 unfolding jumpItem itemOf
 jump-from from to l h =
     let g : to ≤ jumpLimit = leb-true to jumpLimit h in
-    let a : from < 256 = omega arith in
-    let b : to < 256 = omega arith in
+    let a : from < fieldSize = omega arith in
+    let b : to < fieldSize = omega arith in
     rw (mod-eq-of-lt a, mod-eq-of-lt b)
 
 -- a token that is not alternatives

@@ -6,7 +6,7 @@ use Prim.Native.Nat.{ℕ, _+_, _*_, _-_, _%_, _≤_}
 use lib.Dec.{eqb, leb, ltb}
 use lib.ListN.{set}
 use Rattle.meaning.specs.Programs.{byte, mask, negatedMask, Item, Prog, one, jump, range, alt, end, _▹_}
-use Rattle.meaning.specs.Words.{word}
+use Rattle.meaning.specs.Words.{fieldSize, word}
 use Rattle.compiling.specs.ProgramWords.{wordFor}
 use Rattle.compiling.specs.Compiling.{jumpLimit, jumpOf}
 use Rattle.emit.specs.declared.Piece.{Piece}
@@ -24,12 +24,15 @@ notMaskItem a b = cond (eqb b 0) (one (negatedMask (a % 16) 0x0F)) (cond (eqb b 
 unfoldable pub jumpItem : ℕ → ℕ → Item
 jumpItem a b = cond (ltb a b) (range a b) (jump a)
 
+abbrev pub byteIn : ℕ → ℕ
+byteIn v = v % 256
+
 unfoldable pub entryItem : ℕ → ℕ → ℕ → Item
 entryItem k a b =
-    cond (eqb k 0) (one (byte (a % 256)))
-    (cond (eqb k 1) (one (negatedMask (a % 256) 0xFF))
+    cond (eqb k 0) (one (byte (byteIn a)))
+    (cond (eqb k 1) (one (negatedMask (byteIn a) 0xFF))
     (cond (eqb k 2) (maskItem a b)
-    (cond (eqb k 3) (notMaskItem a b) (jumpItem (a % 256) (b % 256)))))
+    (cond (eqb k 3) (notMaskItem a b) (jumpItem (a % fieldSize) (b % fieldSize)))))
 
 -- what an item of one word adds; an alternation is none
 unfoldable pub pieceOf : Item → Piece

@@ -11,23 +11,31 @@ ghost use Rattle.meaning.specs.Words.{word};
 ghost use Rattle.compiling.specs.ProgramWords.{wordsFor, wordsOf, wordsIn, nodes};
 ghost use Rattle.emit.specs.declared.Last.the-variants.{Grows};
 ghost use Rattle.emit.specs.declared.Piece.the-variants.{Gap};
-ghost use Rattle.emit.specs.Items.{entryItem, maskItem, notMaskItem, jumpItem, pieceOf, Behind, putCount, putLast, putOut, placeOf};
+ghost use Rattle.emit.specs.Items.{byteIn, entryItem, maskItem, notMaskItem, jumpItem, pieceOf, Behind, putCount, putLast, putOut, placeOf};
 ghost use Rattle.compiling.specs.Compiling.{branchLimit};
 ghost use Rattle.compiling.specs.Compile.{shortIn, shortOf, short};
 ghost use Rattle.emit.specs.Lists.{listProgram, branchesAt, Listed, altAt, tokenAt, itemCount, itemLast, itemOut, sizeAt, Stands, tokensProgram, Outlined};
 use nodes::ByteTest;
+use nodes::Count;
+use nodes::Field;
 use nodes::Node;
+use nodes::NodeWord;
+use nodes::branch_word;
+use nodes::field;
 use nodes::node_word;
+
+// The longest jump that a program holds.
+pub const JUMP_LIMIT: u32 = 255;
 
 // What a token of one entry adds: a node's word, or a jump, which may grow the last node.
 pub enum Piece {
-    Word(u32),
-    Gap(u8),
+    Word(NodeWord),
+    Gap(Field),
 }
 
 // The last node of a list: a jump, and its length, or anything else.
 pub enum Last {
-    Grows(u8),
+    Grows(Field),
     Fixed,
 }
 
@@ -64,7 +72,7 @@ fn not_mask_piece(a: u32, b: u32) -> Piece
     Piece::Word(node_word(Node::One(ByteTest::NegatedMask(0, 0))))
 }
 
-fn jump_piece(a: u8, b: u8) -> Piece
+fn jump_piece(a: Field, b: Field) -> Piece
     ensures { λ r. ⌜ r ≡ pieceOf (jumpItem a b) ⌝ }
 {
     if a < b {
@@ -73,23 +81,29 @@ fn jump_piece(a: u8, b: u8) -> Piece
     Piece::Gap(a)
 }
 
-// What a token of one entry adds, by its kind and its first two values. Bytes that a text can spell and jumps that are simple
-// are below 256.
+// The byte of an entry. Bytes that a text can spell are below 256: the remainder spares a requirement, and so do the fields of jumps below.
+fn byte_in(value: u32) -> u8
+    ensures { λ r. ⌜ r ≡ byteIn value ⌝ }
+{
+    (value % 256) as u8
+}
+
+// What a token of one entry adds, by its kind and its first two values.
 pub fn entry_piece(kind: u32, a: u32, b: u32) -> Piece
     ensures { λ r. ⌜ r ≡ pieceOf (entryItem kind a b) ⌝ }
 {
-    let v = (a % 256) as u8;
+    let v = byte_in(a);
     match kind {
         0 => Piece::Word(node_word(Node::One(ByteTest::Byte(v)))),
         1 => Piece::Word(node_word(Node::One(ByteTest::NegatedMask(v, 0xFF)))),
         2 => mask_piece(a, b),
         3 => not_mask_piece(a, b),
-        _ => jump_piece(v, (b % 256) as u8),
+        _ => jump_piece(field(a), field(b)),
     }
 }
 
 // A jump at the end.
-fn append_jump(out: &mut [u32], n: usize, len: u8) -> Tail
+fn append_jump(out: &mut [NodeWord], n: usize, len: Field) -> Tail
     requires { ⌜ n < length (now out) ⌝ }
     ensures { λ r. ⌜ (r .count ≡ n + 1) × (r .last ≡ Grows len) × (now (out .exit) ≡ set (now (out .entry)) n (word 3 len 0)) ⌝ }
 {
@@ -100,8 +114,8 @@ fn append_jump(out: &mut [u32], n: usize, len: u8) -> Tail
     }
 }
 
-// Adding a jump enlarges the last node if that is a jump and the sum is at most 255, else appends.
-fn add_jump(out: &mut [u32], n: usize, last: Last, len: u8) -> Tail
+// Adding a jump enlarges the last node if that is a jump and the sum is within the limit, else appends.
+fn add_jump(out: &mut [NodeWord], n: usize, last: Last, len: Field) -> Tail
     requires { ⌜ (n < length (now out)) × Behind n last ⌝ }
     ensures { λ r. ⌜ (r .count ≡ putCount n last (Gap len)) × (r .last ≡ putLast last (Gap len))
         × (now (out .exit) ≡ putOut (now (out .entry)) n last (Gap len)) ⌝ }
@@ -110,19 +124,19 @@ fn add_jump(out: &mut [u32], n: usize, last: Last, len: u8) -> Tail
         return append_jump(out, n, len);
     };
     let sum = old as u32 + len as u32;
-    if 255 < sum {
+    if JUMP_LIMIT < sum {
         return append_jump(out, n, len);
     }
     let at = n - 1;
-    out[at] = node_word(Node::Jump(sum as u8));
+    out[at] = node_word(Node::Jump(sum as Field));
     Tail {
         count: n,
-        last: Last::Grows(sum as u8),
+        last: Last::Grows(sum as Field),
     }
 }
 
 // One piece more after n words.
-fn add_piece(out: &mut [u32], n: usize, last: Last, piece: Piece) -> Tail
+fn add_piece(out: &mut [NodeWord], n: usize, last: Last, piece: Piece) -> Tail
     requires { ⌜ (n < length (now out)) × Behind n last ⌝ }
     ensures { λ r. ⌜ (r .count ≡ putCount n last piece) × (r .last ≡ putLast last piece)
         × (now (out .exit) ≡ putOut (now (out .entry)) n last piece) ⌝ }
@@ -151,7 +165,7 @@ fn place(backwards: bool, n: usize, k: usize) -> usize
 }
 
 // A list of tokens of one entry each, as a branch is: its words at the front of `out`, and their number.
-pub fn add_list(entries: &[u32], backwards: bool, out: &mut [u32]) -> usize
+pub fn add_list(entries: &[u32], backwards: bool, out: &mut [NodeWord]) -> usize
     requires { ⌜ length (now entries) ≤ 4 * length (now out) ⌝ }
     ensures { λ r. ⌜ (r ≡ nodes (listProgram backwards (now (entries .entry))))
         × (now (out .exit) ≡ wordsOf (listProgram backwards (now (entries .entry))) ++ drop r (now (out .entry))) ⌝ }
@@ -177,14 +191,6 @@ pub struct Branched {
     pub long: bool,
 }
 
-// An AltBranch's word. It counts past 255 too: such a branch is refused later, by 14.
-fn branch_word(n: usize) -> u32
-    requires { ⌜ n ≤ 4096 ⌝ }
-    ensures { λ r. ⌜ r ≡ word 7 n 0 ⌝ }
-{
-    7 + 256 * (n as u32)
-}
-
 fn longer(long: bool, n: usize) -> bool
     ensures { λ r. ⌜ r ≡ (long || not (leb n branchLimit)) ⌝ }
 {
@@ -195,7 +201,7 @@ fn longer(long: bool, n: usize) -> bool
 }
 
 // Lists behind their marks: each is a branch, with its own mark before its nodes.
-pub fn add_lists(entries: &[u32], lists: usize, backwards: bool, out: &mut [u32]) -> Branched
+pub fn add_lists(entries: &[u32], lists: usize, backwards: bool, out: &mut [NodeWord]) -> Branched
     requires { ⌜ Listed lists (now entries) × (length (now entries) ≤ 4096) × (length (now entries) ≤ 4 * length (now out)) ⌝ }
     ensures { λ r. ⌜ (r .count ≡ length (wordsIn (branchesAt backwards lists (now (entries .entry)))))
         × (r .long ≡ not (shortIn (branchesAt backwards lists (now (entries .entry)))))
@@ -223,7 +229,7 @@ pub fn add_lists(entries: &[u32], lists: usize, backwards: bool, out: &mut [u32]
 }
 
 // The alternatives at a place: their Alternation, and their branches behind it.
-fn add_alternation(tokens: &[u32], at: usize, backwards: bool, out: &mut [u32]) -> Branched
+fn add_alternation(tokens: &[u32], at: usize, backwards: bool, out: &mut [NodeWord]) -> Branched
     requires { ⌜ Stands (now tokens) at × (getD (now tokens) at 0 ≡ 5) × (length (now tokens) ≤ 4096)
         × (sizeAt (now tokens) at ≤ 4 * length (now out)) ⌝ }
     ensures { λ r. ⌜ (r .count ≡ length (wordsFor (alt (altAt backwards (now (tokens .entry)) at))))
@@ -235,7 +241,7 @@ fn add_alternation(tokens: &[u32], at: usize, backwards: bool, out: &mut [u32]) 
     let to = from + 4 * (tokens[at + 2] as usize);
     let b = add_lists(&tokens[from..to], lists, backwards, &mut out[1..]);
     let count = b.count;
-    out[0] = node_word(Node::Alternation(count as u16));
+    out[0] = node_word(Node::Alternation(count as Count));
     Branched {
         count: count + 1,
         long: b.long,
@@ -254,7 +260,7 @@ fn add_token(
     tokens: &[u32],
     at: usize,
     backwards: bool,
-    out: &mut [u32],
+    out: &mut [NodeWord],
     n: usize,
     last: Last,
     long: bool,
@@ -294,7 +300,7 @@ fn either(a: bool, b: bool) -> bool
 }
 
 // The tokens of the outer list, which start at `starts`: their words at the front of `out`, and their number.
-pub fn add_tokens(tokens: &[u32], starts: &[u16], backwards: bool, out: &mut [u32]) -> Branched
+pub fn add_tokens(tokens: &[u32], starts: &[u16], backwards: bool, out: &mut [NodeWord]) -> Branched
     requires { ⌜ Outlined (now tokens) (now starts) × (length (now tokens) ≤ 4096) × (length (now tokens) ≤ 4 * length (now out)) ⌝ }
     ensures { λ r. ⌜ (r .count ≡ nodes (tokensProgram backwards (now (tokens .entry)) (now (starts .entry))))
         × (r .long ≡ not (short (tokensProgram backwards (now (tokens .entry)) (now (starts .entry)))))

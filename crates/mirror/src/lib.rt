@@ -1,8 +1,9 @@
 // The mirror of a sound program: its items and each branch's contents in reverse, its branches in their order.
 use base::Refusal;
-use base::zero_words;
 use nodes::NextWord;
+use nodes::NodeWord;
 use nodes::first_word;
+use nodes::zero_nodes;
 use sound::Inside;
 use sound::branch_inside;
 use sound::is_sound;
@@ -20,7 +21,7 @@ pub enum MirrorAnswer {
     Refused(Refusal),
 }
 
-fn reverse_into(src: &[u32], dst: &mut [u32])
+fn reverse_into(src: &[NodeWord], dst: &mut [NodeWord])
     requires { ⌜ length (now dst) ≡ length (now src) ⌝ }
     ensures { λ _. ⌜ now (dst .exit) ≡ reverse (now (src .entry)) ⌝ }
 {
@@ -34,7 +35,7 @@ fn reverse_into(src: &[u32], dst: &mut [u32])
 }
 
 // Branches go to their own places, from the front on.
-fn mirror_branches(alts: &[u32], out: &mut [u32])
+fn mirror_branches(alts: &[NodeWord], out: &mut [NodeWord])
     requires { ⌜ SoundBranches (now alts) × (length (now out) ≡ length (now alts)) × (length (now alts) ≤ 512) ⌝ }
     ensures { λ _. ⌜ now (out .exit) ≡ mirrorBranches (length (now (alts .entry))) (now (alts .entry)) ⌝ }
 {
@@ -59,7 +60,7 @@ fn mirror_branches(alts: &[u32], out: &mut [u32])
 }
 
 // Items go to the opposite places, from the back on.
-fn mirror_words(words: &[u32], out: &mut [u32])
+fn mirror_words(words: &[NodeWord], out: &mut [NodeWord])
     requires { ⌜ Sound (now words) × (length (now out) ≡ length (now words)) × (length (now words) ≤ 512) ⌝ }
     ensures { λ _. ⌜ now (out .exit) ≡ mirrorWords (now (words .entry)) ⌝ }
 {
@@ -82,22 +83,22 @@ fn mirror_words(words: &[u32], out: &mut [u32])
 }
 
 // The door.
-pub fn mirror(words: &[u32], pool: &mut [u32]) -> MirrorAnswer
+pub fn mirror(words: &[NodeWord], pool: &mut [NodeWord]) -> MirrorAnswer
     ensures { λ r. ⌜ (said r ≡ mirrorSays (now (words .entry)) (now (pool .entry))) × (now (pool .exit) ≡ mirrorLeaves (now (words .entry)) (now (pool .entry))) ⌝ }
 {
     if pool.len() < 512 {
         return MirrorAnswer::Refused(Refusal::NoRoom);
     }
     if 512 < words.len() {
-        zero_words(pool, 0, 512);
+        zero_nodes(pool, 0, 512);
         return MirrorAnswer::Refused(Refusal::TooManyNodes);
     }
     if !is_sound(words) {
-        zero_words(pool, 0, 512);
+        zero_nodes(pool, 0, 512);
         return MirrorAnswer::Refused(Refusal::Unsound);
     }
     let n = words.len();
     mirror_words(words, &mut pool[0..n]);
-    zero_words(pool, n, 512);
+    zero_nodes(pool, n, 512);
     MirrorAnswer::Mirrored(n)
 }

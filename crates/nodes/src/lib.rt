@@ -2,8 +2,10 @@
 // A node word and the node that it says: the one taken apart into the other, and made from it. Nowhere else is a word taken apart or made by
 // arithmetic, so what a word's layout is stands here: the types, the sizes, and the small functions for kind, fields and count.
 ghost use mathlib.Core.Path.{_≡_};
-ghost use Prim.Native.Nat.{_≤_, _<_};
-ghost use Rattle.meaning.specs.Words.{kindOf, firstOf, secondOf, countOf, word, countWord, shape, proper};
+ghost use Prim.Native.Nat.{_%_, _≤_, _<_};
+ghost use lib.ListN.{length};
+ghost use Rattle.base.specs.Pools.{zeroed};
+ghost use Rattle.meaning.specs.Words.{fieldSize, kindOf, firstOf, secondOf, countOf, word, countWord, shape, proper};
 ghost use Rattle.nodes.specs.Nodes.{shapeOf, testWord, wordOf, firstWord};
 
 // A word of a program; a field of it; and an Alternation's count, which takes both fields.
@@ -101,6 +103,13 @@ pub fn count(w: NodeWord) -> Count
     (w / KINDS % COUNTS) as Count
 }
 
+// What of a number fits a field.
+pub fn field(n: u32) -> Field
+    ensures { λ r. ⌜ r ≡ n % fieldSize ⌝ }
+{
+    (n % FIELDS) as Field
+}
+
 // The node that a word says.
 pub fn node_of(w: NodeWord) -> Node
     ensures { λ r. ⌜ shapeOf r ≡ shape w ⌝ }
@@ -160,7 +169,7 @@ pub fn node_word(n: Node) -> NodeWord
     }
 }
 
-// An AltBranch's word that counts past a field too: such a branch is refused later.
+// An AltBranch's word. It counts past what a sound program has: a branch that long is refused later, by 14.
 pub fn branch_word(n: usize) -> NodeWord
     requires { ⌜ n ≤ 4096 ⌝ }
     ensures { λ r. ⌜ r ≡ word 7 n 0 ⌝ }
@@ -187,5 +196,17 @@ pub fn proper_word(w: NodeWord) -> bool
         ALTERNATION => 1 <= count(w),
         ALT_BRANCH => b == 0,
         _ => false,
+    }
+}
+
+// Zeros the words of a program's pool from `from` up to `to`, and leaves the others.
+pub fn zero_nodes(pool: &mut [NodeWord], from: usize, to: usize)
+    requires { ⌜ (from ≤ to) × (to ≤ length (now pool)) ⌝ }
+    ensures { λ _. ⌜ now (pool .exit) ≡ zeroed from to (now (pool .entry)) ⌝ }
+{
+    let mut i = from;
+    while i < to {
+        pool[i] = 0;
+        i += 1;
     }
 }

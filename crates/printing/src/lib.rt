@@ -11,6 +11,7 @@ ghost use Rattle.printing.specs.Lines.{numberLine, numbersLine, byteLine
 ghost use Rattle.printing.specs.Listed.{listedOf};
 use nodes::ByteTest;
 use nodes::Node;
+use nodes::NodeWord;
 
 fn put_byte(out: &mut [u8], at: usize, b: u8) -> usize
     requires { ⌜ at + 1 < 2 ^ 64 ⌝ }
@@ -139,7 +140,7 @@ fn put_test(out: &mut [u8], at: usize, t: ByteTest) -> usize
 }
 
 // The line of a node word. A word of a kind that 01 does not have writes nothing: no program that was compiled holds one.
-fn put_node(out: &mut [u8], at: usize, w: u32) -> usize
+fn put_node(out: &mut [u8], at: usize, w: NodeWord) -> usize
     requires { ⌜ at + 64 < 2 ^ 64 ⌝ }
     ensures { λ r. ⌜ Put (now (out .entry)) at (nodeLine w) r (now (out .exit)) ⌝ }
 {
@@ -154,7 +155,7 @@ fn put_node(out: &mut [u8], at: usize, w: u32) -> usize
     }
 }
 
-fn put_nodes(out: &mut [u8], at: usize, words: &[u32]) -> usize
+fn put_nodes(out: &mut [u8], at: usize, words: &[NodeWord]) -> usize
     requires { ⌜ at + 64 + 14 * length (now words) < 2 ^ 64 ⌝ }
     ensures { λ r. ⌜ Put (now (out .entry)) at (each nodeLine (now (words .entry))) r (now (out .exit)) ⌝ }
 {
@@ -168,7 +169,7 @@ fn put_nodes(out: &mut [u8], at: usize, words: &[u32]) -> usize
 }
 
 // A program: its name with the count of its nodes, and their lines.
-fn put_program(out: &mut [u8], at: usize, name: &[u8], words: &[u32]) -> usize
+fn put_program(out: &mut [u8], at: usize, name: &[u8], words: &[NodeWord]) -> usize
     requires { ⌜ at + length (now name) + 85 + 14 * length (now words) < 2 ^ 64 ⌝ }
     ensures { λ r. ⌜ Put (now (out .entry)) at (programLines (now (name .entry)) (now (words .entry))) r (now (out .exit)) ⌝ }
 {
@@ -233,7 +234,7 @@ pub fn put_literals_refused(out: &mut [u8], at: usize, number: usize) -> usize
 }
 
 // Both programs, from the buffer's start.
-pub fn put_programs(out: &mut [u8], forward: &[u32], reverse: &[u32]) -> usize
+pub fn put_programs(out: &mut [u8], forward: &[NodeWord], reverse: &[NodeWord]) -> usize
     requires { ⌜ 250 + 14 * length (now forward) + 14 * length (now reverse) < 2 ^ 64 ⌝ }
     ensures { λ r. ⌜ Put (now (out .entry)) 0 (programsLines (now (forward .entry)) (now (reverse .entry))) r (now (out .exit)) ⌝ }
 {

@@ -1,6 +1,8 @@
 // The soundness test of node words: any words at all are sound or not. Each function is one loop, linear in the words.
+use nodes::Count;
 use nodes::NextWord;
 use nodes::Node;
+use nodes::NodeWord;
 use nodes::first_word;
 use nodes::node_of;
 use nodes::proper_word;
@@ -12,7 +14,7 @@ ghost use Rattle.sound.specs.Steps.{inItem, inBranch, itemInside, branch
 
 // How many of the words after a word belong to it.
 pub enum Inside {
-    Words(u16),
+    Words(Count),
     Unfit,
 }
 
@@ -30,7 +32,7 @@ fn in_item(n: Node) -> Inside
 }
 
 // The words inside an item.
-pub fn item_inside(w: u32) -> Inside
+pub fn item_inside(w: NodeWord) -> Inside
     ensures { λ r. ⌜ r ≡ itemInside w ⌝ }
 {
     if proper_word(w) {
@@ -48,13 +50,13 @@ fn in_branch(n: Node) -> Inside
         Node::Jump(_) => Inside::Unfit,
         Node::JumpRange(_, _) => Inside::Unfit,
         Node::Alternation(_) => Inside::Unfit,
-        Node::AltBranch(k) => Inside::Words(k as u16),
+        Node::AltBranch(k) => Inside::Words(k as Count),
         Node::Bad => Inside::Unfit,
     }
 }
 
 // The words inside a branch.
-pub fn branch_inside(w: u32) -> Inside
+pub fn branch_inside(w: NodeWord) -> Inside
     ensures { λ r. ⌜ r ≡ branchInside w ⌝ }
 {
     if proper_word(w) {
@@ -78,7 +80,7 @@ fn plain_node(n: Node) -> bool
 }
 
 // Whether a word may stand in a branch.
-fn plain_word(w: u32) -> bool
+fn plain_word(w: NodeWord) -> bool
     ensures { λ r. ⌜ r ≡ plainWord w ⌝ }
 {
     if proper_word(w) {
@@ -88,7 +90,7 @@ fn plain_word(w: u32) -> bool
     }
 }
 
-fn plain_words(words: &[u32]) -> bool
+fn plain_words(words: &[NodeWord]) -> bool
     ensures { λ r. ⌜ r ≡ plainWords (now (words .entry)) ⌝ }
 {
     let mut ws = words;
@@ -104,7 +106,7 @@ fn plain_words(words: &[u32]) -> bool
 }
 
 // Whether words are branches, one after another, and nothing else.
-fn sound_branches(words: &[u32]) -> bool
+fn sound_branches(words: &[NodeWord]) -> bool
     ensures { λ r. ⌜ r ≡ soundBranches (length (now (words .entry))) (now (words .entry)) ⌝ }
 {
     let mut ws = words;
@@ -128,7 +130,7 @@ fn sound_branches(words: &[u32]) -> bool
 }
 
 // Whether words are items, one after another, each with its branches; one that is a single word has none.
-fn sound_words(words: &[u32]) -> bool
+fn sound_words(words: &[NodeWord]) -> bool
     ensures { λ r. ⌜ r ≡ soundWords (length (now (words .entry))) (now (words .entry)) ⌝ }
 {
     let mut ws = words;
@@ -152,7 +154,7 @@ fn sound_words(words: &[u32]) -> bool
 }
 
 // The door: whether words are a sound program.
-pub fn is_sound(words: &[u32]) -> bool
+pub fn is_sound(words: &[NodeWord]) -> bool
     ensures { λ r. ⌜ r ≡ sound (now (words .entry)) ⌝ }
 {
     if words.len() <= 512 {

@@ -1,5 +1,5 @@
 -- `emit::entry_piece` meets its contract. Assumes nothing.
-use mathlib.Core.Path.{ap}
+use mathlib.Core.Path.{sym, ap}
 use borrow.Author.Tests.{ne-eqb}
 use Rattle.compiling.specs.ProgramWords.{wordFor}
 use Rattle.emit.specs.declared.Piece.the-variants.{Word}
@@ -8,8 +8,8 @@ use borrow.Author.Needs.{needs}
 use Rattle.emit.proofs.entry_piece.Statement.{statement}
 use Rattle.emit.proofs.entry_piece.Tie as tie
 
-cast-v : tie.Need-cast-v
-cast-v c = search needs
+byte-in-requires : tie.Need-byte-in-requires
+byte-in-requires c κs = search needs
 
 node-word-requires : tie.Need-node-word-requires
 node-word-requires c κs = search needs
@@ -23,8 +23,11 @@ mask-piece-requires c κs = search needs
 not-mask-piece-requires : tie.Need-not-mask-piece-requires
 not-mask-piece-requires c κs = search needs
 
-cast-jump-piece : tie.Need-cast-jump-piece
-cast-jump-piece c = search needs
+field-requires : tie.Need-field-requires
+field-requires c κs = search needs
+
+field-requires-2 : tie.Need-field-requires-2
+field-requires-2 c κs = search needs
 
 jump-piece-requires : tie.Need-jump-piece-requires
 jump-piece-requires c κs = search needs
@@ -34,14 +37,16 @@ unfolding pieceOf wordFor entryItem
 returns c =
     let at-node-word = c .node-word in
     let at-match = c .before .match in
-    rw (at-match .keys1) (ap Word (at-node-word .ensures))
+    let at-byte-in = c .before .before .byte-in in
+    rw (at-match .keys1, sym (at-byte-in .ensures)) (ap Word (at-node-word .ensures))
 
 returns-2 : tie.Need-returns-2
 unfolding pieceOf wordFor entryItem
 returns-2 c =
     let at-node-word2 = c .node-word2 in
     let at-match = c .before .match in
-    rw (at-match .keys2) (ap Word (at-node-word2 .ensures))
+    let at-byte-in = c .before .before .byte-in in
+    rw (at-match .keys2, sym (at-byte-in .ensures)) (ap Word (at-node-word2 .ensures))
 
 returns-3 : tie.Need-returns-3
 unfolding entryItem
@@ -61,19 +66,22 @@ returns-5 : tie.Need-returns-5
 unfolding entryItem
 returns-5 c =
     let at-jump-piece = c .jump-piece in
-    let at-match = c .before .match in
-    rw (ne-eqb _ 0 (at-match .rest .0 .0 .0 .1), ne-eqb _ 1 (at-match .rest .0 .0 .1), ne-eqb _ 2 (at-match .rest .0 .1), ne-eqb _ 3 (at-match .rest .1)) (at-jump-piece .ensures)
+    let at-field2 = c .before .field2 in
+    let at-field = c .before .before .field in
+    let at-match = c .before .before .before .match in
+    rw (ne-eqb _ 0 (at-match .rest .0 .0 .0 .1), ne-eqb _ 1 (at-match .rest .0 .0 .1), ne-eqb _ 2 (at-match .rest .0 .1), ne-eqb _ 3 (at-match .rest .1), sym (at-field .ensures), sym (at-field2 .ensures)) (at-jump-piece .ensures)
 
 pub entry-piece-spec : {M : Type 1} → statement M
 entry-piece-spec =
     tie.close
     (tie.spec
-    cast-v
+    byte-in-requires
     node-word-requires
     node-word-requires-2
     mask-piece-requires
     not-mask-piece-requires
-    cast-jump-piece
+    field-requires
+    field-requires-2
     jump-piece-requires
     returns
     returns-2
