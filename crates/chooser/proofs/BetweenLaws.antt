@@ -9,8 +9,8 @@ use Rattle.meaning.specs.Tokens.{Tokens, nothing}
 use Rattle.picking.specs.Runs.{filledOnes}
 use Rattle.picking.specs.Choice.{Choice, chosen, beats, between, inRun, among}
 use Rattle.picking.proofs.ChosenLaws.{chosen-few}
-use Rattle.spelling.specs.Words.{tokensIn}
-use Rattle.spelling.proofs.StepLaws.{tokens-end, tokens-step}
+use Rattle.entries.specs.Words.{tokensIn}
+use Rattle.entries.proofs.StepLaws.{tokens-end, tokens-step}
 use Rattle.literals.specs.declared.Pick.{Pick}
 use Rattle.literals.specs.declared.Pick.the-variants.{Nothing, Taken, TooMany}
 use Rattle.literals.specs.Ranks.{choiceSays}

@@ -8,9 +8,9 @@ use lib.Seq.{drop-drop}
 use Rattle.meaning.specs.Tokens.{Tokens, nothing, _then_}
 use Rattle.picking.specs.Runs.{segments, filledOnes, firstLast, runs}
 use Rattle.picking.specs.Choice.{Choice, unranked, inRun, between, among, choice}
-use Rattle.spelling.specs.Words.{width, tokensIn}
-use Rattle.spelling.proofs.StepLaws.{tokens-end, tokens-step, width-le, width-long}
-use Rattle.spelling.proofs.PartLaws.{part-all}
+use Rattle.entries.specs.Words.{width, tokensIn}
+use Rattle.entries.proofs.StepLaws.{tokens-end, tokens-step, width-le, width-long}
+use Rattle.entries.proofs.PartLaws.{part-all}
 use Rattle.literals.specs.declared.Pick.{Pick}
 use Rattle.literals.specs.declared.Pick.the-variants.{Nothing}
 use Rattle.literals.specs.Ranks.{choiceSays}

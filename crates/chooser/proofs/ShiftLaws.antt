@@ -11,7 +11,7 @@ use borrow.Author.Tests.{lt-ltb, le-ltb, ne-eqb, eq-eqb}
 use Rattle.meaning.specs.Tokens.{Tokens}
 use Rattle.picking.specs.Literals.{literals}
 use Rattle.picking.specs.Choice.{least, beats, chosen}
-use Rattle.spelling.specs.Words.{tokensIn}
+use Rattle.entries.specs.Words.{tokensIn}
 use Rattle.literals.specs.declared.Pick.{Pick}
 use Rattle.literals.specs.declared.Pick.the-variants.{Nothing, Taken, TooMany}
 use Rattle.literals.specs.Ranks.{choiceSays}

@@ -8,7 +8,7 @@ use Rattle.picking.specs.Literals.{literals, lengthIn}
 use Rattle.picking.specs.Numbers.{count}
 use Rattle.picking.specs.Runs.{filledOnes}
 use Rattle.picking.specs.Choice.{least, chosen, inRun}
-use Rattle.spelling.specs.Words.{tokensIn}
+use Rattle.entries.specs.Words.{tokensIn}
 use Rattle.literals.specs.declared.Pick.{Pick}
 use Rattle.literals.specs.declared.Pick.the-variants.{Nothing, Taken, TooMany}
 use Rattle.literals.specs.Whole.{Whole, afterward}

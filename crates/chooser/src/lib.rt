@@ -7,7 +7,7 @@ ghost use lib.ListN.{length, take, drop};
 ghost use Rattle.picking.specs.Literals.{literals};
 ghost use Rattle.picking.specs.Runs.{segments, filledOnes};
 ghost use Rattle.picking.specs.Choice.{least, beats, between, among, choice, unranked};
-ghost use Rattle.spelling.specs.Words.{tokensIn};
+ghost use Rattle.entries.specs.Words.{tokensIn};
 ghost use Rattle.literals.specs.Ranks.{choiceSays};
 ghost use Rattle.literals.specs.Whole.{Whole, afterward};
 ghost use Rattle.literals.specs.declared.Pick.the-variants.{Taken};
@@ -25,7 +25,7 @@ fn shortest_in(ws: &[u32]) -> usize
     requires { ⌜ Measured (tokensIn (now ws)) ⌝ }
     ensures { λ r. ⌜ r ≡ least length (literals (tokensIn (now (ws .entry)))) ⌝ }
 {
-    spelling::length_of(ws)
+    tallies::length_of(ws)
 }
 
 // A higher rank, then a longer shortest literal.
@@ -107,7 +107,7 @@ fn later_runs(ws: &[u32], first: usize) -> Pick
     let mut at = first;
     let mut top = Pick::Nothing;
     while 4 <= ws.len() - at {
-        let from = at + spelling::width_of(&ws[at..]);
+        let from = at + entries::width_of(&ws[at..]);
         let to = from + literals::run_words(&ws[from..]);
         top = with_run(ws, from, to, top);
         at = to;

@@ -5,8 +5,8 @@ use Prim.Native.Nat.{ℕ, _≤_}
 use native.Mathlib.Omega.{arith}
 use lib.ListN.{length, take, drop}
 use lib.Seq.{take-append-seam}
-use Rattle.printing.specs.declared.Listed.{Listed}
-use Rattle.printing.specs.declared.Listed.the-variants.{Wrote, NoRoom}
+use Rattle.lines.specs.declared.Listed.{Listed}
+use Rattle.lines.specs.declared.Listed.the-variants.{Wrote, NoRoom}
 use Rattle.lister.specs.Listings.{listingOf}
 use Rattle.lister.proofs.Promises.{Lists, listing-room, list-whole}
 

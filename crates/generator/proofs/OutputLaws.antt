@@ -15,7 +15,7 @@ use Rattle.meaning.specs.Tokens.{Tokens}
 use Rattle.picking.specs.Literals.{literals}
 use Rattle.picking.specs.Numbers.{count, literalAt}
 use Rattle.picking.proofs.NumberLaws.{count-literals, literal-numbered}
-use Rattle.spelling.specs.Tallies.{Written}
+use Rattle.spelling.specs.Writing.{Written}
 use Rattle.spelling.proofs.WriteLaws.{Halfway, nothing-written, all-written, half-length, one-more, piece-more, room-one, room-piece, piece-fits}
 use Rattle.generator.specs.declared.Wrote.the-variants.{All, NoRoom}
 use Rattle.generator.specs.Output.{over, fits, answered, bytesLeft, lengthsLeft, Generated}

@@ -6,7 +6,7 @@ ghost use Prim.Native.Nat.{_≤_, _<_};
 ghost use lib.ListN.{length};
 ghost use Rattle.picking.specs.Literals.{literals};
 ghost use Rattle.picking.specs.Numbers.{count, literalAt};
-ghost use Rattle.spelling.specs.Words.{tokensIn};
+ghost use Rattle.entries.specs.Words.{tokensIn};
 ghost use Rattle.generator.specs.Output.{over, Generated};
 
 // How many literals were written; or one of the buffers is too small, and nothing was.
@@ -58,7 +58,7 @@ pub fn write_all(ws: &[u32], bytes: &mut [u8], lengths: &mut [u16]) -> Wrote
     requires { ⌜ (length (now ws) ≤ 4096) × (count (tokensIn (now ws)) ≤ 256) ⌝ }
     ensures { λ r. ⌜ Generated (literals (tokensIn (now (ws .entry)))) r (now (bytes .entry)) (now (lengths .entry)) (now (bytes .exit)) (now (lengths .exit)) ⌝ }
 {
-    let t = spelling::tally_tokens(ws);
+    let t = tallies::tally_tokens(ws);
     let n = t.literals;
     if lengths.len() < n {
         return Wrote::NoRoom;

@@ -14,8 +14,8 @@ use Rattle.compiling.specs.Compile.{Compiled, compiled as programs, refused as 
 use Rattle.picking.specs.Choice.{Picked as Choice, picked as chosen, unpicked as unchosen, pick}
 use Rattle.meaning.proofs.SoundLaws.{and-left}
 use Rattle.printing.specs.Laid.{Put}
-use Rattle.printing.specs.Lines.{literalsLines, cut, refusedLine, literalsRefusedLine, picked, unpicked, pickedLines, compiled, refused, programsLines, listing}
-use Rattle.printing.proofs.ListingLaws.{cut-flatten, programs-fit}
+use Rattle.lines.specs.Lines.{literalsLines, cut, refusedLine, literalsRefusedLine, picked, unpicked, pickedLines, compiled, refused, programsLines, listing}
+use Rattle.lines.proofs.ListingLaws.{cut-flatten, programs-fit}
 use Rattle.base.specs.declared.Refusal.{Refusal}
 use Rattle.base.specs.Refusals.{numberOf}
 use Rattle.compiledoor.specs.declared.CompileAnswer.{CompileAnswer}

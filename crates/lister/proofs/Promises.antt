@@ -19,13 +19,13 @@ use Rattle.compiling.specs.Compiling.{nodeLimit, forwardProgram, reverseProgram
 use Rattle.compiling.specs.Compile.{few, Compiled, compiled as programs, refused as uncompiled, compile}
 use Rattle.compiling.proofs.GivenLaws.{programs-tests}
 use Rattle.picking.specs.Choice.{Picked as Choice, picked as chosen, unpicked as unchosen, pick}
-use Rattle.printing.specs.declared.Listed.{Listed}
-use Rattle.printing.specs.declared.Listed.the-variants.{Wrote, NoRoom as Short}
+use Rattle.lines.specs.declared.Listed.{Listed}
+use Rattle.lines.specs.declared.Listed.the-variants.{Wrote, NoRoom as Short}
 use Rattle.printing.specs.Laid.{laid}
-use Rattle.printing.specs.Listed.{listedOf}
-use Rattle.printing.specs.Lines.{picked, unpicked, listing}
+use Rattle.lines.specs.Listed.{listedOf}
+use Rattle.lines.specs.Lines.{picked, unpicked, listing}
 use Rattle.printing.proofs.LaidLaws.{laid-fits}
-use Rattle.printing.proofs.ListingLaws.{Small, listing-fits, refused-fits}
+use Rattle.lines.proofs.ListingLaws.{Small, listing-fits, refused-fits}
 use Rattle.lister.specs.Listings.{withRoom, withPrograms, outcome, listingOf}
 use Rattle.lister.proofs.RankLaws.{picked-low}
 

@@ -17,7 +17,7 @@ use Rattle.picking.specs.Choice
 use Rattle.base.specs.Text.{ascii}
 use Rattle.printing.specs.Laid
 use Rattle.printing.specs.Numbers
-use Rattle.printing.specs.Lines
+use Rattle.lines.specs.Lines
 use Rattle.lister.specs.Listings
 use Rattle.lister.specs.Listings.{listingOf}
 

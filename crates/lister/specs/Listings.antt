@@ -9,7 +9,7 @@ use Rattle.base.specs.Refusals.{numberOf}
 use Rattle.reading.specs.Lists.{Outcome as Read, accepted, rejected, reading}
 use Rattle.compiling.specs.Compile.{Compiled, compiled as programs, refused as uncompiled, compile}
 use Rattle.picking.specs.Choice.{Picked as Choice, picked as chosen, unpicked as unchosen, pick}
-use Rattle.printing.specs.Lines.{Picked, picked, unpicked, Outcome, compiled, refused, listing}
+use Rattle.lines.specs.Lines.{Picked, picked, unpicked, Outcome, compiled, refused, listing}
 
 -- how many bytes and how many lengths the listing program lends for literals
 abbrev pub lentBytes : ℕ

@@ -1,14 +1,14 @@
 // The listing of a text, as the listing program writes it.
 use compiledoor::CompileAnswer;
+use lines::Listed;
 use literaldoor::LiteralsAnswer;
-use printing::Listed;
 ghost use mathlib.Core.Path.{_≡_};
 ghost use Prim.Native.Nat.{_<_, _^_};
 ghost use lib.ListN.{length};
 ghost use Rattle.reading.specs.Lists.{reading};
 ghost use Rattle.printing.specs.Laid.{laid, Put};
-ghost use Rattle.printing.specs.Lines.{pickedLines};
-ghost use Rattle.printing.specs.Listed.{listedOf};
+ghost use Rattle.lines.specs.Lines.{pickedLines};
+ghost use Rattle.lines.specs.Listed.{listedOf};
 ghost use Rattle.lister.specs.Listings.{pickedOf, listingOf};
 
 // Picks the literals, into bytes and lengths of its own, and writes their lines.
@@ -24,9 +24,9 @@ fn put_picked(text: &[u8], out: &mut [u8], at: usize) -> usize
             reached: _,
             count,
             rank,
-        } => printing::put_literals(out, at, rank as usize, &lens[0..count], &bytes),
+        } => lines::put_literals(out, at, rank as usize, &lens[0..count], &bytes),
         LiteralsAnswer::Refused(why, _) => {
-            printing::put_literals_refused(out, at, why.number() as usize)
+            lines::put_literals_refused(out, at, why.number() as usize)
         }
     }
 }
@@ -44,11 +44,11 @@ fn put_listing(text: &[u8], out: &mut [u8]) -> usize
             forward: n,
             reverse: m,
         } => {
-            let k = printing::put_programs(out, &forward[0..n], &reverse[0..m]);
+            let k = lines::put_programs(out, &forward[0..n], &reverse[0..m]);
             put_picked(text, out, k)
         }
         CompileAnswer::Refused(why, place) => {
-            printing::put_refused(out, 0, why.number() as usize, place)
+            lines::put_refused(out, 0, why.number() as usize, place)
         }
     }
 }
@@ -59,5 +59,5 @@ pub fn list_pattern(text: &[u8], out: &mut [u8]) -> Listed
         × (now (out .exit) ≡ laid (now (out .entry)) 0 (listingOf (now (text .entry)))) ⌝ }
 {
     let n = put_listing(text, out);
-    printing::room_for(n, out.len())
+    lines::room_for(n, out.len())
 }

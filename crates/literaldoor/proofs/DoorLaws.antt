@@ -17,7 +17,7 @@ use Rattle.reading.specs.Lists.{accepted, rejected, reading}
 use Rattle.picking.specs.Literals.{literals}
 use Rattle.picking.specs.Runs.{plain, firstLast, filledOnes, runs}
 use Rattle.picking.specs.Choice.{Choice, unranked, among, choice, Picked, picked, taking, pick}
-use Rattle.spelling.specs.Words.{tokensIn}
+use Rattle.entries.specs.Words.{tokensIn}
 use Rattle.generator.specs.declared.Wrote.{Wrote}
 use Rattle.generator.specs.declared.Wrote.the-variants.{All, NoRoom}
 use Rattle.generator.specs.Output as output

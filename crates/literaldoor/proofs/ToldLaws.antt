@@ -11,7 +11,7 @@ use Rattle.reading.proofs.SpelledValues.{accepted-spelled}
 use Rattle.picking.specs.Runs.{plain, segments}
 use Rattle.picking.proofs.KeepLaws.{Every}
 use Rattle.picking.proofs.ShortestLaws.{segments-told}
-use Rattle.spelling.specs.Words.{tokensIn}
+use Rattle.entries.specs.Words.{tokensIn}
 use Rattle.literals.specs.Whole.{Whole}
 use Rattle.literals.proofs.EntryLaws.{plain-entries, segments-entries}
 use Rattle.chooser.specs.Kept.{Told, AllTold}

@@ -12,7 +12,7 @@ ghost use Rattle.picking.specs.Literals.{literals as literalsOf};
 ghost use Rattle.picking.specs.Numbers.{count};
 ghost use Rattle.picking.specs.Runs.{plain, segments};
 ghost use Rattle.picking.specs.Choice.{pick, taking, picked};
-ghost use Rattle.spelling.specs.Words.{tokensIn};
+ghost use Rattle.entries.specs.Words.{tokensIn};
 ghost use Rattle.literals.specs.Ranks.{choiceSays};
 ghost use Rattle.literals.specs.Whole.{Whole};
 ghost use Rattle.chooser.specs.Kept.{Kept, AllTold};
@@ -77,7 +77,7 @@ fn pick_tokens(ws: &[u32], reached: usize, bytes: &mut [u8], lengths: &mut [u16]
     requires { ⌜ (length (now ws) ≤ 4096) × Whole (now ws) × (plain (tokensIn (now ws)) ≡ true → AllTold (segments (tokensIn (now ws)))) ⌝ }
     ensures { λ r. ⌜ Picks reached (pick (tokensIn (now (ws .entry)))) (said r) (now (bytes .entry)) (now (lengths .entry)) (now (bytes .exit)) (now (lengths .exit)) ⌝ }
 {
-    if !spelling::is_plain(ws) {
+    if !entries::is_plain(ws) {
         return LiteralsAnswer::Refused(Refusal::NotPlain, 0);
     }
     let choice = chooser::choose(ws);

@@ -18,9 +18,11 @@ use Rattle.meaning.proofs.TokenLaws.{fours, fours-in}
 use Rattle.meaning.proofs.ValueLaws.{any-spelled}
 use Rattle.picking.specs.Literals.{isPlain, plainList, plainLists}
 use Rattle.picking.specs.Runs.{closes, isAlternatives, plainInside, plain, segmented, segments}
-use Rattle.spelling.specs.Words.{maskIn, entryToken, flatIn, ends, inside, listsIn, width, tokensIn}
-use Rattle.spelling.proofs.StepLaws.{flat-end, flat-step, lists-end, lists-step, tokens-end, tokens-step, width-inside}
-use Rattle.spelling.proofs.PlainLaws.{token-alternatives, token-entry, entry-inside}
+use Rattle.classes.specs.Entry.{maskIn, entryToken}
+use Rattle.entries.specs.Words.{flatIn, ends, inside, listsIn, width, tokensIn}
+use Rattle.entries.proofs.StepLaws.{flat-end, flat-step, lists-end, lists-step, tokens-end, tokens-step, width-inside}
+use Rattle.entries.proofs.PlainLaws.{token-alternatives, token-entry}
+use Rattle.classes.proofs.KindLaws.{entry-inside}
 use Rattle.literals.specs.Whole.{Whole, none, more}
 
 -- ---- words within an entry

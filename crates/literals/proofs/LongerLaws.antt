@@ -9,8 +9,8 @@ use Rattle.meaning.specs.Tokens.{Tokens, _⊕_}
 use Rattle.picking.specs.Literals.{lengthIn}
 use Rattle.picking.specs.Runs.{parts, slice, longer}
 use Rattle.picking.specs.Choice.{Choice, rank, widened, best}
-use Rattle.spelling.specs.Words.{tokensIn}
-use Rattle.spelling.proofs.PartLaws.{part-all, part-long}
+use Rattle.entries.specs.Words.{tokensIn}
+use Rattle.entries.proofs.PartLaws.{part-all, part-long}
 use Rattle.literals.specs.declared.Pick.{Pick}
 use Rattle.literals.specs.declared.Rank.{Rank}
 use Rattle.literals.specs.Ranks.{rankSays, choiceSays, Settles}

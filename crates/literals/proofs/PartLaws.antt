@@ -13,9 +13,10 @@ use borrow.Author.Tests.{eqb-true, eqb-false, eq-eqb, ne-eqb, ltb-true, ltb-fals
 use Rattle.meaning.specs.Tokens.{Token, Tokens, NotByte, MaskedByte, NotMaskedByte, Jump, nothing, _then_, _⊕_}
 use Rattle.picking.specs.Literals.{isByte}
 use Rattle.picking.specs.Runs.{isLiteral, joins, partBefore, parts}
-use Rattle.spelling.specs.Words.{entryToken, tokenIn, width, tokensIn}
-use Rattle.spelling.proofs.StepLaws.{tokens-end, tokens-step, width-le, width-long, walk-end, walk-step}
-use Rattle.spelling.proofs.PlainLaws.{token-alternatives, token-entry}
+use Rattle.classes.specs.Entry.{entryToken}
+use Rattle.entries.specs.Words.{tokenIn, width, tokensIn}
+use Rattle.entries.proofs.StepLaws.{tokens-end, tokens-step, width-le, width-long, walk-end, walk-step}
+use Rattle.entries.proofs.PlainLaws.{token-alternatives, token-entry}
 use Rattle.literals.specs.Whole.{Whole, byteEnd, partEnd}
 use Rattle.literals.proofs.WholeLaws.{split, both-whole, whole-first, front-whole, front-token}
 
@@ -30,7 +31,7 @@ entry-not-byte : (k v m : ℕ) → (k ≡ 0 → ⊥) → isByte (entryToken k v 
 unfolding isByte entryToken
 entry-not-byte k v m f = simp (ne-eqb k 0 f) (go (eqb k 1) (eqb k 2) (eqb k 3))
   where
-    go : (a b c : Bool) → isByte (cond a (NotByte (v % 256)) (cond b (MaskedByte (v % 16) (Rattle.spelling.specs.Words.maskIn m)) (cond c (NotMaskedByte (v % 16) (Rattle.spelling.specs.Words.maskIn m)) (Jump 0 nowhere)))) ≡ false
+    go : (a b c : Bool) → isByte (cond a (NotByte (v % 256)) (cond b (MaskedByte (v % 16) (Rattle.classes.specs.Entry.maskIn m)) (cond c (NotMaskedByte (v % 16) (Rattle.classes.specs.Entry.maskIn m)) (Jump 0 nowhere)))) ≡ false
     go true b c = refl
     go false true c = refl
     go false false true = refl

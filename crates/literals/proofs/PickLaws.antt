@@ -9,7 +9,7 @@ use lib.ListN.{take, drop}
 use borrow.Author.Tests.{lt-ltb, le-ltb, leb-true}
 use Rattle.picking.specs.Runs.{Slice}
 use Rattle.picking.specs.Choice.{Ranked, ranked, skipped, excessive, chosen, widened, against}
-use Rattle.spelling.specs.Words.{tokensIn}
+use Rattle.entries.specs.Words.{tokensIn}
 use Rattle.literals.specs.declared.Pick.{Pick}
 use Rattle.literals.specs.declared.Pick.the-variants.{Nothing, Taken, TooMany}
 use Rattle.literals.specs.declared.Rank.{Rank}

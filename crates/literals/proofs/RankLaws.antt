@@ -6,7 +6,7 @@ use native.Mathlib.Omega.{arith}
 use native.Mathlib.Numerals.{add-one}
 use lib.ListN.{length, getD, take, drop, length-append, drop-of-length-le}
 use lib.Seq.{drop-cons, take-at}
-use Rattle.spelling.specs.Tallies.{Written}
+use Rattle.spelling.specs.Writing.{Written}
 use borrow.Author.Tests.{lt-ltb, le-ltb, le-leb, lt-leb}
 use Rattle.meaning.specs.Tokens.{Tokens, total}
 use Rattle.atoms.specs.Score.{literalScore}
@@ -15,8 +15,8 @@ use Rattle.picking.specs.Numbers.{count, literalAt}
 use Rattle.picking.specs.Choice.{lowest, least, penalty, rankValue, counted, combined, rank, ranked, skipped, excessive}
 use Rattle.picking.proofs.NumberLaws.{count-literals, literal-numbered}
 use Rattle.picking.proofs.LengthLaws.{literal-lengths}
-use Rattle.spelling.specs.Words.{tokensIn}
-use Rattle.spelling.proofs.SizeLaws.{tokens-size}
+use Rattle.entries.specs.Words.{tokensIn}
+use Rattle.tallies.proofs.SizeLaws.{tokens-size}
 
 nth-in : (l : List (List ℕ)) (k : ℕ) → k < length l → List·Memᴰ (getD l k []) l
 nth-in [] k h = absurd (omega arith)

@@ -17,9 +17,9 @@ use Rattle.picking.specs.Numbers.{count, prefixed, ending, literalAt}
 use Rattle.picking.specs.Runs.{isLiteral, joins, partBefore, parts, Slice, literalOnly, longer, slices}
 use Rattle.picking.specs.Choice.{Choice, unranked, chosen, tooMany, against, rankOf, best, bytesOf, byteOf, strong, aloneOr, inRun}
 use Rattle.picking.proofs.RefusalLaws.{best-full}
-use Rattle.spelling.specs.Words.{tokensIn}
-use Rattle.spelling.proofs.StepLaws.{tokens-end}
-use Rattle.spelling.proofs.PartLaws.{part-all, part-long}
+use Rattle.entries.specs.Words.{tokensIn}
+use Rattle.entries.proofs.StepLaws.{tokens-end}
+use Rattle.entries.proofs.PartLaws.{part-all, part-long}
 use Rattle.literals.specs.declared.Pick.{Pick}
 use Rattle.literals.specs.declared.Pick.the-variants.{Nothing, Taken, TooMany}
 use Rattle.literals.specs.Ranks.{choiceSays}

@@ -9,10 +9,11 @@ use lib.Seq.{drop-drop, take-add}
 use Rattle.meaning.specs.Tokens.{Tokens, _then_, _⊕_}
 use Rattle.picking.specs.Literals.{isPlain}
 use Rattle.picking.specs.Runs.{closes, isAlternatives, segmented, atFront, segments}
-use Rattle.spelling.specs.Words.{entryToken, tokenIn, width, tokensIn}
-use Rattle.spelling.proofs.StepLaws.{tokens-end, tokens-step, width-le, width-long, walk-end, walk-step}
-use Rattle.spelling.proofs.PlainLaws.{token-alternatives, token-entry, value-plain}
-use Rattle.spelling.proofs.TallyLaws.{entry-cases}
+use Rattle.classes.specs.Entry.{entryToken}
+use Rattle.entries.specs.Words.{tokenIn, width, tokensIn}
+use Rattle.entries.proofs.StepLaws.{tokens-end, tokens-step, width-le, width-long, walk-end, walk-step}
+use Rattle.entries.proofs.PlainLaws.{token-alternatives, token-entry}
+use Rattle.classes.proofs.KindLaws.{entry-cases, value-plain}
 use Rattle.literals.specs.Whole.{Entire, Whole, none, more, runEnd, afterward}
 use Rattle.literals.proofs.WholeLaws.{split, both-whole, front-whole, front-token}
 

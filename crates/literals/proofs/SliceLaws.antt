@@ -12,8 +12,8 @@ use Rattle.meaning.specs.Tokens.{Tokens, nothing, _⊕_}
 use Rattle.picking.specs.Literals.{lengthIn}
 use Rattle.picking.specs.Runs.{isLiteral, parts, Slice, slice, literalOnly, longer}
 use Rattle.picking.specs.Choice.{Choice, rank, against, rankOf, best}
-use Rattle.spelling.specs.Words.{tokensIn}
-use Rattle.spelling.proofs.StepLaws.{tokens-end}
+use Rattle.entries.specs.Words.{tokensIn}
+use Rattle.entries.proofs.StepLaws.{tokens-end}
 use Rattle.literals.specs.Whole.{Whole, none, byteEnd}
 use Rattle.literals.proofs.WholeLaws.{split, both-whole}
 use Rattle.literals.proofs.PartLaws.{Part, byte-end-none, byte-end-other, bytes-part, token-part}
@@ -94,7 +94,7 @@ next-of R w = go (ltb (length R) 4) refl (eqb (getD R 0 0) 0) refl
         let h = ltb-false (length R) 4 l in
         let f = eqb-false (getD R 0 0) 0 k in
         let p = token-part R w (omega arith) f in
-        ended (byte-end-other R h f) (ap nextLiteral (p .part-is) ∙ literal-kept (tokensIn (take (Rattle.spelling.specs.Words.width R) R)) false (p .kind-is))
+        ended (byte-end-other R h f) (ap nextLiteral (p .part-is) ∙ literal-kept (tokensIn (take (Rattle.entries.specs.Words.width R) R)) false (p .kind-is))
 
 -- ---- words from one place to another
 

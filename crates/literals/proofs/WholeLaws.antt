@@ -9,9 +9,10 @@ use lib.ListN.{length, getD, take, drop, length-append, length-drop, take-append
 use lib.Seq.{take-append-le, drop-append-le, length-take-le, getD-take}
 use borrow.Author.Tests.{eqb-true, eqb-false}
 use Rattle.meaning.specs.Tokens.{Token, Tokens, Alternatives, nothing, _then_, _⊕_}
-use Rattle.spelling.specs.Words.{entryToken, firstEntry, ends, inside, listsIn, tokenIn, width, tokensIn}
-use Rattle.spelling.proofs.StepLaws.{tokens-end, tokens-step, width-le, width-long, width-inside, ends-le}
-use Rattle.spelling.proofs.PlainLaws.{token-alternatives, token-entry}
+use Rattle.classes.specs.Entry.{entryToken}
+use Rattle.entries.specs.Words.{firstEntry, ends, inside, listsIn, tokenIn, width, tokensIn}
+use Rattle.entries.proofs.StepLaws.{tokens-end, tokens-step, width-le, width-long, width-inside, ends-le}
+use Rattle.entries.proofs.PlainLaws.{token-alternatives, token-entry}
 use Rattle.literals.specs.Whole.{Entire, Whole, none, more}
 
 ends-plain : (ws : List ℕ) → ends ws ≡ min (length ws) (4 + 4 * getD ws 2 0)

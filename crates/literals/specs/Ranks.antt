@@ -5,7 +5,7 @@ use Prim.Native.Nat.{ℕ, _-_, _≤_}
 use lib.ListN.{take, drop}
 use Rattle.picking.specs.Runs.{Slice}
 use Rattle.picking.specs.Choice.{Ranked, ranked, skipped, excessive, Choice, unranked, chosen, tooMany, against}
-use Rattle.spelling.specs.Words.{tokensIn}
+use Rattle.entries.specs.Words.{tokensIn}
 use Rattle.literals.specs.declared.Rank.{Rank}
 use Rattle.literals.specs.declared.Rank.the-variants.{Of, Skipped, TooMany}
 use Rattle.literals.specs.declared.Pick.{Pick}

@@ -7,7 +7,7 @@ use lib.Dec.{eqb}
 use lib.ListN.{length, getD, take, drop}
 use Rattle.meaning.specs.Tokens.{Tokens, nothing, _then_}
 use Rattle.picking.specs.Runs.{closes, segments}
-use Rattle.spelling.specs.Words.{walk, width, tokenIn}
+use Rattle.entries.specs.Words.{walk, width, tokenIn}
 
 -- the token at the front has all its words
 pub record Entire (ws : List ℕ) : Type 0 where

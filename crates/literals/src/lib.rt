@@ -12,7 +12,7 @@ ghost use Rattle.picking.specs.Numbers.{count, literalAt};
 ghost use Rattle.meaning.specs.Tokens.{Tokens, nothing};
 ghost use Rattle.picking.specs.Runs.{Slice, parts, longer, slices, closes};
 ghost use Rattle.picking.specs.Choice.{least, penalty, rank, ranked, widened, against, best as bestOf, unranked, tooMany, strong, aloneOr, inRun};
-ghost use Rattle.spelling.specs.Words.{tokenIn, tokensIn};
+ghost use Rattle.entries.specs.Words.{tokenIn, tokensIn};
 ghost use Rattle.literals.specs.Ranks.{rankSays, choiceSays, Settles, Beaten};
 ghost use Rattle.literals.specs.Whole.{byteEnd, partEnd, Placed, Whole, runEnd};
 
@@ -105,7 +105,7 @@ pub fn rank_of(ws: &[u32], best: Pick) -> Rank
     requires { ⌜ length (now ws) ≤ 4096 ⌝ }
     ensures { λ r. ⌜ Settles best r (rank (tokensIn (now (ws .entry)))) ⌝ }
 {
-    let t = spelling::tally_tokens(ws);
+    let t = tallies::tally_tokens(ws);
     let n = t.literals;
     let c = t.combinations;
     if 256 < c {
@@ -141,7 +141,7 @@ fn part_words(ws: &[u32]) -> usize
     if ws[0] == 0 {
         byte_words(ws)
     } else {
-        spelling::width_of(ws)
+        entries::width_of(ws)
     }
 }
 
@@ -192,7 +192,7 @@ fn longer_slices(run: &[u32], prior: usize, at: usize, best: Pick) -> Pick
         }
         let n = part_words(&run[to..]);
         let e = to + n;
-        len += spelling::length_of(&run[to..e]);
+        len += tallies::length_of(&run[to..e]);
         to = e;
     }
 }
@@ -277,7 +277,7 @@ fn closes_run(ws: &[u32]) -> bool
     if ws[0] == 5 {
         return false;
     }
-    !spelling::plain_entry(ws[0], ws[2])
+    !classes::plain_entry(ws[0], ws[2])
 }
 
 // The words before the first token that closes a run.
@@ -290,7 +290,7 @@ pub fn run_words(ws: &[u32]) -> usize
         if closes_run(rest) {
             return n;
         }
-        let e = spelling::width_of(rest);
+        let e = entries::width_of(rest);
         n += e;
         rest = &rest[e..];
     }

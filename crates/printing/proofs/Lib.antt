@@ -1,4 +1,2 @@
 pub mod LaidLaws
 pub mod NumberLaws
-pub mod LineLaws
-pub mod ListingLaws

@@ -1,5 +1,2 @@
 pub mod Laid
 pub mod Numbers
-pub mod Lines
-pub mod Listed
-pub mod Samples

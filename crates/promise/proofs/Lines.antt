@@ -8,7 +8,7 @@ use lib.ListN.{length}
 use Rattle.meaning.specs.Programs.{Item, Prog, Branches}
 use Rattle.meaning.specs.Words.{shapeBy}
 use Rattle.meaning.proofs.MadeLaws.{made-shape}
-use Rattle.printing.specs.Lines.{shapeLine, nodeLine}
+use Rattle.lines.specs.Lines.{shapeLine, nodeLine}
 use Rattle.promise.specs.NodeWords as words
 use Rattle.promise.specs.NodeWords.{word, Flat, Flats, Branched, Nodes}
 use Rattle.promise.specs.Lines.{NodeLine}

@@ -2,7 +2,7 @@
 use mathlib.Core.List.{List}
 use Prim.Native.Nat.{ℕ, _+_, _*_, _<_}
 use Rattle.base.specs.Text.{ascii}
-use Rattle.printing.specs.Lines.{blank, numberLine, numbersLine, byteLine, maskLine}
+use Rattle.lines.specs.Lines.{blank, numberLine, numbersLine, byteLine, maskLine}
 use Rattle.promise.specs.NodeWords.{word}
 
 pub data NodeLine : ℕ → List ℕ → Type 0 where

@@ -1,10 +1,3 @@
--- The laws of entries, counts and writing.
-pub mod StepLaws
-pub mod ClassLaws
-pub mod MemberLaws
-pub mod PlainLaws
-pub mod PartLaws
-pub mod TallyLaws
+-- The laws of literal number k and of its writing.
 pub mod SpellLaws
 pub mod WriteLaws
-pub mod SizeLaws

@@ -1,33 +1,28 @@
--- Literal number k, from the entries. Assumes nothing.
+-- The pieces of literal number k, from the entries. Assumes nothing.
 use mathlib.Core.Path.{_≡_, refl, sym, ap, ap₂, _∙_, subst}
 use mathlib.Core.List.{List, [], _∷_, _++_}
-use Prim.Native.Nat.{ℕ, zero, suc, _+_, _-_, _*_, _/_, _%_, _≤_, _<_, min}
+use Prim.Native.Nat.{ℕ, _-_, _*_, _/_, _%_, _≤_, _<_, min}
 use native.Mathlib.Omega.{arith}
-use native.Mathlib.Nat.{mul-zero, mul-one, one-mul, mul-comm, mul-assoc, le-mul-of-pos-right, div-one, div-div-eq-div-mul, mul-div-cancel-left, mod-lt, mod-one}
-use lib.ListN.{length, getD, take, drop, replicate, length-drop, length-replicate}
+use native.Mathlib.Nat.{one-mul, mul-comm, div-one, div-div-eq-div-mul, mul-div-cancel-left, mod-lt, mod-one}
+use lib.ListN.{length, getD, take, drop}
 use borrow.Author.Tests.{lt-ltb, le-ltb}
-use Rattle.meaning.specs.Tokens.{Token, Tokens, Lists, Byte, NotByte, MaskedByte, NotMaskedByte, Jump, Alternatives, neither, _or_}
+use Rattle.meaning.specs.Tokens.{Token, Tokens}
 use Rattle.picking.specs.Literals.{taken}
-use Rattle.picking.specs.Numbers.{countOf, count, countIn, prefixIn, prefixOf, prefixed, pieceOf, ending, pieceIn, literalAt}
-use Rattle.picking.proofs.NumberLaws.{pos-right, spelt-numbered}
-use Rattle.spelling.specs.Words.{entryToken, firstEntry, flatIn, ends, inside, listsIn, tokenIn, width, tokensIn}
-use Rattle.spelling.proofs.StepLaws.{flat-end, flat-step, lists-end, lists-step, tokens-end, tokens-step, width-entry, by-entries}
-use Rattle.spelling.proofs.PlainLaws.{token-alternatives, token-entry}
-use Rattle.spelling.specs.Tallies.{Numerable, Past}
-use Rattle.spelling.proofs.ClassLaws.{byte-taken}
-use Rattle.spelling.proofs.TallyLaws.{entry-cases, entry-count, token-count-entry, token-count-inside}
+use Rattle.picking.specs.Numbers.{countOf, count, countIn, prefixOf, prefixed, pieceOf, ending, pieceIn, literalAt}
+use Rattle.picking.proofs.NumberLaws.{pos-right}
+use Rattle.classes.specs.Entry.{entryToken}
+use Rattle.entries.specs.Words.{firstEntry, flatIn, ends, inside, listsIn, tokenIn, width, tokensIn}
+use Rattle.entries.proofs.StepLaws.{flat-end, flat-step, lists-end, lists-step, tokens-end, tokens-step, by-entries}
+use Rattle.entries.proofs.PlainLaws.{token-alternatives, token-entry}
+use Rattle.prefixes.specs.Numbers.{Numerable}
+use Rattle.classes.proofs.ClassLaws.{byte-taken}
+use Rattle.classes.proofs.KindLaws.{entry-cases}
+use Rattle.tallies.proofs.TallyLaws.{entry-count, token-count-entry}
+use Rattle.prefixes.proofs.PrefixLaws.{count-lists, entry-prefix, tokens-count, factor-le, list-exact}
 
 -- ---- lists
 
 module _ (ws : List ℕ) (h : 4 ≤ length ws) (p q : ℕ) where
-  pub prefix-here : q < p * count (flatIn (inside ws)) → prefixIn (listsIn ws) p q ≡ q / count (flatIn (inside ws))
-  unfolding prefixIn
-  prefix-here l = rw (lists-step ws h) (rw (lt-ltb q (p * count (flatIn (inside ws))) l))
-
-  pub prefix-later : p * count (flatIn (inside ws)) ≤ q → prefixIn (listsIn ws) p q ≡ prefixIn (listsIn (drop (ends ws) ws)) p (q - p * count (flatIn (inside ws)))
-  unfolding prefixIn
-  prefix-later l = rw (lists-step ws h) (rw (le-ltb q (p * count (flatIn (inside ws))) l))
-
   pub piece-here : q < p * count (flatIn (inside ws)) → pieceIn (listsIn ws) p q ≡ literalAt (flatIn (inside ws)) (q % count (flatIn (inside ws)))
   unfolding pieceIn
   piece-here l = rw (lists-step ws h) (rw (lt-ltb q (p * count (flatIn (inside ws))) l))
@@ -36,24 +31,11 @@ module _ (ws : List ℕ) (h : 4 ≤ length ws) (p q : ℕ) where
   unfolding pieceIn
   piece-later l = rw (lists-step ws h) (rw (le-ltb q (p * count (flatIn (inside ws))) l))
 
-pub count-lists : (ws : List ℕ) → 4 ≤ length ws → countIn (listsIn ws) ≡ count (flatIn (inside ws)) + countIn (listsIn (drop (ends ws) ws))
-unfolding count
-count-lists ws h = rw (lists-step ws h)
-
-pub prefix-end : (ws : List ℕ) → length ws < 4 → (p q : ℕ) → prefixIn (listsIn ws) p q ≡ 0
-unfolding prefixIn
-prefix-end ws h p q = rw (lists-end ws h)
-
 pub piece-end : (ws : List ℕ) → length ws < 4 → (p q : ℕ) → pieceIn (listsIn ws) p q ≡ []
 unfolding pieceIn
 piece-end ws h p q = rw (lists-end ws h)
 
 -- ---- an entry
-
-entry-prefix : (k v m : ℕ) (p q : ℕ) → prefixOf (entryToken k v m) p q ≡ q / countOf (entryToken k v m)
-unfolding prefixOf
-entry-prefix =
-    entry-cases (λ t. (p q : ℕ) → prefixOf t p q ≡ q / countOf t) (λ v p q. refl) (λ v p q. refl) (λ v m p q. refl) (λ v m p q. refl) (λ p q. refl)
 
 entry-piece : (k v m : ℕ) (p q : ℕ) → pieceOf (entryToken k v m) p q ≡ getD (taken (entryToken k v m)) (q % countOf (entryToken k v m)) 0 ∷ []
 unfolding pieceOf
@@ -109,32 +91,14 @@ flat-count ws h = rw (flat-step ws h)
 
 -- ---- tokens
 
-pub prefix-inside : (ws : List ℕ) → getD ws 0 0 ≡ 5 → (p q : ℕ) → prefixOf (tokenIn ws) p q ≡ prefixIn (listsIn (inside ws)) p q
-unfolding prefixOf
-prefix-inside ws e p q = ap (λ (t : Token). prefixOf t p q) (token-alternatives ws e)
-
 pub piece-inside : (ws : List ℕ) → getD ws 0 0 ≡ 5 → (p q : ℕ) → pieceOf (tokenIn ws) p q ≡ pieceIn (listsIn (inside ws)) p q
 unfolding pieceOf
 piece-inside ws e p q = ap (λ (t : Token). pieceOf t p q) (token-alternatives ws e)
-
-pub prefix-entry : (ws : List ℕ) → (getD ws 0 0 ≡ 5 → ⊥) → (p q : ℕ) → prefixOf (tokenIn ws) p q ≡ q / length (taken (firstEntry ws))
-prefix-entry ws f p q =
-    ap (λ (t : Token). prefixOf t p q) (token-entry ws f) ∙ entry-prefix (getD ws 0 0) (getD ws 1 0) (getD ws 2 0) p q
-    ∙ ap (λ (x : ℕ). q / x) (entry-count (getD ws 0 0) (getD ws 1 0) (getD ws 2 0))
 
 pub piece-entry : (ws : List ℕ) → (getD ws 0 0 ≡ 5 → ⊥) → (p q : ℕ) → pieceOf (tokenIn ws) p q ≡ getD (taken (firstEntry ws)) (q % length (taken (firstEntry ws))) 0 ∷ []
 piece-entry ws f p q =
     ap (λ (t : Token). pieceOf t p q) (token-entry ws f) ∙ entry-piece (getD ws 0 0) (getD ws 1 0) (getD ws 2 0) p q
     ∙ ap (λ (x : ℕ). getD (taken (firstEntry ws)) (q % x) 0 ∷ []) (entry-count (getD ws 0 0) (getD ws 1 0) (getD ws 2 0))
-
-pub prefixed-end : (ws : List ℕ) → length ws < 4 → (p k : ℕ) → prefixed (tokensIn ws) p k ≡ k
-unfolding prefixed
-prefixed-end ws h p k = rw (tokens-end ws h)
-
-pub prefixed-step : (ws : List ℕ) → 4 ≤ length ws → (p k : ℕ)
-    → prefixed (tokensIn ws) p k ≡ prefixOf (tokenIn ws) p (prefixed (tokensIn (drop (width ws) ws)) (p * countOf (tokenIn ws)) k)
-unfolding prefixed
-prefixed-step ws h p k = rw (tokens-step ws h)
 
 pub ending-end : (ws : List ℕ) → length ws < 4 → (p k : ℕ) → ending (tokensIn ws) p k ≡ []
 unfolding ending
@@ -146,21 +110,7 @@ pub ending-step : (ws : List ℕ) → 4 ≤ length ws → (p k : ℕ)
 unfolding ending
 ending-step ws h p k = rw (tokens-step ws h)
 
-pub tokens-count : (ws : List ℕ) → 4 ≤ length ws → count (tokensIn ws) ≡ countOf (tokenIn ws) * count (tokensIn (drop (width ws) ws))
-unfolding count
-tokens-count ws h = rw (tokens-step ws h)
-
 -- ---- numbers
-
--- a factor of a product that is not 0 is at most the product
-pub factor-le : (a b n : ℕ) → a * b ≡ n → 0 < n → (0 < a) × (0 < b) × (a ≤ n) × (b ≤ n)
-factor-le a b n e h =
-    let z : 0 < b = pos-right 0 a b (omega arith) in
-    let y : 0 < a = pos-right 0 b a (let c = mul-comm b a in omega arith) in
-    let l : a ≤ a * b = le-mul-of-pos-right a z in
-    let m : b ≤ b * a = le-mul-of-pos-right b y in
-    let c = mul-comm b a in
-    (y, z, omega arith, omega arith)
 
 pub cap-exact : (r c : ℕ) → r ≡ min 257 c → c ≤ 256 → r ≡ c
 cap-exact r c e l = omega arith
@@ -168,40 +118,25 @@ cap-exact r c e l = omega arith
 -- ---- in the words of the code
 
 module _ (ws : List ℕ) (h : 4 ≤ length ws) (n e : ℕ) (ends-at : e ≡ ends ws) (counted : n ≡ min 257 (count (flatIn (take (e - 4) (drop 4 ws))))) (few : countIn (listsIn ws) ≤ 256) where
-  pub list-exact : n ≡ count (flatIn (inside ws))
-  list-exact =
-      let l : count (flatIn (inside ws)) ≤ 256 = omega (arith, count-lists ws h) in
-      let c : n ≡ min 257 (count (flatIn (inside ws))) = counted ∙ ap (λ (x : ℕ). min 257 (count (flatIn (take (x - 4) (drop 4 ws))))) ends-at in
-      omega arith
-
-  pub lists-few : countIn (listsIn (drop (ends ws) ws)) ≤ 256
-  lists-few = omega (arith, count-lists ws h)
-
-  pub prefix-found : (p q : ℕ) → q < p * n → prefixIn (listsIn ws) p q ≡ q / n
-  prefix-found p q l =
-      prefix-here ws h p q (subst (λ (x : ℕ). q < p * x) list-exact l) ∙ ap (λ (x : ℕ). q / x) (sym list-exact)
-
-  pub prefix-passed : (p q : ℕ) → p * n ≤ q → prefixIn (listsIn ws) p q ≡ prefixIn (listsIn (drop (ends ws) ws)) p (q - p * n)
-  prefix-passed p q l =
-      prefix-later ws h p q (subst (λ (x : ℕ). p * x ≤ q) list-exact l)
-      ∙ ap (λ (x : ℕ). prefixIn (listsIn (drop (ends ws) ws)) p (q - p * x)) (sym list-exact)
+  exact : n ≡ count (flatIn (inside ws))
+  exact = list-exact ws h n e ends-at counted few
 
   pub piece-found : (p q : ℕ) → q < p * n → pieceIn (listsIn ws) p q ≡ literalAt (flatIn (take (e - 4) (drop 4 ws))) (q % n)
   piece-found p q l =
-      piece-here ws h p q (subst (λ (x : ℕ). q < p * x) list-exact l)
-      ∙ ap₂ (λ (x y : ℕ). literalAt (flatIn (take (x - 4) (drop 4 ws))) (q % y)) (sym ends-at) (sym list-exact)
+      piece-here ws h p q (subst (λ (x : ℕ). q < p * x) exact l)
+      ∙ ap₂ (λ (x y : ℕ). literalAt (flatIn (take (x - 4) (drop 4 ws))) (q % y)) (sym ends-at) (sym exact)
 
   pub piece-passed : (p q : ℕ) → p * n ≤ q → pieceIn (listsIn ws) p q ≡ pieceIn (listsIn (drop (ends ws) ws)) p (q - p * n)
   piece-passed p q l =
-      piece-later ws h p q (subst (λ (x : ℕ). p * x ≤ q) list-exact l)
-      ∙ ap (λ (x : ℕ). pieceIn (listsIn (drop (ends ws) ws)) p (q - p * x)) (sym list-exact)
+      piece-later ws h p q (subst (λ (x : ℕ). p * x ≤ q) exact l)
+      ∙ ap (λ (x : ℕ). pieceIn (listsIn (drop (ends ws) ws)) p (q - p * x)) (sym exact)
 
   pub within-list : (p q : ℕ) → q < p * n → (q % n < count (flatIn (take (e - 4) (drop 4 ws)))) × (count (flatIn (take (e - 4) (drop 4 ws))) ≤ 256)
   within-list p q l =
       let z : 0 < n = pos-right q p n l in
       let m : q % n < n = mod-lt q z in
       let f : count (flatIn (take (e - 4) (drop 4 ws))) ≡ count (flatIn (inside ws)) = ap (λ (x : ℕ). count (flatIn (take (x - 4) (drop 4 ws)))) ends-at in
-      let g = list-exact in
+      let g = exact in
       let k : count (flatIn (inside ws)) ≤ 256 = omega (arith, count-lists ws h) in
       (omega arith, omega arith)
 
@@ -231,108 +166,6 @@ module _ (ws : List ℕ) (h : 4 ≤ length ws) (c n : ℕ) (c-is : c ≡ length 
       flat-more ws k h
       ∙ ap₂ (λ (x y : ℕ). getD (taken (firstEntry ws)) (k / x % y) 0 ∷ literalAt (flatIn (drop 4 ws)) k) (sym rest-is)
       (entry-count (getD ws 0 0) (getD ws 1 0) (getD ws 2 0) ∙ sym c-is)
-
-pub inside-few : (ws : List ℕ) → getD ws 0 0 ≡ 5 → countOf (tokenIn ws) ≤ 256 → (e : ℕ) → e ≡ ends ws → countIn (listsIn (take (e - 4) (drop 4 ws))) ≤ 256
-inside-few ws k l e g =
-    let a = token-count-inside ws k in
-    let b : countIn (listsIn (take (e - 4) (drop 4 ws))) ≡ countIn (listsIn (inside ws)) = ap (λ (x : ℕ). countIn (listsIn (take (x - 4) (drop 4 ws)))) g in
-    omega arith
-
--- at a token: p prefixes before it, and c literals of its own
-module _ (ws : List ℕ) (h : 4 ≤ length ws) (p : ℕ) (num : Numerable p (count (tokensIn ws))) (c : ℕ) (c-is : c ≡ min 257 (countOf (tokenIn ws))) where
-  token-product : p * (countOf (tokenIn ws) * count (tokensIn (drop (width ws) ws))) ≡ p * count (tokensIn ws)
-  token-product = ap (λ (x : ℕ). p * x) (sym (tokens-count ws h))
-
-  token-bounds : (p ≤ 256) × (countOf (tokenIn ws) ≤ 256)
-  token-bounds =
-      let R = count (tokensIn (drop (width ws) ws)) in
-      let f = factor-le p (countOf (tokenIn ws) * R) (p * count (tokensIn ws)) token-product (num .some) in
-      let g = factor-le (countOf (tokenIn ws)) R (countOf (tokenIn ws) * R) refl (f .1) in
-      let a : p ≤ p * count (tokensIn ws) = f .2 in
-      let b : countOf (tokenIn ws) * R ≤ p * count (tokensIn ws) = f .3 in
-      let d : countOf (tokenIn ws) ≤ countOf (tokenIn ws) * R = g .2 in
-      let n : p * count (tokensIn ws) ≤ 256 = num .few in
-      (omega arith, omega arith)
-
-  pub prefixes-few : p ≤ 256
-  prefixes-few = token-bounds .0
-
-  pub token-few : countOf (tokenIn ws) ≤ 256
-  token-few = token-bounds .1
-
-  pub token-exact : c ≡ countOf (tokenIn ws)
-  token-exact = let l = token-bounds .1 in omega arith
-
-  after-product : p * c * count (tokensIn (drop (width ws) ws)) ≡ p * count (tokensIn ws)
-  after-product =
-      ap (λ (x : ℕ). p * x * count (tokensIn (drop (width ws) ws))) token-exact ∙ mul-assoc p (countOf (tokenIn ws)) (count (tokensIn (drop (width ws) ws))) ∙ token-product
-
-  pub after-numerable : Numerable (p * c) (count (tokensIn (drop (width ws) ws)))
-  after-numerable =
-      record {
-        some = subst (λ (x : ℕ). 0 < x) (sym after-product) (num .some);
-        few = subst (λ (x : ℕ). x ≤ 256) (sym after-product) (num .few);
-      }
-
-  pub after-below : (k : ℕ) → k < p * count (tokensIn ws) → k < p * c * count (tokensIn (drop (width ws) ws))
-  after-below k = subst (λ (x : ℕ). k < x) (sym after-product)
-
-  pub c-le : c ≤ 257
-  c-le = omega arith
-
--- ---- a token with one literal has it at every number
-
-prefixed-below : (ts : Tokens) (p k : ℕ) → k < p * count ts → prefixed ts p k < p
-prefixed-below ts p k =
-    subst (λ (x : ℕ). k < x * count ts → prefixed ts x k < x) (length-replicate p []) (λ h. spelt-numbered ts (replicate p []) k h .within)
-
-module _ (ts : Tokens) (ls : Lists) (p : ℕ) where
-  only-here : count ts ≡ 1 → (q : ℕ) → q < p → pieceIn (ts or ls) p q ≡ ending ts 1 0
-  unfolding pieceIn
-  only-here e q l =
-      let z : p * count ts ≡ p = ap (λ (x : ℕ). p * x) e ∙ mul-one p in
-      rw (lt-ltb q (p * count ts) (omega arith)) (ap (ending ts 1) (ap (λ (x : ℕ). q % x) e ∙ mod-one q))
-
-  only-later : count ts ≡ 0 → (q : ℕ) → pieceIn (ts or ls) p q ≡ pieceIn ls p q
-  unfolding pieceIn
-  only-later e q =
-      let z : p * count ts ≡ 0 = ap (λ (x : ℕ). p * x) e ∙ mul-zero p in
-      let s : q - p * count ts ≡ q = omega arith in
-      rw (le-ltb q (p * count ts) (omega arith)) (ap (pieceIn ls p) s)
-
-single-in : (ls : Lists) → countIn ls ≡ 1 → (p q r : ℕ) → q < p → r < p → pieceIn ls p q ≡ pieceIn ls p r
-unfolding count
-single-in neither e p q r h g = absurd (omega arith)
-single-in (ts or ls) e p q r h g = go (count ts) refl (λ d. single-in ls d p q r h g)
-  where
-    go : (n : ℕ) → count ts ≡ n → (countIn ls ≡ 1 → pieceIn ls p q ≡ pieceIn ls p r) → pieceIn (ts or ls) p q ≡ pieceIn (ts or ls) p r
-    go zero d f = only-later ts ls p d q ∙ f (omega arith) ∙ sym (only-later ts ls p d r)
-    go (suc n) d f = let one : count ts ≡ 1 = omega arith in only-here ts ls p one q h ∙ sym (only-here ts ls p one r g)
-
-single-piece : (t : Token) → countOf t ≡ 1 → (p q r : ℕ) → q < p → r < p → pieceOf t p q ≡ pieceOf t p r
-unfolding pieceOf countOf
-single-piece t e p q r h g = go t e
-  where
-    same : (n : ℕ) → n ≡ 1 → (l : List ℕ) → getD l (q % n) 0 ∷ [] ≡ getD l (r % n) 0 ∷ []
-    same n d l = ap (λ (x : ℕ). getD l x 0 ∷ []) (ap (λ (x : ℕ). q % x) d ∙ mod-one q ∙ sym (ap (λ (x : ℕ). r % x) d ∙ mod-one r))
-
-    go : (s : Token) → countOf s ≡ 1 → pieceOf s p q ≡ pieceOf s p r
-    go (Byte v) d = same (countOf (Byte v)) d (taken (Byte v))
-    go (NotByte v) d = same (countOf (NotByte v)) d (taken (NotByte v))
-    go (MaskedByte v m) d = same (countOf (MaskedByte v m)) d (taken (MaskedByte v m))
-    go (NotMaskedByte v m) d = same (countOf (NotMaskedByte v m)) d (taken (NotMaskedByte v m))
-    go (Jump a b) d = same (countOf (Jump a b)) d (taken (Jump a b))
-    go (Alternatives ls) d = single-in ls d p q r h g
-
-pub single-any : (ws : List ℕ) → 4 ≤ length ws → (p n k : ℕ) → Numerable p (count (tokensIn ws)) → n ≡ min 257 (countOf (tokenIn ws)) → k < p * count (tokensIn ws) → n ≡ 1
-    → pieceOf (tokenIn ws) p 0 ≡ pieceOf (tokenIn ws) p (prefixed (tokensIn (drop (width ws) ws)) (p * countOf (tokenIn ws)) k)
-single-any ws h p n k num e l o =
-    let R = tokensIn (drop (width ws) ws) in
-    let one : countOf (tokenIn ws) ≡ 1 = omega arith in
-    let same : p * countOf (tokenIn ws) ≡ p = ap (λ (x : ℕ). p * x) one ∙ mul-one p in
-    let product : p * countOf (tokenIn ws) * count R ≡ p * count (tokensIn ws) = mul-assoc p (countOf (tokenIn ws)) (count R) ∙ ap (λ (x : ℕ). p * x) (sym (tokens-count ws h)) in
-    let below : prefixed R (p * countOf (tokenIn ws)) k < p * countOf (tokenIn ws) = prefixed-below R (p * countOf (tokenIn ws)) k (omega arith) in
-    single-piece (tokenIn ws) one p 0 (prefixed R (p * countOf (tokenIn ws)) k) (omega arith) (omega arith)
 
 pub byte-piece : (ws : List ℕ) → getD ws 0 0 ≡ 0 → (p q : ℕ) → pieceOf (tokenIn ws) p q ≡ getD ws 1 0 % 256 ∷ []
 byte-piece ws e p q =
@@ -365,42 +198,3 @@ number-fits ws q n e z = let l : q % n < n = mod-lt q z in omega arith
 
 pub piece-is-byte : (ws : List ℕ) → (getD ws 0 0 ≡ 5 → ⊥) → (p q n b : ℕ) → n ≡ length (taken (firstEntry ws)) → b ≡ getD (taken (firstEntry ws)) (q % n) 0 → pieceOf (tokenIn ws) p q ≡ b ∷ []
 piece-is-byte ws f p q n b e g = piece-entry ws f p q ∙ ap (λ (x : ℕ). getD (taken (firstEntry ws)) (q % x) 0 ∷ []) (sym e) ∙ ap (λ (x : ℕ). x ∷ []) (sym g)
-
--- ---- bytes passed over
-
--- a byte at the front: one literal, four words
-module _ (ws : List ℕ) (h : 4 ≤ length ws) (e : getD ws 0 0 ≡ 0) where
-  no-alternatives : getD ws 0 0 ≡ 5 → ⊥
-  no-alternatives g = omega arith
-
-  one-taken : length (taken (firstEntry ws)) ≡ 1
-  one-taken = ap length (byte-taken (getD ws 0 0) (getD ws 1 0) (getD ws 2 0) e)
-
-  one-literal : countOf (tokenIn ws) ≡ 1
-  one-literal = token-count-entry ws no-alternatives ∙ one-taken
-
-  four-words : drop (width ws) ws ≡ drop 4 ws
-  four-words = ap (λ (n : ℕ). drop n ws) (width-entry ws no-alternatives)
-
-  pub byte-counted : count (tokensIn ws) ≡ count (tokensIn (drop 4 ws))
-  byte-counted =
-      tokens-count ws h ∙ ap₂ (λ (x : ℕ) (l : List ℕ). x * count (tokensIn l)) one-literal four-words ∙ one-mul (count (tokensIn (drop 4 ws)))
-
-  pub byte-numbered : (p k : ℕ) → prefixed (tokensIn ws) p k ≡ prefixed (tokensIn (drop 4 ws)) p k
-  byte-numbered p k =
-      prefixed-step ws h p k ∙ prefix-entry ws no-alternatives p (prefixed (tokensIn (drop (width ws) ws)) (p * countOf (tokenIn ws)) k)
-      ∙ ap (λ (x : ℕ). prefixed (tokensIn (drop (width ws) ws)) (p * countOf (tokenIn ws)) k / x) one-taken
-      ∙ div-one (prefixed (tokensIn (drop (width ws) ws)) (p * countOf (tokenIn ws)) k)
-      ∙ ap₂ (λ (x : ℕ) (l : List ℕ). prefixed (tokensIn l) (p * x) k) one-literal four-words ∙ ap (λ (x : ℕ). prefixed (tokensIn (drop 4 ws)) x k) (mul-one p)
-
-pub past-more : (ws rest : List ℕ) → Past ws rest → 4 ≤ length rest → getD rest 0 0 ≡ 0 → Past ws (drop 4 rest)
-past-more ws rest g h e =
-    let l : length rest ≤ length ws = g .short in
-    record {
-      short = omega (arith, length-drop 4 rest);
-      counted = g .counted ∙ byte-counted rest h e;
-      numbered = λ p k. g .numbered p k ∙ byte-numbered rest h e p k;
-    }
-
-pub past-numerable : (ws rest : List ℕ) → Past ws rest → (p : ℕ) → Numerable p (count (tokensIn ws)) → Numerable p (count (tokensIn rest))
-past-numerable ws rest g p = subst (λ (n : ℕ). Numerable p n) (g .counted)

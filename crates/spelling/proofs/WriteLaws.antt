@@ -7,7 +7,7 @@ use lib.ListN.{length, take, drop, set, take-append-drop, length-drop, length-ap
 use lib.Seq.{length-take-le, take-all, take-at, drop-at, set-at, drop-cons}
 use borrow.Rule.Slice.PartMut.{putMid}
 use Rattle.base.proofs.LentLaws.{lent-rest}
-use Rattle.spelling.specs.Tallies.{Written}
+use Rattle.spelling.specs.Writing.{Written}
 
 -- the first i bytes of a literal are written over the first of what was there, and `left` is to come
 pub record Halfway (literal left : List ℕ) (i : ℕ) (was is : List ℕ) : Type 0 where

@@ -1,3 +1,1 @@
-pub mod Words
-pub mod Classes
-pub mod Tallies
+pub mod Writing

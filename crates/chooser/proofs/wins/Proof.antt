@@ -1,7 +1,7 @@
 -- `chooser::wins` meets its contract. Assumes nothing.
 use borrow.Author.Needs.{needs}
 use Prim.Native.Nat.{_-_}
-use Rattle.spelling.specs.Words.{tokensIn}
+use Rattle.entries.specs.Words.{tokensIn}
 use Rattle.chooser.proofs.ShiftLaws as shift
 use Rattle.chooser.proofs.wins.Statement.{statement}
 use Rattle.chooser.proofs.wins.Tie as tie

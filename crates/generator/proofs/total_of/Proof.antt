@@ -4,7 +4,7 @@ use Prim.Native.Nat.{_+_, _-_, _*_, _≤_}
 use mathlib.Core.Path.{_≡_}
 use lib.ListN.{length, drop}
 use Rattle.picking.specs.Literals.{literals}
-use Rattle.spelling.specs.Words.{tokensIn}
+use Rattle.entries.specs.Words.{tokensIn}
 use Rattle.generator.proofs.OutputLaws as law
 use native.Mathlib.Omega.{arith}
 use borrow.Author.Needs.{needs}

@@ -3,7 +3,7 @@ use mathlib.Core.Path.{ap, _∙_}
 use Prim.Native.Nat.{ℕ}
 use native.Mathlib.Nat.{zero-add}
 use lib.ListN.{length}
-use Rattle.printing.specs.Listed.{listedOf}
+use Rattle.lines.specs.Listed.{listedOf}
 use Rattle.printing.proofs.LaidLaws.{put-length}
 use Rattle.lister.specs.Listings.{listingOf}
 use borrow.Author.Needs.{needs}

@@ -3,7 +3,7 @@ use mathlib.Core.Path.{ap, _∙_}
 use Prim.Native.Nat.{ℕ}
 use Rattle.base.specs.Refusals.{numberOf}
 use Rattle.reading.specs.Lists.{reading}
-use Rattle.printing.specs.Lines.{refusedLine}
+use Rattle.lines.specs.Lines.{refusedLine}
 use Rattle.printing.proofs.LaidLaws.{put-then, put-same}
 use Rattle.lister.specs.Listings.{listingOf}
 use Rattle.lister.proofs.DoorLaws.{Made, made-door, refused-door, made-lines, refused-lines, made-sizes, programs-end, zeros, length-zeros}
@@ -14,10 +14,10 @@ use Rattle.lister.proofs.put_listing.Tie as tie
 use Rattle.lister.proofs.put_listing.Reads as reads
 use Rattle.lister.proofs.put_listing.Lts as lts
 use Rattle.compiledoor.proofs.compile.Reads as compile-reads
-use Rattle.printing.proofs.put_programs.Reads as put-programs-reads
+use Rattle.lines.proofs.put_programs.Reads as put-programs-reads
 use Rattle.lister.proofs.put_picked.Reads as put-picked-reads
 use Rattle.base.proofs.Refusal.number.Reads as number-reads
-use Rattle.printing.proofs.put_refused.Reads as put-refused-reads
+use Rattle.lines.proofs.put_refused.Reads as put-refused-reads
 
 abbrev claims : lts.Claims
 claims = (compile-reads.Asked, compile-reads.Learnt, put-programs-reads.Asked, put-programs-reads.Learnt, put-picked-reads.Asked, put-picked-reads.Learnt, number-reads.Asked, number-reads.Learnt, put-refused-reads.Asked, put-refused-reads.Learnt)

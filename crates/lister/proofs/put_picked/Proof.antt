@@ -3,7 +3,7 @@ use mathlib.Core.Path.{_≡_, ap, _∙_}
 use lib.ListN.{length}
 use Rattle.base.specs.Refusals.{numberOf}
 use Rattle.reading.specs.Lists.{reading}
-use Rattle.printing.specs.Lines.{literalsRefusedLine, pickedLines}
+use Rattle.lines.specs.Lines.{literalsRefusedLine, pickedLines}
 use Rattle.printing.proofs.LaidLaws.{put-same}
 use Rattle.lister.specs.Listings.{pickedOf}
 use Rattle.lister.proofs.DoorLaws.{Taken, taken-door, untaken-door, taken-lines, untaken-lines, taken-size, zeros, length-zeros}
@@ -14,9 +14,9 @@ use Rattle.lister.proofs.put_picked.Tie as tie
 use Rattle.lister.proofs.put_picked.Reads as reads
 use Rattle.lister.proofs.put_picked.Lts as lts
 use Rattle.literaldoor.proofs.literals.Reads as literals-reads
-use Rattle.printing.proofs.put_literals.Reads as put-literals-reads
+use Rattle.lines.proofs.put_literals.Reads as put-literals-reads
 use Rattle.base.proofs.Refusal.number.Reads as number-reads
-use Rattle.printing.proofs.put_literals_refused.Reads as put-literals-refused-reads
+use Rattle.lines.proofs.put_literals_refused.Reads as put-literals-refused-reads
 
 abbrev claims : lts.Claims
 claims = (literals-reads.Asked, literals-reads.Learnt, put-literals-reads.Asked, put-literals-reads.Learnt, number-reads.Asked, number-reads.Learnt, put-literals-refused-reads.Asked, put-literals-refused-reads.Learnt)

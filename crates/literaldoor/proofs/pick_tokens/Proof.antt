@@ -4,7 +4,7 @@ use borrow.Author.Tests.{not-true, not-false}
 use Rattle.literaldoor.proofs.DoorLaws as law
 use Rattle.literaldoor.specs.Door.{said}
 use Rattle.literals.specs.Ranks.{choiceSays}
-use Rattle.spelling.specs.Words.{tokensIn}
+use Rattle.entries.specs.Words.{tokensIn}
 use Prim.Native.Nat.{_-_}
 use mathlib.Core.Path.{sym, _∙_}
 use Rattle.literaldoor.proofs.pick_tokens.Statement.{statement}

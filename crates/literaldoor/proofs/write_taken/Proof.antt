@@ -2,7 +2,7 @@
 use borrow.Author.Needs.{needs}
 use Rattle.literaldoor.proofs.DoorLaws as law
 use Rattle.picking.specs.Literals.{literals as literalsOf}
-use Rattle.spelling.specs.Words.{tokensIn}
+use Rattle.entries.specs.Words.{tokensIn}
 use Prim.Native.Nat.{_-_}
 use Rattle.literaldoor.proofs.write_taken.Statement.{statement}
 use Rattle.literaldoor.proofs.write_taken.Tie as tie

@@ -1,7 +1,7 @@
 -- `literals::byte_words` meets its contract. Assumes nothing.
 use Rattle.literals.specs.Whole.{byteEnd}
 use Rattle.literals.proofs.PartLaws as parts
-use Rattle.spelling.proofs.PartLaws as part
+use Rattle.entries.proofs.PartLaws as part
 use lib.ListN.{length}
 use mathlib.Core.Path.{_≡_, sym, ap, _∙_}
 use mathlib.Core.List.{List}

@@ -1,5 +1,5 @@
 -- `literals::longer_slices` meets its contract. Assumes nothing.
-use Rattle.spelling.proofs.PartLaws.{part-long}
+use Rattle.entries.proofs.PartLaws.{part-long}
 use lib.ListN.{length, drop, length-drop, length-take}
 use Rattle.literals.specs.Ranks.{choiceSays}
 use Rattle.literals.proofs.LongerLaws.{Going}

@@ -1,5 +1,5 @@
 -- `literals::rank_of` meets its contract. Assumes nothing.
-use Rattle.spelling.specs.Words.{tokensIn}
+use Rattle.entries.specs.Words.{tokensIn}
 use mathlib.Core.Path.{refl}
 use Rattle.literals.specs.declared.Rank.the-variants.{Skipped, TooMany}
 use Rattle.literals.proofs.RankLaws as law

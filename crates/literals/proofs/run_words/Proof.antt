@@ -2,8 +2,8 @@
 use native.Mathlib.Nat.{add-assoc}
 use Rattle.literals.specs.Whole.{runEnd}
 use lib.ListN.{length, drop}
-use Rattle.spelling.proofs.StepLaws as step
-use Rattle.spelling.proofs.PartLaws as part
+use Rattle.entries.proofs.StepLaws as step
+use Rattle.entries.proofs.PartLaws as part
 use Rattle.literals.proofs.SegmentLaws as law
 use mathlib.Core.Path.{_≡_, sym, ap, ap₂, _∙_}
 use mathlib.Core.List.{List}

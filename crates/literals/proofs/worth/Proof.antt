@@ -1,5 +1,5 @@
 -- `literals::worth` meets its contract. Assumes nothing.
-use Rattle.spelling.specs.Words.{tokensIn}
+use Rattle.entries.specs.Words.{tokensIn}
 use Rattle.picking.specs.Choice.{lowest, least}
 use Rattle.picking.specs.Literals.{literals}
 use Rattle.atoms.specs.Score.{literalScore}

@@ -1,16 +1,17 @@
 -- `spelling::write_branch` meets its contract. Assumes nothing.
 use Prim.Native.Nat.{_%_}
-use Rattle.spelling.specs.Tallies.{Written}
+use Rattle.spelling.specs.Writing.{Written}
 use Rattle.picking.proofs.NumberLaws.{pos-right}
 use native.Mathlib.Nat.{mul-le-mul}
 use Rattle.picking.specs.Numbers.{countIn, pieceIn, literalAt}
 use Rattle.spelling.proofs.WriteLaws as write
+use Rattle.prefixes.proofs.PrefixLaws as prefix
 use Rattle.spelling.proofs.SpellLaws as spell
-use Rattle.spelling.proofs.StepLaws as step
-use Rattle.spelling.specs.Words.{flatIn, listsIn}
+use Rattle.entries.proofs.StepLaws as step
+use Rattle.entries.specs.Words.{flatIn, listsIn}
 use lib.ListN.{length, take, drop}
 use mathlib.Core.Path.{_≡_, refl, sym, ap, _∙_, subst}
-use Rattle.spelling.proofs.PartLaws as part
+use Rattle.entries.proofs.PartLaws as part
 use mathlib.Core.List.{List}
 use Prim.Native.Nat.{ℕ, _-_, _*_, _≤_}
 use native.Mathlib.Omega.{arith}
@@ -169,7 +170,7 @@ loop-again c =
       at-loop .inv .1,
       subst (λ (l : List ℕ). countIn (listsIn l) ≤ 256)
           (ap (λ (x : ℕ). drop x (at-loop .rest .now)) (sym (at-end-of .ensures)) ∙ sym (part.part-all (at-end-of .result) (at-loop .rest .now)))
-          (spell.lists-few (at-loop .rest .now) (at-loop-test .taken) _ _ (at-end-of .ensures) (at-count-list .ensures) (at-loop .inv .2)),
+          (prefix.lists-few (at-loop .rest .now) (at-loop-test .taken) _ _ (at-end-of .ensures) (at-count-list .ensures) (at-loop .inv .2)),
       at-loop .inv .3
           ∙ spell.piece-passed (at-loop .rest .now) (at-loop-test .taken) _ _ (at-end-of .ensures) (at-count-list .ensures) (at-loop .inv .2) (at-start .args .p) (at-loop .left) (at-if1 .left)
           ∙ ap (λ (l : List ℕ). pieceIn (listsIn l) (at-start .args .p) (at-loop .left - at-start .args .p * at-count-list .result))

@@ -4,10 +4,10 @@ use Rattle.spelling.proofs.WriteLaws.{Halfway}
 use Rattle.picking.specs.Numbers.{count, literalAt}
 use Rattle.spelling.proofs.WriteLaws as write
 use Rattle.spelling.proofs.SpellLaws as spell
-use Rattle.spelling.specs.Words.{flatIn}
+use Rattle.entries.specs.Words.{flatIn}
 use lib.ListN.{length, drop}
 use mathlib.Core.Path.{_≡_, sym, ap, _∙_, subst}
-use Rattle.spelling.proofs.PartLaws as part
+use Rattle.entries.proofs.PartLaws as part
 use mathlib.Core.List.{List}
 use Prim.Native.Nat.{ℕ, _+_, _-_, _≤_, _<_}
 use native.Mathlib.Omega.{arith}

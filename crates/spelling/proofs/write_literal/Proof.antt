@@ -4,15 +4,16 @@ use mathlib.Core.List.{_++_}
 use mathlib.Core.Path.{subst₂}
 use native.Mathlib.Nat.{mul-le-mul}
 use Rattle.spelling.proofs.WriteLaws.{Halfway}
-use Rattle.spelling.specs.Tallies.{Numerable}
+use Rattle.prefixes.specs.Numbers.{Numerable}
 use Rattle.picking.specs.Numbers.{countOf, count, pieceOf, ending, literalAt}
 use Rattle.spelling.proofs.WriteLaws as write
+use Rattle.prefixes.proofs.PrefixLaws as prefix
 use Rattle.spelling.proofs.SpellLaws as spell
-use Rattle.spelling.proofs.StepLaws as step
-use Rattle.spelling.specs.Words.{tokenIn, tokensIn, width}
+use Rattle.entries.proofs.StepLaws as step
+use Rattle.entries.specs.Words.{tokenIn, tokensIn, width}
 use lib.ListN.{length, drop}
 use mathlib.Core.Path.{sym, ap, _∙_, subst}
-use Rattle.spelling.proofs.PartLaws as part
+use Rattle.entries.proofs.PartLaws as part
 use mathlib.Core.List.{List}
 use Prim.Native.Nat.{ℕ, _+_, _-_, _*_, _≤_, _<_}
 use native.Mathlib.Omega.{arith}
@@ -81,10 +82,10 @@ write-piece-requires c κs =
     let at-start = c .before .before .before .before .before .before .before in
     record {
       entry = (at-loop-test .taken);
-      prefixes = spell.prefixes-few (at-loop .rest .now) (at-loop-test .taken) (at-loop .p) (at-loop .inv .1) (at-tally-token .result .literals)
+      prefixes = prefix.prefixes-few (at-loop .rest .now) (at-loop-test .taken) (at-loop .p) (at-loop .inv .1) (at-tally-token .result .literals)
           (at-tally-token .ensures .literals-are);
       some = spell.token-some (at-loop .rest .now) (at-loop-test .taken) (at-loop .p) (at-loop .inv .1);
-      few = spell.token-few (at-loop .rest .now)
+      few = prefix.token-few (at-loop .rest .now)
           (at-loop-test .taken) (at-loop .p) (at-loop .inv .1) (at-tally-token .result .literals) (at-tally-token .ensures .literals-are);
       fits =
           (write.room-piece (literalAt (tokensIn (at-start .args .ws .now)) (at-start .args .k)) (pieceOf (tokenIn (at-loop .rest .now)) (at-loop .p) (at-number-of .result))
@@ -122,7 +123,7 @@ mul-p c =
     let at-tally-token = c .before .before .before .before .before .before .tally-token in
     let at-loop-test = c .before .before .before .before .before .before .before .loop-test in
     let at-loop = c .before .before .before .before .before .before .before .before .loop in
-    omega (arith, mul-le-mul (spell.prefixes-few (at-loop .rest .now) (at-loop-test .taken) (at-loop .p) (at-loop .inv .1) (at-tally-token .result .literals) (at-tally-token .ensures .literals-are)) (spell.c-le (at-loop .rest .now) (at-loop-test .taken) (at-loop .p) (at-loop .inv .1) (at-tally-token .result .literals) (at-tally-token .ensures .literals-are)))
+    omega (arith, mul-le-mul (prefix.prefixes-few (at-loop .rest .now) (at-loop-test .taken) (at-loop .p) (at-loop .inv .1) (at-tally-token .result .literals) (at-tally-token .ensures .literals-are)) (prefix.c-le (at-loop .rest .now) (at-loop-test .taken) (at-loop .p) (at-loop .inv .1) (at-tally-token .result .literals) (at-tally-token .ensures .literals-are)))
 
 width-of-requires : tie.Need-width-of-requires Inv-loop μ-loop
 width-of-requires c κs = search needs
@@ -170,12 +171,12 @@ loop-again c =
       omega (arith, part.part-le (at-width-of .result) (at-loop .rest .now)),
       subst (λ (l : List ℕ). Numerable (at-loop .p * at-tally-token .result .literals) (count (tokensIn l)))
           (ap (λ (x : ℕ). drop x (at-loop .rest .now)) (sym (at-width-of .ensures)) ∙ sym (part.part-all (at-width-of .result) (at-loop .rest .now)))
-          (spell.after-numerable (at-loop .rest .now) (at-loop-test .taken) (at-loop .p) (at-loop .inv .1) (at-tally-token .result .literals) (at-tally-token .ensures .literals-are)),
+          (prefix.after-numerable (at-loop .rest .now) (at-loop-test .taken) (at-loop .p) (at-loop .inv .1) (at-tally-token .result .literals) (at-tally-token .ensures .literals-are)),
       subst₂
           (λ (l : List ℕ) (x : ℕ). Halfway (literalAt (tokensIn (at-start .args .ws .now)) (at-start .args .k)) (ending (tokensIn l) (at-loop .p * x) (at-start .args .k))
           (at-loop .i + at-write-piece .result) (at-start .args .dst .now) (putMid (at-loop .i) (length (at-loop .dst) - at-loop .i) (at-loop .dst) (at-write-piece .last .1 .1 .1 .0)))
           (ap (λ (x : ℕ). drop x (at-loop .rest .now)) (sym (at-width-of .ensures)) ∙ sym (part.part-all (at-width-of .result) (at-loop .rest .now)))
-          (sym (spell.token-exact (at-loop .rest .now) (at-loop-test .taken) (at-loop .p) (at-loop .inv .1) (at-tally-token .result .literals) (at-tally-token .ensures .literals-are)))
+          (sym (prefix.token-exact (at-loop .rest .now) (at-loop-test .taken) (at-loop .p) (at-loop .inv .1) (at-tally-token .result .literals) (at-tally-token .ensures .literals-are)))
           (write.piece-more (literalAt (tokensIn (at-start .args .ws .now)) (at-start .args .k)) (pieceOf (tokenIn (at-loop .rest .now)) (at-loop .p) (at-number-of .result))
           (ending (tokensIn (drop (width (at-loop .rest .now)) (at-loop .rest .now))) (at-loop .p * countOf (tokenIn (at-loop .rest .now))) (at-start .args .k)) (at-write-piece .result) (at-loop .i)
           (at-start .args .dst .now) (at-loop .dst) (at-write-piece .last .1 .1 .1 .0)
@@ -185,7 +186,7 @@ loop-again c =
           (sym (at-number-of .ensures))) (at-loop .inv .2)) (at-write-piece .ensures)),
       subst (λ (l : List ℕ). at-start .args .k < at-loop .p * at-tally-token .result .literals * count (tokensIn l))
           (ap (λ (x : ℕ). drop x (at-loop .rest .now)) (sym (at-width-of .ensures)) ∙ sym (part.part-all (at-width-of .result) (at-loop .rest .now)))
-          (spell.after-below (at-loop .rest .now) (at-loop-test .taken) (at-loop .p) (at-loop .inv .1) (at-tally-token .result .literals) (at-tally-token .ensures .literals-are) (at-start .args .k)
+          (prefix.after-below (at-loop .rest .now) (at-loop-test .taken) (at-loop .p) (at-loop .inv .1) (at-tally-token .result .literals) (at-tally-token .ensures .literals-are) (at-start .args .k)
           (at-loop .inv .3)),
     )
 

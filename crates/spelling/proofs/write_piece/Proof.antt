@@ -1,11 +1,12 @@
 -- `spelling::write_piece` meets its contract. Assumes nothing.
 use lib.ListN.{set}
-use Rattle.spelling.specs.Tallies.{Written}
+use Rattle.spelling.specs.Writing.{Written}
 use Rattle.picking.specs.Numbers.{pieceIn}
 use Rattle.spelling.proofs.WriteLaws as write
+use Rattle.prefixes.proofs.PrefixLaws as prefix
 use Rattle.spelling.proofs.SpellLaws as spell
-use Rattle.spelling.proofs.StepLaws as step
-use Rattle.spelling.specs.Words.{listsIn}
+use Rattle.entries.proofs.StepLaws as step
+use Rattle.entries.specs.Words.{listsIn}
 use lib.ListN.{length, getD, take, drop}
 use mathlib.Core.Path.{sym, ap, _∙_, subst}
 use mathlib.Core.List.{List}
@@ -47,7 +48,7 @@ write-branch-requires c κs =
     let at-if1 = c .before .before .before .if1 in
     let at-start = c .before .before .before .before .before .before .before in (
       (at-start .pre) .prefixes,
-      spell.inside-few (at-start .args .ws .now) (at-if1 .taken) ((at-start .pre) .few) _ (at-end-of .ensures),
+      prefix.inside-few (at-start .args .ws .now) (at-if1 .taken) ((at-start .pre) .few) _ (at-end-of .ensures),
       subst
           (λ (l : List ℕ). length l ≤ length (at-start .args .dst .now))
           (spell.piece-inside (at-start .args .ws .now) (at-if1 .taken) (at-start .args .p) (at-start .args .q)

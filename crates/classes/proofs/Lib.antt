@@ -1,0 +1,4 @@
+-- The laws of one entry.
+pub mod KindLaws
+pub mod ClassLaws
+pub mod MemberLaws

@@ -1,0 +1,3 @@
+pub mod Lines
+pub mod Listed
+pub mod Samples

@@ -1,0 +1,2 @@
+-- The laws of prefixes and their numbers.
+pub mod PrefixLaws

@@ -1,0 +1,152 @@
+-- `prefixes::prefix_in` meets its contract. Assumes nothing.
+use Rattle.picking.proofs.NumberLaws.{pos-right}
+use native.Mathlib.Nat.{mul-le-mul}
+use Rattle.picking.specs.Numbers.{countIn, prefixIn}
+use Rattle.prefixes.proofs.PrefixLaws as prefix
+use Rattle.entries.proofs.StepLaws as step
+use Rattle.entries.specs.Words.{listsIn}
+use lib.ListN.{length, drop}
+use mathlib.Core.Path.{_≡_, refl, sym, ap, _∙_, subst}
+use Rattle.entries.proofs.PartLaws as part
+use mathlib.Core.List.{List}
+use Prim.Native.Nat.{ℕ, _-_, _*_, _≤_}
+use native.Mathlib.Omega.{arith}
+use borrow.Author.Needs.{needs}
+use Rattle.prefixes.proofs.prefix_in.Statement.{statement}
+use Rattle.prefixes.proofs.prefix_in.Tie as tie
+
+abbrev Inv-loop : tie.InvT-loop
+Inv-loop ls p q rest₀ left₀ rest left = (length rest ≤ length ls) × (countIn (listsIn rest) ≤ 256) × (prefixIn (listsIn ls) p q ≡ prefixIn (listsIn rest) p left)
+
+abbrev μ-loop : tie.MeasureT-loop
+μ-loop ls p q rest₀ left₀ rest left = length rest
+
+loop-holds : tie.Need-loop-holds Inv-loop μ-loop
+loop-holds c =
+    let at-start = c .before in
+    (omega arith, (at-start .pre) .1, refl)
+
+end-of-requires : tie.Need-end-of-requires Inv-loop μ-loop
+end-of-requires c κs = search needs
+
+sub-count-list : tie.Need-sub-count-list Inv-loop μ-loop
+sub-count-list c =
+    let at-end-of = c .end-of in
+    let at-loop-test = c .before .loop-test in
+    let at-loop = c .before .before .loop in
+    omega (arith, (at-end-of .ensures), (step.ends-long (at-loop .rest .now) (at-loop-test .taken)))
+
+part-count-list-start : tie.Need-part-count-list-start Inv-loop μ-loop
+part-count-list-start c =
+    let at-end-of = c .end-of in
+    let at-loop-test = c .before .loop-test in
+    let at-loop = c .before .before .loop in
+    omega (arith, (at-end-of .ensures), (step.ends-long (at-loop .rest .now) (at-loop-test .taken)))
+
+part-count-list-end : tie.Need-part-count-list-end Inv-loop μ-loop
+part-count-list-end c =
+    let at-end-of = c .end-of in
+    let at-loop = c .before .before .loop in
+    omega (arith, (at-end-of .ensures), (step.ends-le (at-loop .rest .now)))
+
+count-list-requires : tie.Need-count-list-requires Inv-loop μ-loop
+count-list-requires c κs = search needs
+
+mul-block : tie.Need-mul-block Inv-loop μ-loop
+mul-block c =
+    let at-count-list = c .count-list in
+    let at-start = c .before .before .before .before .before .before in
+    omega (arith, mul-le-mul ((at-start .pre) .0) (part.capped _ _ (at-count-list .ensures)))
+
+div-result : tie.Need-div-result Inv-loop μ-loop
+div-result c =
+    let at-if1 = c .if1 in
+    let at-loop = c .before .before .before .before .before .loop in
+    let at-start = c .before .before .before .before .before .before .before in
+    pos-right (at-loop .left) (at-start .args .p) _ (at-if1 .taken)
+
+returns : tie.Need-returns Inv-loop μ-loop
+returns c =
+    let at-if1 = c .if1 in
+    let at-count-list = c .before .count-list in
+    let at-end-of = c .before .before .before .end-of in
+    let at-loop-test = c .before .before .before .before .loop-test in
+    let at-loop = c .before .before .before .before .before .loop in
+    let at-start = c .before .before .before .before .before .before .before in
+    sym (at-loop .inv .2 ∙ prefix.prefix-found (at-loop .rest .now) (at-loop-test .taken) _ _ (at-end-of .ensures) (at-count-list .ensures) (at-loop .inv .1) (at-start .args .p) (at-loop .left) (at-if1 .taken))
+
+mul-rest : tie.Need-mul-rest Inv-loop μ-loop
+mul-rest c =
+    let at-end-of = c .before .before .before .end-of in
+    let at-loop = c .before .before .before .before .before .loop in
+    omega (arith, (at-end-of .ensures), (step.ends-le (at-loop .rest .now)))
+
+sub-rest : tie.Need-sub-rest Inv-loop μ-loop
+sub-rest c =
+    let at-end-of = c .before .before .before .end-of in
+    let at-loop = c .before .before .before .before .before .loop in
+    omega (arith, (at-end-of .ensures), (step.ends-le (at-loop .rest .now)))
+
+part-rest-start : tie.Need-part-rest-start Inv-loop μ-loop
+part-rest-start c =
+    let at-end-of = c .before .before .before .end-of in
+    let at-loop = c .before .before .before .before .before .loop in
+    omega (arith, (at-end-of .ensures), (step.ends-le (at-loop .rest .now)))
+
+part-rest-end : tie.Need-part-rest-end Inv-loop μ-loop
+part-rest-end c = search needs
+
+loop-less : tie.Need-loop-less Inv-loop μ-loop
+loop-less c =
+    let at-end-of = c .before .before .before .before .end-of in
+    let at-loop-test = c .before .before .before .before .before .loop-test in
+    let at-loop = c .before .before .before .before .before .before .loop in
+    part.part-less _ (at-loop .rest .now) (omega (arith, (at-end-of .ensures), (step.ends-long (at-loop .rest .now) (at-loop-test .taken)))) (at-loop-test .taken)
+
+loop-again : tie.Need-loop-again Inv-loop μ-loop
+loop-again c =
+    let at-if1 = c .before .if1 in
+    let at-count-list = c .before .before .count-list in
+    let at-end-of = c .before .before .before .before .end-of in
+    let at-loop-test = c .before .before .before .before .before .loop-test in
+    let at-loop = c .before .before .before .before .before .before .loop in
+    let at-start = c .before .before .before .before .before .before .before .before in (
+      omega (arith, part.part-le (at-end-of .result) (at-loop .rest .now)),
+      subst (λ (l : List ℕ). countIn (listsIn l) ≤ 256)
+          (ap (λ (x : ℕ). drop x (at-loop .rest .now)) (sym (at-end-of .ensures)) ∙ sym (part.part-all (at-end-of .result) (at-loop .rest .now)))
+          (prefix.lists-few (at-loop .rest .now) (at-loop-test .taken) _ _ (at-end-of .ensures) (at-count-list .ensures) (at-loop .inv .1)),
+      at-loop .inv .2
+          ∙ prefix.prefix-passed (at-loop .rest .now) (at-loop-test .taken) _ _ (at-end-of .ensures) (at-count-list .ensures) (at-loop .inv .1) (at-start .args .p) (at-loop .left) (at-if1 .left)
+          ∙ ap (λ (l : List ℕ). prefixIn (listsIn l) (at-start .args .p) (at-loop .left - at-start .args .p * at-count-list .result))
+          (ap (λ (x : ℕ). drop x (at-loop .rest .now)) (sym (at-end-of .ensures)) ∙ sym (part.part-all (at-end-of .result) (at-loop .rest .now))),
+    )
+
+returns-2 : tie.Need-returns-2 Inv-loop μ-loop
+returns-2 c =
+    let at-loop-test = c .loop-test in
+    let at-loop = c .before .loop in
+    let at-start = c .before .before .before in
+    sym (at-loop .inv .2 ∙ prefix.prefix-end (at-loop .rest .now) (omega (arith, at-loop-test .left)) (at-start .args .p) (at-loop .left))
+
+pub prefix-in-spec : {M : Type 1} → statement M
+prefix-in-spec =
+    tie.close
+    (tie.spec
+    Inv-loop
+    μ-loop
+    loop-holds
+    end-of-requires
+    sub-count-list
+    part-count-list-start
+    part-count-list-end
+    count-list-requires
+    mul-block
+    div-result
+    returns
+    mul-rest
+    sub-rest
+    part-rest-start
+    part-rest-end
+    loop-less
+    loop-again
+    returns-2)

@@ -1,0 +1,20 @@
+-- What a writer of literals needs and leaves. Assumes nothing: these are definitions.
+use mathlib.Core.Path.{_≡_}
+use mathlib.Core.List.{List, _++_}
+use Prim.Native.Nat.{ℕ, _≤_, _<_}
+use lib.ListN.{length, drop}
+use Rattle.meaning.specs.Tokens.{Token}
+use Rattle.picking.specs.Numbers.{countOf, pieceOf}
+
+-- so many bytes are written at the front, and they are the literal; the others stay
+pub record Written (r : ℕ) (literal was is : List ℕ) : Type 0 where
+  pub long : r ≡ length literal
+  pub content : is ≡ literal ++ drop (length literal) was
+
+-- what a writer of one token's piece needs
+pub record Pieced (p : ℕ) (t : Token) (q words room : ℕ) : Type 0 where
+  pub entry : 4 ≤ words
+  pub prefixes : p ≤ 256
+  pub some : 0 < countOf t
+  pub few : countOf t ≤ 256
+  pub fits : length (pieceOf t p q) ≤ room

@@ -1,0 +1,3 @@
+-- The laws of counts and lengths.
+pub mod TallyLaws
+pub mod SizeLaws
