@@ -1,5 +1,5 @@
-//! What the program checkings must write: a side's answers to the lines of
-//! crates/checkings/data/programs, and the third reading's where that side has none.
+//! What the program gate_checkings must write: a side's answers to the lines of
+//! crates/gate_checkings/data/programs, and the third reading's where that side has none.
 
 use std::fmt::Write;
 
