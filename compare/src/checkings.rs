@@ -72,7 +72,7 @@ pub fn answers(line: &[u8], by: &Side) -> Option<Vec<u8>> {
     found(&mut out, forward);
     out.push_str("\nleft ");
     if let Some(forward) = &forward {
-        model::left(forward, w).iter().for_each(|b| write!(out, "{b:02x}").unwrap());
+        model::left(forward, w).iter().for_each(|b| write!(out, "{b:02X}").unwrap());
     }
     out.push_str("\nreverse");
     found(&mut out, said_reverse.or(reverse));

@@ -1,76 +1,20 @@
 // Compiles texts from standard input, one on each line, and writes what the compiling door answers and leaves.
 use compiledoor::CompileAnswer;
+use gatekit::Style;
+use libc::STDIN_FILENO;
+use libc::STDOUT_FILENO;
 ghost use Prim.Native.Nat.{_≤_};
+ghost use lib.ListN.{length};
 
-const OUT: i32 = 1;
-
-// The pools hold this before each text, so that what stays shows.
-const OLD: u32 = 7;
-
-fn number(n: u64) {
-    io::print_decimal(OUT, n);
-}
-
-fn wide(w: u32) -> u64 {
-    w as u64
-}
-
-fn fill(pool: &mut [u32]) {
-    let mut i = 0;
-    while i < pool.len() {
-        pool[i] = OLD;
-        i += 1;
-    }
-}
-
-// The first n words, but no more than sixteen of them.
-fn list(pool: &[u32], n: usize) {
-    let mut i = 0;
-    while i < n {
-        if i < 16 {
-            if i < pool.len() {
-                io::write_all(OUT, b" ");
-                number(wide(pool[i]));
-            }
-        }
-        i += 1;
-    }
-    io::write_all(OUT, b"\n");
-}
-
-fn one_if(v: u32, w: u32) -> usize
-    ensures { λ r. ⌜ r ≤ 1 ⌝ }
-{
-    if v == w { 1 } else { 0 }
-}
-
-// How many words from `from` up to `to` hold `v`.
-fn holding(pool: &[u32], from: usize, to: usize, v: u32) -> usize {
-    let mut found = 0;
-    let mut i = from;
-    while i < to {
-        if pool.len() <= i {
-            return found;
-        }
-        found += one_if(pool[i], v);
-        i += 1;
-    }
-    found
-}
-
-// A pool: the used words, how many of its first 512 are 0 after them, and how many of the four beyond are as before.
-fn left(pool: &[u32], used: usize) {
-    number(used as u64);
-    io::write_all(OUT, b" zeros ");
-    number(holding(pool, used, 512, 0) as u64);
-    io::write_all(OUT, b" old ");
-    number(holding(pool, 512, 516, OLD) as u64);
-    list(pool, used);
+// A pool: how many words are used, what is left of it, and no more than sixteen of the used words.
+fn left(name: &[u8], pool: &[u32], used: usize) {
+    gatekit::tell(name, used as u64);
+    gatekit::left(pool, used, 512);
+    gatekit::words(pool, gatekit::least(used, 16), Style::Decimal);
+    io::write_all(STDOUT_FILENO, b"\n");
 }
 
 fn one(text: &[u8], forward: &mut [u32], reverse: &mut [u32]) {
-    fill(forward);
-    fill(reverse);
     let r = compiledoor::compile(text, forward, reverse);
     match r {
         CompileAnswer::Compiled {
@@ -78,48 +22,52 @@ fn one(text: &[u8], forward: &mut [u32], reverse: &mut [u32]) {
             forward: n,
             reverse: m,
         } => {
-            io::write_all(OUT, b"forward ");
-            left(forward, n);
-            io::write_all(OUT, b"reverse ");
-            left(reverse, m);
+            left(b"forward ", forward, n);
+            left(b"reverse ", reverse, m);
         }
         CompileAnswer::Refused(code, place) => {
-            io::write_all(OUT, b"refused ");
-            number(code.number() as u64);
-            io::write_all(OUT, b" at ");
-            number(place as u64);
-            io::write_all(OUT, b" forward ");
-            left(forward, 0);
-            io::write_all(OUT, b" reverse ");
-            left(reverse, 0);
+            gatekit::refused(code, place);
+            left(b" forward ", forward, 0);
+            left(b" reverse ", reverse, 0);
         }
     }
 }
 
-fn fresh(text: &[u8]) {
-    let mut forward = [0u32; 516];
-    let mut reverse = [0u32; 516];
+// The four words beyond the 512 that a call may write must stay.
+fn line(text: &[u8]) {
+    let mut forward = [gatekit::OLD; 516];
+    let mut reverse = [gatekit::OLD; 516];
     one(text, &mut forward, &mut reverse);
 }
 
-fn run(input: &[u8]) {
-    let mut start = 0;
-    let mut i = 0;
-    while i < input.len() {
-        if input[i] == 10 {
-            fresh(&input[start..i]);
-            start = i + 1;
-        }
-        i += 1;
+fn lines(text: &[u8])
+    requires { ⌜ length (now text) ≤ 32768 ⌝ }
+{
+    let mut at = 0;
+    while at < text.len() {
+        let end = bytes::scan::find(text, at, text.len(), b'\n');
+        line(&text[at..end]);
+        at = end + 1;
     }
+}
+
+// A word less than a call wants, in the second pool and in the first.
+fn short_reverse(text: &[u8]) {
+    let mut forward = [gatekit::OLD; 516];
+    let mut reverse = [gatekit::OLD; 511];
+    one(text, &mut forward, &mut reverse);
+}
+
+fn short_forward(text: &[u8]) {
+    let mut forward = [gatekit::OLD; 511];
+    let mut reverse = [gatekit::OLD; 516];
+    one(text, &mut forward, &mut reverse);
 }
 
 fn main() {
     let mut input = [0u8; 32768];
-    let n = io::read_full(0, &mut input);
-    run(&input[..n]);
-    let mut forward = [0u32; 516];
-    let mut short = [0u32; 511];
-    one(b"{ AB }", &mut forward, &mut short);
-    one(b"{ AG }", &mut short, &mut forward);
+    let n = io::read_full(STDIN_FILENO, &mut input);
+    lines(&input[..n]);
+    short_reverse(b"{ AB }");
+    short_forward(b"{ AG }");
 }

@@ -1,58 +1,24 @@
 // Answers the cases of the file `cases` by the library's doors, in the lines that `compare/run sample` writes for the original Rust. What the
 // program must write, the file `stdout`, was made by the Rust and not by this program: README.md beside it says how.
 use base::Refusal;
-use checkdoors::Answer;
 use compiledoor::CompileAnswer;
-use digits::Nibble;
+use gatekit::Style;
 use libc::STDOUT_FILENO;
 use literaldoor::LiteralsAnswer;
 use readdoor::ReadAnswer;
 ghost use Prim.Native.Nat.{_≤_};
 ghost use lib.ListN.{length};
 
-fn number(n: u64) {
-    io::print_decimal(STDOUT_FILENO, n);
-}
-
-fn wide(w: u32) -> u64 {
-    w as u64
-}
-
-// The first n words of a pool, on a line.
-fn words(pool: &[u32], n: usize) {
-    let mut i = 0;
-    while i < n {
-        if i < pool.len() {
-            io::write_all(STDOUT_FILENO, b" ");
-            number(wide(pool[i]));
-        }
-        i += 1;
-    }
+// A name, and the first n words of a pool.
+fn words(name: &[u8], pool: &[u32], n: usize) {
+    io::write_all(STDOUT_FILENO, name);
+    gatekit::words(pool, n, Style::Decimal);
     io::write_all(STDOUT_FILENO, b"\n");
 }
 
 fn refused(why: Refusal, place: usize) {
-    io::write_all(STDOUT_FILENO, b"refused ");
-    number(wide(why.number()));
-    io::write_all(STDOUT_FILENO, b" at ");
-    number(place as u64);
+    gatekit::refused(why, place);
     io::write_all(STDOUT_FILENO, b"\n");
-}
-
-fn found(r: Answer) {
-    match r {
-        Answer::At(n) => {
-            io::write_all(STDOUT_FILENO, b" ");
-            number(n as u64);
-        }
-        Answer::NoMatch => {
-            io::write_all(STDOUT_FILENO, b" no");
-        }
-        Answer::Refused(why) => {
-            io::write_all(STDOUT_FILENO, b" refused ");
-            number(wide(why.number()));
-        }
-    }
 }
 
 // The forward check from every start to the haystack's end.
@@ -60,7 +26,7 @@ fn ends(program: &[u32], hay: &[u8]) {
     io::write_all(STDOUT_FILENO, b"ends");
     let mut start = 0;
     while start <= hay.len() {
-        found(checkdoors::forward(program, hay, start, hay.len()));
+        gatekit::found(checkdoors::forward(program, hay, start, hay.len()));
         start += 1;
     }
     io::write_all(STDOUT_FILENO, b"\n");
@@ -71,17 +37,10 @@ fn starts(program: &[u32], hay: &[u8]) {
     io::write_all(STDOUT_FILENO, b"starts");
     let mut end = 0;
     while end <= hay.len() {
-        found(checkdoors::reverse(program, hay, 0, end));
+        gatekit::found(checkdoors::reverse(program, hay, 0, end));
         end += 1;
     }
     io::write_all(STDOUT_FILENO, b"\n");
-}
-
-// The smaller of two.
-fn least(n: usize, most: usize) -> usize
-    ensures { λ r. ⌜ r ≤ most ⌝ }
-{
-    if n < most { n } else { most }
 }
 
 fn programs(text: &[u8], hay: &[u8]) {
@@ -94,13 +53,11 @@ fn programs(text: &[u8], hay: &[u8]) {
             forward: f,
             reverse: b,
         } => {
-            io::write_all(STDOUT_FILENO, b"forward");
-            words(&forward, f);
-            io::write_all(STDOUT_FILENO, b"reverse");
-            words(&reverse, b);
-            let n = least(f, 512);
+            words(b"forward", &forward, f);
+            words(b"reverse", &reverse, b);
+            let n = gatekit::least(f, 512);
             ends(&forward[0..n], hay);
-            let m = least(b, 512);
+            let m = gatekit::least(b, 512);
             starts(&reverse[0..m], hay);
         }
         CompileAnswer::Refused(why, place) => refused(why, place),
@@ -109,27 +66,6 @@ fn programs(text: &[u8], hay: &[u8]) {
 
 fn size(n: u16) -> usize {
     n as usize
-}
-
-fn digit(v: u8) -> u8
-    requires { ⌜ v ≤ 15 ⌝ }
-{
-    if v < 10 { 48 + v } else { 55 + v }
-}
-
-// A byte as two digits.
-fn hex(b: u8) {
-    let two = [digit(b / 16), digit(b % 16)];
-    io::write_all(STDOUT_FILENO, &two);
-}
-
-fn literal(bytes: &[u8]) {
-    io::write_all(STDOUT_FILENO, b" ");
-    let mut i = 0;
-    while i < bytes.len() {
-        hex(bytes[i]);
-        i += 1;
-    }
 }
 
 // So many literals, which stand one after another in the bytes, each as long as the lengths say.
@@ -144,7 +80,7 @@ fn each(bytes: &[u8], lengths: &[u16], count: usize) {
         if bytes.len() - at < n {
             return;
         }
-        literal(&bytes[at..at + n]);
+        gatekit::hex(&bytes[at..at + n]);
         at += n;
         i += 1;
     }
@@ -161,8 +97,7 @@ fn picked(text: &[u8]) {
             count,
             rank,
         } => {
-            io::write_all(STDOUT_FILENO, b"rank ");
-            number(wide(rank));
+            gatekit::tell(b"rank ", rank as u64);
             io::write_all(STDOUT_FILENO, b" literals");
             each(&bytes, &lengths, count);
             io::write_all(STDOUT_FILENO, b"\n");
@@ -176,10 +111,8 @@ fn answers(text: &[u8], hay: &[u8]) {
     let r = readdoor::read(text, &mut tokens);
     match r {
         ReadAnswer::Read { end, words: used } => {
-            io::write_all(STDOUT_FILENO, b"reached ");
-            number(end as u64);
-            io::write_all(STDOUT_FILENO, b"\ntokens");
-            words(&tokens, used);
+            gatekit::tell(b"reached ", end as u64);
+            words(b"\ntokens", &tokens, used);
             programs(text, hay);
             picked(text);
         }
@@ -187,55 +120,20 @@ fn answers(text: &[u8], hay: &[u8]) {
     }
 }
 
-// The value of a hex digit.
-fn value(c: u8) -> u8
-    ensures { λ r. ⌜ r ≤ 15 ⌝ }
-{
-    let d = digits::hex_digit(c);
-    let Nibble::Is(v) = d else {
-        return 0;
-    };
-    if 15 < v { 0 } else { v }
-}
-
-// The bytes that are spelt in hex, as far as there is room; how many they are.
-fn unhex(hex: &[u8], hay: &mut [u8]) -> usize {
-    let mut n = 0;
-    while n < hay.len() {
-        if hex.len() / 2 <= n {
-            return n;
-        }
-        hay[n] = 16 * value(digits::peek(hex, 2 * n)) + value(digits::peek(hex, 2 * n + 1));
-        n += 1;
-    }
-    n
-}
-
-// The text's first bytes, and the answers; of the haystack the first n bytes.
-fn one(text: &[u8], hay: &[u8], n: usize) {
-    let shown = least(64, text.len());
-    io::write_all(STDOUT_FILENO, &text[0..shown]);
-    io::write_all(STDOUT_FILENO, b"\n");
-    let m = least(n, hay.len());
-    answers(text, &hay[0..m]);
-}
-
-// A haystack in hex, a blank and a text.
+// A haystack in hex, a blank and a text: the text's first bytes, and the answers.
 fn case(line: &[u8]) {
     let blank = bytes::scan::find(line, 0, line.len(), b' ');
     if blank == line.len() {
         return;
     }
+    gatekit::show(&line[blank + 1..]);
     let mut hay = [0u8; 64];
-    let n = unhex(&line[0..blank], &mut hay);
-    one(&line[blank + 1..], &hay, n);
+    let n = gatekit::unhex(&line[0..blank], &mut hay);
+    answers(&line[blank + 1..], &hay[..n]);
 }
 
-// A heading is written as it is.
 fn line(l: &[u8]) {
-    if digits::peek(l, 0) == b'#' {
-        io::write_all(STDOUT_FILENO, l);
-        io::write_all(STDOUT_FILENO, b"\n");
+    if gatekit::heading(l) {
         return;
     }
     case(l);
@@ -253,14 +151,7 @@ fn lines(cases: &[u8])
 }
 
 fn main() {
-    let path = b"cases";
-    let file = os::open_read(path);
-    if file < 0 {
-        os::fail(path);
-        return;
-    }
     let mut cases = [0u8; 65536];
-    let n = io::read_full(file, &mut cases);
-    libc::close(file);
+    let n = gatekit::load(b"cases", &mut cases);
     lines(&cases[..n]);
 }

@@ -32,20 +32,20 @@ sub-if2 c = search needs
 returns-2 : tie.Need-returns-2 Inv-loop μ-loop
 returns-2 c = search needs
 
-add-literal : tie.Need-add-literal Inv-loop μ-loop
-add-literal c = search needs
+add-hex : tie.Need-add-hex Inv-loop μ-loop
+add-hex c = search needs
 
-sub-literal : tie.Need-sub-literal Inv-loop μ-loop
-sub-literal c = search needs
+sub-hex : tie.Need-sub-hex Inv-loop μ-loop
+sub-hex c = search needs
 
-part-literal-start : tie.Need-part-literal-start Inv-loop μ-loop
-part-literal-start c = search needs
+part-hex-start : tie.Need-part-hex-start Inv-loop μ-loop
+part-hex-start c = search needs
 
-part-literal-end : tie.Need-part-literal-end Inv-loop μ-loop
-part-literal-end c = search needs
+part-hex-end : tie.Need-part-hex-end Inv-loop μ-loop
+part-hex-end c = search needs
 
-literal-requires : tie.Need-literal-requires Inv-loop μ-loop
-literal-requires c κs = search needs
+hex-requires : tie.Need-hex-requires Inv-loop μ-loop
+hex-requires c κs = search needs
 
 add-at : tie.Need-add-at Inv-loop μ-loop
 add-at c = search needs
@@ -75,11 +75,11 @@ each-spec =
     size-requires
     sub-if2
     returns-2
-    add-literal
-    sub-literal
-    part-literal-start
-    part-literal-end
-    literal-requires
+    add-hex
+    sub-hex
+    part-hex-start
+    part-hex-end
+    hex-requires
     add-at
     add-i
     loop-less

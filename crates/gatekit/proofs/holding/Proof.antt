@@ -1,8 +1,8 @@
 -- The loop ends and stays inside what it is lent. Assumes nothing.
 use Prim.Native.Nat.{_+_, _-_, _≤_}
 use borrow.Author.Needs.{needs}
-use Rattle.gate_compilings.proofs.holding.Statement.{statement}
-use Rattle.gate_compilings.proofs.holding.Tie as tie
+use Rattle.gatekit.proofs.holding.Statement.{statement}
+use Rattle.gatekit.proofs.holding.Tie as tie
 
 abbrev Inv-loop : tie.InvT-loop
 Inv-loop pool from to v found₀ i₀ found i = found + from ≤ i

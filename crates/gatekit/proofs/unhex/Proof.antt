@@ -1,16 +1,17 @@
 -- The loop ends and stays inside what it is lent. Assumes nothing.
-use mathlib.Core.Path.{_≡_}
-use Prim.Native.Nat.{_-_}
+use mathlib.Core.Path.{_≡_, sym}
+use Prim.Native.Nat.{_-_, _≤_}
 use lib.ListN.{length}
+use lib.Seq.{length-take-le}
 use borrow.Author.Needs.{needs}
-use Rattle.gate_rustsays.proofs.unhex.Statement.{statement}
-use Rattle.gate_rustsays.proofs.unhex.Tie as tie
+use Rattle.gatekit.proofs.unhex.Statement.{statement}
+use Rattle.gatekit.proofs.unhex.Tie as tie
 
 abbrev Inv-loop : tie.InvT-loop
-Inv-loop hex hay₀ n₀ hay n = length hay ≡ length hay₀
+Inv-loop hex out₀ n₀ out n = (n ≤ length out₀) × (length out ≡ length out₀)
 
 abbrev μ-loop : tie.MeasureT-loop
-μ-loop hex hay₀ n₀ hay n = length hay₀ - n
+μ-loop hex out₀ n₀ out n = length out₀ - n
 
 loop-holds : tie.Need-loop-holds Inv-loop μ-loop
 loop-holds c = search needs
@@ -19,7 +20,7 @@ same-length : tie.Need-same-length Inv-loop μ-loop
 same-length c = search needs
 
 returns : tie.Need-returns Inv-loop μ-loop
-returns c = search needs
+returns c = (search needs, sym (length-take-le _ _ (search needs)))
 
 mul-peek : tie.Need-mul-peek Inv-loop μ-loop
 mul-peek c = search needs
@@ -30,8 +31,8 @@ peek-requires c κs = search needs
 value-requires : tie.Need-value-requires Inv-loop μ-loop
 value-requires c κs = search needs
 
-mul-hay : tie.Need-mul-hay Inv-loop μ-loop
-mul-hay c = search needs
+mul-out : tie.Need-mul-out Inv-loop μ-loop
+mul-out c = search needs
 
 mul-peek-2 : tie.Need-mul-peek-2 Inv-loop μ-loop
 mul-peek-2 c = search needs
@@ -45,11 +46,11 @@ peek-requires-2 c κs = search needs
 value-requires-2 : tie.Need-value-requires-2 Inv-loop μ-loop
 value-requires-2 c κs = search needs
 
-add-hay : tie.Need-add-hay Inv-loop μ-loop
-add-hay c = search needs
+add-out : tie.Need-add-out Inv-loop μ-loop
+add-out c = search needs
 
-slice-write-hay : tie.Need-slice-write-hay Inv-loop μ-loop
-slice-write-hay c = search needs
+slice-write-out : tie.Need-slice-write-out Inv-loop μ-loop
+slice-write-out c = search needs
 
 add-n : tie.Need-add-n Inv-loop μ-loop
 add-n c = search needs
@@ -64,7 +65,7 @@ same-length-2 : tie.Need-same-length-2 Inv-loop μ-loop
 same-length-2 c = search needs
 
 returns-2 : tie.Need-returns-2 Inv-loop μ-loop
-returns-2 c = search needs
+returns-2 c = (search needs, sym (length-take-le _ _ (search needs)))
 
 pub unhex-spec : {M : Type 1} → statement M
 unhex-spec =
@@ -78,13 +79,13 @@ unhex-spec =
     mul-peek
     peek-requires
     value-requires
-    mul-hay
+    mul-out
     mul-peek-2
     add-peek
     peek-requires-2
     value-requires-2
-    add-hay
-    slice-write-hay
+    add-out
+    slice-write-out
     add-n
     loop-less
     loop-again

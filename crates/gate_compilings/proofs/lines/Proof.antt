@@ -2,14 +2,14 @@
 use Prim.Native.Nat.{_+_, _-_, _≤_}
 use lib.ListN.{length}
 use borrow.Author.Needs.{needs}
-use Rattle.gate_replay.proofs.list_lines.Statement.{statement}
-use Rattle.gate_replay.proofs.list_lines.Tie as tie
+use Rattle.gate_compilings.proofs.lines.Statement.{statement}
+use Rattle.gate_compilings.proofs.lines.Tie as tie
 
 abbrev Inv-loop : tie.InvT-loop
-Inv-loop texts at₀ at = at ≤ length texts + 1
+Inv-loop text at₀ at = at ≤ length text + 1
 
 abbrev μ-loop : tie.MeasureT-loop
-μ-loop texts at₀ at = length texts + 1 - at
+μ-loop text at₀ at = length text + 1 - at
 
 loop-holds : tie.Need-loop-holds Inv-loop μ-loop
 loop-holds c = search needs
@@ -17,17 +17,17 @@ loop-holds c = search needs
 find-requires : tie.Need-find-requires Inv-loop μ-loop
 find-requires c κs = search needs
 
-sub-list-line : tie.Need-sub-list-line Inv-loop μ-loop
-sub-list-line c = search needs
+sub-line : tie.Need-sub-line Inv-loop μ-loop
+sub-line c = search needs
 
-part-list-line-start : tie.Need-part-list-line-start Inv-loop μ-loop
-part-list-line-start c = search needs
+part-line-start : tie.Need-part-line-start Inv-loop μ-loop
+part-line-start c = search needs
 
-part-list-line-end : tie.Need-part-list-line-end Inv-loop μ-loop
-part-list-line-end c = search needs
+part-line-end : tie.Need-part-line-end Inv-loop μ-loop
+part-line-end c = search needs
 
-list-line-requires : tie.Need-list-line-requires Inv-loop μ-loop
-list-line-requires c κs = search needs
+line-requires : tie.Need-line-requires Inv-loop μ-loop
+line-requires c κs = search needs
 
 add-at : tie.Need-add-at Inv-loop μ-loop
 add-at c = search needs
@@ -41,18 +41,18 @@ loop-again c = search needs
 returns : tie.Need-returns Inv-loop μ-loop
 returns c = search needs
 
-pub list-lines-spec : {M : Type 1} → statement M
-list-lines-spec =
+pub lines-spec : {M : Type 1} → statement M
+lines-spec =
     tie.close
     (tie.spec
     Inv-loop
     μ-loop
     loop-holds
     find-requires
-    sub-list-line
-    part-list-line-start
-    part-list-line-end
-    list-line-requires
+    sub-line
+    part-line-start
+    part-line-end
+    line-requires
     add-at
     loop-less
     loop-again

@@ -2,8 +2,8 @@
 use Prim.Native.Nat.{_-_}
 use lib.ListN.{length}
 use borrow.Author.Needs.{needs}
-use Rattle.gate_checkings.proofs.part.Statement.{statement}
-use Rattle.gate_checkings.proofs.part.Tie as tie
+use Rattle.gatekit.proofs.hex.Statement.{statement}
+use Rattle.gatekit.proofs.hex.Tie as tie
 
 abbrev Inv-loop : tie.InvT-loop
 Inv-loop bytes i₀ i = Unit {0}
@@ -20,14 +20,11 @@ write-all-requires c κs = search needs
 loop-holds : tie.Need-loop-holds Inv-loop μ-loop
 loop-holds c = search needs
 
-shared-slice-read-byte-wide : tie.Need-shared-slice-read-byte-wide Inv-loop μ-loop
-shared-slice-read-byte-wide c = search needs
+shared-slice-read-pair : tie.Need-shared-slice-read-pair Inv-loop μ-loop
+shared-slice-read-pair c = search needs
 
-byte-wide-requires : tie.Need-byte-wide-requires Inv-loop μ-loop
-byte-wide-requires c κs = search needs
-
-print-hex-requires : tie.Need-print-hex-requires Inv-loop μ-loop
-print-hex-requires c κs = search needs
+pair-requires : tie.Need-pair-requires Inv-loop μ-loop
+pair-requires c κs = search needs
 
 add-i : tie.Need-add-i Inv-loop μ-loop
 add-i c = search needs
@@ -41,8 +38,8 @@ loop-again c = search needs
 returns : tie.Need-returns Inv-loop μ-loop
 returns c = search needs
 
-pub part-spec : {M : Type 1} → statement M
-part-spec =
+pub hex-spec : {M : Type 1} → statement M
+hex-spec =
     tie.close
     (tie.spec
     Inv-loop
@@ -50,9 +47,8 @@ part-spec =
     slice-aggregate-write-all
     write-all-requires
     loop-holds
-    shared-slice-read-byte-wide
-    byte-wide-requires
-    print-hex-requires
+    shared-slice-read-pair
+    pair-requires
     add-i
     loop-less
     loop-again
