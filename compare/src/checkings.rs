@@ -1,5 +1,5 @@
-//! What the program checkings must write: a side's answers to the lines of
-//! crates/checkings/data/programs, and the third reading's where that side has none.
+//! What the program gate_checkings must write: a side's answers to the lines of
+//! crates/gate_checkings/data/programs, and the third reading's where that side has none.
 
 use std::fmt::Write;
 
@@ -72,7 +72,7 @@ pub fn answers(line: &[u8], by: &Side) -> Option<Vec<u8>> {
     found(&mut out, forward);
     out.push_str("\nleft ");
     if let Some(forward) = &forward {
-        model::left(forward, w).iter().for_each(|b| write!(out, "{b:02x}").unwrap());
+        model::left(forward, w).iter().for_each(|b| write!(out, "{b:02X}").unwrap());
     }
     out.push_str("\nreverse");
     found(&mut out, said_reverse.or(reverse));

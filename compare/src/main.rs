@@ -139,16 +139,16 @@ fn shown(judge: &runs::Judge, args: &[String]) -> Option<bool> {
             print!("{}", listing::listing(&text));
         }
         "sample" => {
-            return Some(sample::sample("../crates/rustsays/data/cases", &original::SIDE));
+            return Some(sample::sample("../crates/gate_rustsays/data/cases", &original::SIDE));
         }
         "checkings" => {
-            let path = "../crates/checkings/data/programs";
+            let path = "../crates/gate_checkings/data/programs";
             return Some(checkings::checkings(path, &original::SIDE));
         }
-        "readings" => pools::read_texts(&stored("readings"))
+        "readings" => pools::read_texts(&stored("gate_readings"))
             .iter()
             .for_each(|lent| print!("{}", pools::reading(lent))),
-        "compilings" => pools::compiled_texts(&stored("compilings"))
+        "compilings" => pools::compiled_texts(&stored("gate_compilings"))
             .iter()
             .for_each(|lent| print!("{}", pools::compiling(lent))),
         "patterns" => runs::Judge::patterns(number(args, 1, 1), size(2, 50), size(3, 50)),

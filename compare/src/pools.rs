@@ -1,5 +1,5 @@
-//! What the programs readings and compilings must write: the answers of the third reading of
-//! document 01 to texts, and what it leaves in the pools lent to it.
+//! What the programs gate_readings and gate_compilings must write: the answers of the third reading
+//! of document 01 to texts, and what it leaves in the pools lent to it.
 
 use std::fmt::Write;
 
@@ -19,7 +19,7 @@ fn lending(text: &[u8], pools: &[usize]) -> Lending {
     Lending { text: text.to_vec(), pools: pools.to_vec() }
 }
 
-/// The texts of crates/readings/stdin, each after its length and a blank, and those that the
+/// The texts of crates/gate_readings/stdin, each after its length and a blank, and those that the
 /// program itself tries with a pool that is too short.
 pub fn read_texts(mut stdin: &[u8]) -> Vec<Lending> {
     let mut all = Vec::new();
@@ -33,8 +33,8 @@ pub fn read_texts(mut stdin: &[u8]) -> Vec<Lending> {
     all
 }
 
-/// The lines of crates/compilings/stdin, and the texts that the program itself tries with a pool
-/// that is too short.
+/// The lines of crates/gate_compilings/stdin, and the texts that the program itself tries with a
+/// pool that is too short.
 pub fn compiled_texts(stdin: &[u8]) -> Vec<Lending> {
     let lines = stdin.strip_suffix(b"\n").unwrap_or(stdin).split(|b| *b == b'\n');
     let mut all: Vec<_> = lines.map(|line| lending(line, &[516, 516])).collect();
@@ -62,7 +62,7 @@ fn refused(out: &mut String, answer: &Answer<Vec<usize>>) {
     }
 }
 
-/// What the program readings writes for a text: an entry to a line, if they are few.
+/// What the program gate_readings writes for a text: an entry to a line, if they are few.
 pub fn reading(lent: &Lending) -> String {
     let read = model::tokens(&lent.text);
     let mut pools = filled(&lent.pools);
@@ -83,7 +83,7 @@ pub fn reading(lent: &Lending) -> String {
     out
 }
 
-/// What the program compilings writes for a text: the first sixteen words of each pool.
+/// What the program gate_compilings writes for a text: the first sixteen words of each pool.
 pub fn compiling(lent: &Lending) -> String {
     let made = model::tokens(&lent.text).and_then(|(list, _)| model::programs(&list));
     let mut pools = filled(&lent.pools);

@@ -1,5 +1,6 @@
-//! The stored sample: what a side answers to the cases of crates/rustsays/data/cases, in the lines
-//! that the program rustsays writes for the library's doors. The original's answers are stored.
+//! The stored sample: what a side answers to the cases of crates/gate_rustsays/data/cases, in the
+//! lines that the program gate_rustsays writes for the library's doors. The original's answers are
+//! stored.
 
 use std::fmt::Write;
 

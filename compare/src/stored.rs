@@ -15,7 +15,7 @@ mod sides;
 
 use std::io::Write;
 
-/// How much of a text the program replay shows, and how much of an input is named here.
+/// How much of a text the program gate_replay shows, and how much of an input is named here.
 const SHOWN: usize = 64;
 const NAMED: usize = 100;
 
@@ -30,25 +30,25 @@ fn told(program: &str, input: &[u8], answer: &[u8]) {
 fn main() {
     let top = std::env::args().nth(1).expect("the folder of the repository");
     let file = |name: &str| std::fs::read(format!("{top}/crates/{name}")).expect("a stored file");
-    for line in sample::lines(&file("rustsays/data/cases")) {
-        told("rustsays", line, &sample::answers(line, &model::SIDE));
+    for line in sample::lines(&file("gate_rustsays/data/cases")) {
+        told("gate_rustsays", line, &sample::answers(line, &model::SIDE));
     }
-    for text in sample::lines(&file("replay/data/texts")) {
+    for text in sample::lines(&file("gate_replay/data/texts")) {
         let listing = listing::listing(text);
         let shown = &text[..text.len().min(SHOWN)];
-        told("replay", text, &[shown, b"\n", listing.as_bytes(), b"\n"].concat());
+        told("gate_replay", text, &[shown, b"\n", listing.as_bytes(), b"\n"].concat());
     }
-    for lent in pools::read_texts(&file("readings/stdin")) {
-        told("readings", &lent.text, pools::reading(&lent).as_bytes());
+    for lent in pools::read_texts(&file("gate_readings/stdin")) {
+        told("gate_readings", &lent.text, pools::reading(&lent).as_bytes());
     }
-    for lent in pools::compiled_texts(&file("compilings/stdin")) {
-        told("compilings", &lent.text, pools::compiling(&lent).as_bytes());
+    for lent in pools::compiled_texts(&file("gate_compilings/stdin")) {
+        told("gate_compilings", &lent.text, pools::compiling(&lent).as_bytes());
     }
-    for line in sample::lines(&file("checkings/data/programs")) {
+    for line in sample::lines(&file("gate_checkings/data/programs")) {
         let answers = checkings::answers(line, &model::SIDE).expect("one side agrees with itself");
-        told("checkings", line, &answers);
+        told("gate_checkings", line, &answers);
     }
-    for program in ["listing", "overlong"] {
+    for program in ["listing", "gate_overlong"] {
         let text = file(&format!("{program}/stdin"));
         told(program, &text, listing::listing(&text).as_bytes());
     }
