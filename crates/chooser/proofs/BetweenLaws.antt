@@ -11,11 +11,11 @@ use Rattle.picking.specs.Choice.{Choice, chosen, beats, between, inRun, among}
 use Rattle.picking.proofs.ChosenLaws.{chosen-few}
 use Rattle.entries.specs.Words.{tokensIn}
 use Rattle.entries.proofs.StepLaws.{tokens-end, tokens-step}
-use Rattle.literals.specs.declared.Pick.{Pick}
-use Rattle.literals.specs.declared.Pick.the-variants.{Nothing, Taken, TooMany}
-use Rattle.literals.specs.Ranks.{choiceSays}
-use Rattle.literals.specs.Whole.{Whole}
-use Rattle.literals.proofs.WholeLaws.{whole-first}
+use Rattle.picks.specs.declared.Pick.{Pick}
+use Rattle.picks.specs.declared.Pick.the-variants.{Nothing, Taken, TooMany}
+use Rattle.picks.specs.Ranks.{choiceSays}
+use Rattle.runs.specs.Whole.{Whole}
+use Rattle.runs.proofs.WholeLaws.{whole-first}
 use Rattle.chooser.specs.Kept.{Kept, Told, Stretch}
 use Rattle.chooser.proofs.ShiftLaws.{Shifts}
 

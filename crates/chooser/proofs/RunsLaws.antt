@@ -11,12 +11,12 @@ use Rattle.picking.specs.Choice.{Choice, unranked, inRun, between, among, choic
 use Rattle.entries.specs.Words.{width, tokensIn}
 use Rattle.entries.proofs.StepLaws.{tokens-end, tokens-step, width-le, width-long}
 use Rattle.entries.proofs.PartLaws.{part-all}
-use Rattle.literals.specs.declared.Pick.{Pick}
-use Rattle.literals.specs.declared.Pick.the-variants.{Nothing}
-use Rattle.literals.specs.Ranks.{choiceSays}
-use Rattle.literals.specs.Whole.{Whole, runEnd, afterward}
-use Rattle.literals.proofs.WholeLaws.{whole-first}
-use Rattle.literals.proofs.SegmentLaws.{Segment, first-segment}
+use Rattle.picks.specs.declared.Pick.{Pick}
+use Rattle.picks.specs.declared.Pick.the-variants.{Nothing}
+use Rattle.picks.specs.Ranks.{choiceSays}
+use Rattle.runs.specs.Whole.{Whole, runEnd, afterward}
+use Rattle.runs.proofs.WholeLaws.{whole-first}
+use Rattle.runs.proofs.SegmentLaws.{Segment, first-segment}
 use Rattle.chooser.specs.Kept.{Kept, Told, AllTold, Stretch, laterRuns}
 
 among-first : (c : Choice) (s : Tokens) (ss : List Tokens) → among c (filledOnes (s ∷ ss)) ≡ among (among c (filledOnes (s ∷ []))) (filledOnes ss)

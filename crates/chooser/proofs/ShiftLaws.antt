@@ -12,9 +12,9 @@ use Rattle.meaning.specs.Tokens.{Tokens}
 use Rattle.picking.specs.Literals.{literals}
 use Rattle.picking.specs.Choice.{least, beats, chosen}
 use Rattle.entries.specs.Words.{tokensIn}
-use Rattle.literals.specs.declared.Pick.{Pick}
-use Rattle.literals.specs.declared.Pick.the-variants.{Nothing, Taken, TooMany}
-use Rattle.literals.specs.Ranks.{choiceSays}
+use Rattle.picks.specs.declared.Pick.{Pick}
+use Rattle.picks.specs.declared.Pick.the-variants.{Nothing, Taken, TooMany}
+use Rattle.picks.specs.Ranks.{choiceSays}
 use Rattle.chooser.specs.Kept.{Inside}
 
 drop-front : (a n m : ℕ) (l : List ℕ) → m ≡ n - a → drop a (take n l) ≡ take m (drop a l)

@@ -9,9 +9,9 @@ use Rattle.picking.specs.Numbers.{count}
 use Rattle.picking.specs.Runs.{filledOnes}
 use Rattle.picking.specs.Choice.{least, chosen, inRun}
 use Rattle.entries.specs.Words.{tokensIn}
-use Rattle.literals.specs.declared.Pick.{Pick}
-use Rattle.literals.specs.declared.Pick.the-variants.{Nothing, Taken, TooMany}
-use Rattle.literals.specs.Whole.{Whole, afterward}
+use Rattle.picks.specs.declared.Pick.{Pick}
+use Rattle.picks.specs.declared.Pick.the-variants.{Nothing, Taken, TooMany}
+use Rattle.runs.specs.Whole.{Whole, afterward}
 
 -- the shortest literal is as long as the tokens tell: a byte and a class 1, alternatives their shortest branch
 abbrev pub Measured : Tokens → Type 0

@@ -8,11 +8,11 @@ ghost use Rattle.picking.specs.Literals.{literals};
 ghost use Rattle.picking.specs.Runs.{segments, filledOnes};
 ghost use Rattle.picking.specs.Choice.{least, beats, between, among, choice, unranked};
 ghost use Rattle.entries.specs.Words.{tokensIn};
-ghost use Rattle.literals.specs.Ranks.{choiceSays};
-ghost use Rattle.literals.specs.Whole.{Whole, afterward};
-ghost use Rattle.literals.specs.declared.Pick.the-variants.{Taken};
+ghost use Rattle.picks.specs.Ranks.{choiceSays};
+ghost use Rattle.runs.specs.Whole.{Whole, afterward};
+ghost use Rattle.picks.specs.declared.Pick.the-variants.{Taken};
 ghost use Rattle.chooser.specs.Kept.{Inside, Measured, Kept, AllTold, Stretch, laterRuns};
-use literals::Pick;
+use picks::Pick;
 
 fn smaller(a: usize, b: usize) -> usize
     ensures { λ r. ⌜ r ≡ min a b ⌝ }
@@ -108,7 +108,7 @@ fn later_runs(ws: &[u32], first: usize) -> Pick
     let mut top = Pick::Nothing;
     while 4 <= ws.len() - at {
         let from = at + entries::width_of(&ws[at..]);
-        let to = from + literals::run_words(&ws[from..]);
+        let to = from + runs::run_words(&ws[from..]);
         top = with_run(ws, from, to, top);
         at = to;
     }
@@ -120,7 +120,7 @@ pub fn choose(ws: &[u32]) -> Pick
     requires { ⌜ (length (now ws) ≤ 4096) × Whole (now ws) × AllTold (segments (tokensIn (now ws))) ⌝ }
     ensures { λ r. ⌜ (choiceSays (now (ws .entry)) r ≡ choice (tokensIn (now (ws .entry)))) × Kept (now (ws .entry)) r ⌝ }
 {
-    let first = literals::run_words(ws);
+    let first = runs::run_words(ws);
     let later = later_runs(ws, first);
     with_run(ws, 0, first, later)
 }

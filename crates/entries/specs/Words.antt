@@ -1,5 +1,5 @@
 -- Token entries, four words each, taken for the tokens that they stand for. Total: what is no entry of a token is taken for a jump.
--- Assumes nothing: these are definitions; crate literals shows (EntryLaws) that the entries of tokens are taken for those tokens.
+-- Assumes nothing: these are definitions; crate runs shows (EntryLaws) that the entries of tokens are taken for those tokens.
 use mathlib.Core.Bool.{cond}
 use mathlib.Core.List.{List}
 use Prim.Native.Nat.{ℕ, zero, suc, _+_, _-_, _*_, min}

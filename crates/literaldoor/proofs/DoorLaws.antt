@@ -22,11 +22,11 @@ use Rattle.generator.specs.declared.Wrote.{Wrote}
 use Rattle.generator.specs.declared.Wrote.the-variants.{All, NoRoom}
 use Rattle.generator.specs.Output as output
 use Rattle.generator.proofs.Arms.{wrote-all, wrote-none}
-use Rattle.literals.specs.declared.Pick.{Pick}
-use Rattle.literals.specs.declared.Pick.the-variants.{Nothing, Taken, TooMany}
-use Rattle.literals.specs.Ranks.{choiceSays}
-use Rattle.literals.specs.Whole.{Whole}
-use Rattle.literals.proofs.EntryLaws.{whole-entries, plain-entries, segments-entries}
+use Rattle.picks.specs.declared.Pick.{Pick}
+use Rattle.picks.specs.declared.Pick.the-variants.{Nothing, Taken, TooMany}
+use Rattle.picks.specs.Ranks.{choiceSays}
+use Rattle.runs.specs.Whole.{Whole}
+use Rattle.runs.proofs.EntryLaws.{whole-entries, plain-entries, segments-entries}
 use Rattle.literaldoor.specs.Door.{Said, gives, refuses, pickedSays, pickedBytes, pickedLengths, outcomeSays, outcomeBytes, outcomeLengths, literalsSays, bytesLeft, lengthsLeft, Picks}
 
 -- ---- what was written

@@ -2,3 +2,4 @@
 pub mod DoorLaws
 pub mod ToldLaws
 pub mod Promises
+pub mod ReadLaws

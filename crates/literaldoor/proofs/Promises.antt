@@ -21,7 +21,7 @@ use Rattle.picking.proofs.RefusalLaws.{Some, not-plain-is, too-many-given, too-
 use Rattle.picking.proofs.PickedLaws.{picked-few}
 use Rattle.picking.proofs.HoldLaws.{HoldsOne, match-holds-literal}
 use Rattle.generator.specs.Output as output
-use Rattle.literals.proofs.ReadLaws.{read-literal-bounds}
+use Rattle.literaldoor.proofs.ReadLaws.{read-literal-bounds}
 use Rattle.literaldoor.specs.declared.LiteralsAnswer.{LiteralsAnswer}
 use Rattle.literaldoor.specs.declared.LiteralsAnswer.the-variants as answer
 use Rattle.literaldoor.specs.Door.{gives, refuses, said, pickedSays, pickedBytes, pickedLengths, outcomeSays, outcomeBytes, outcomeLengths, literalsSays, bytesLeft, lengthsLeft}

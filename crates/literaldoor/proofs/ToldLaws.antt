@@ -12,8 +12,8 @@ use Rattle.picking.specs.Runs.{plain, segments}
 use Rattle.picking.proofs.KeepLaws.{Every}
 use Rattle.picking.proofs.ShortestLaws.{segments-told}
 use Rattle.entries.specs.Words.{tokensIn}
-use Rattle.literals.specs.Whole.{Whole}
-use Rattle.literals.proofs.EntryLaws.{plain-entries, segments-entries}
+use Rattle.runs.specs.Whole.{Whole}
+use Rattle.runs.proofs.EntryLaws.{plain-entries, segments-entries}
 use Rattle.chooser.specs.Kept.{Told, AllTold}
 use Rattle.literaldoor.proofs.DoorLaws.{entries-whole}
 

@@ -2,7 +2,7 @@
 // The door by which the search literals of any bytes, read as a pattern, are picked.
 use base::Refusal;
 use generator::Wrote;
-use literals::Pick;
+use picks::Pick;
 use readdoor::ReadAnswer;
 ghost use mathlib.Core.Path.{_≡_};
 ghost use mathlib.Core.Bool.{true};
@@ -13,8 +13,8 @@ ghost use Rattle.picking.specs.Numbers.{count};
 ghost use Rattle.picking.specs.Runs.{plain, segments};
 ghost use Rattle.picking.specs.Choice.{pick, taking, picked};
 ghost use Rattle.entries.specs.Words.{tokensIn};
-ghost use Rattle.literals.specs.Ranks.{choiceSays};
-ghost use Rattle.literals.specs.Whole.{Whole};
+ghost use Rattle.picks.specs.Ranks.{choiceSays};
+ghost use Rattle.runs.specs.Whole.{Whole};
 ghost use Rattle.chooser.specs.Kept.{Kept, AllTold};
 ghost use Rattle.literaldoor.specs.Door.{said, literalsSays, bytesLeft, lengthsLeft, Picks};
 

@@ -11,12 +11,12 @@ use Rattle.picking.specs.Runs.{parts, slice, longer}
 use Rattle.picking.specs.Choice.{Choice, rank, widened, best}
 use Rattle.entries.specs.Words.{tokensIn}
 use Rattle.entries.proofs.PartLaws.{part-all, part-long}
-use Rattle.literals.specs.declared.Pick.{Pick}
-use Rattle.literals.specs.declared.Rank.{Rank}
-use Rattle.literals.specs.Ranks.{rankSays, choiceSays, Settles}
-use Rattle.literals.specs.Whole.{Whole, byteEnd, partEnd, Placed}
-use Rattle.literals.proofs.PartLaws.{Part, first-part}
-use Rattle.literals.proofs.PickLaws.{Stands}
+use Rattle.picks.specs.declared.Pick.{Pick}
+use Rattle.picks.specs.declared.Rank.{Rank}
+use Rattle.picks.specs.Ranks.{rankSays, choiceSays, Settles}
+use Rattle.runs.specs.Whole.{Whole, byteEnd, partEnd, Placed}
+use Rattle.runs.proofs.PartLaws.{Part, first-part}
+use Rattle.picks.proofs.PickLaws.{Stands}
 use Rattle.literals.proofs.SliceLaws.{nextLiteral, further, turn, further-more, Next, next-of, widened-words, grown-words, grown-whole, later-words}
 
 -- the tokens of the words from a to b

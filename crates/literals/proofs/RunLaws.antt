@@ -20,11 +20,11 @@ use Rattle.picking.proofs.RefusalLaws.{best-full}
 use Rattle.entries.specs.Words.{tokensIn}
 use Rattle.entries.proofs.StepLaws.{tokens-end}
 use Rattle.entries.proofs.PartLaws.{part-all, part-long}
-use Rattle.literals.specs.declared.Pick.{Pick}
-use Rattle.literals.specs.declared.Pick.the-variants.{Nothing, Taken, TooMany}
-use Rattle.literals.specs.Ranks.{choiceSays}
-use Rattle.literals.specs.Whole.{Whole, none as empty, partEnd, Placed}
-use Rattle.literals.proofs.PartLaws.{Part, first-part}
+use Rattle.picks.specs.declared.Pick.{Pick}
+use Rattle.picks.specs.declared.Pick.the-variants.{Nothing, Taken, TooMany}
+use Rattle.picks.specs.Ranks.{choiceSays}
+use Rattle.runs.specs.Whole.{Whole, none as empty, partEnd, Placed}
+use Rattle.runs.proofs.PartLaws.{Part, first-part}
 use Rattle.literals.proofs.SliceLaws.{later-words}
 use Rattle.literals.proofs.LongerLaws.{words}
 

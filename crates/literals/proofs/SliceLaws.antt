@@ -14,9 +14,9 @@ use Rattle.picking.specs.Runs.{isLiteral, parts, Slice, slice, literalOnly, lon
 use Rattle.picking.specs.Choice.{Choice, rank, against, rankOf, best}
 use Rattle.entries.specs.Words.{tokensIn}
 use Rattle.entries.proofs.StepLaws.{tokens-end}
-use Rattle.literals.specs.Whole.{Whole, none, byteEnd}
-use Rattle.literals.proofs.WholeLaws.{split, both-whole}
-use Rattle.literals.proofs.PartLaws.{Part, byte-end-none, byte-end-other, bytes-part, token-part}
+use Rattle.runs.specs.Whole.{Whole, none, byteEnd}
+use Rattle.runs.proofs.WholeLaws.{split, both-whole}
+use Rattle.runs.proofs.PartLaws.{Part, byte-end-none, byte-end-other, bytes-part, token-part}
 
 -- the literal part that comes next, or nothing
 unfoldable pub nextLiteral : List Tokens → Tokens

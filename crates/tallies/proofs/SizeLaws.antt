@@ -1,7 +1,7 @@
 -- Tokens are no more than the entries they stand in. Assumes nothing.
 use mathlib.Core.Path.{_≡_, refl, ap, _∙_}
 use mathlib.Core.Bool.{Bool, true, false}
-use mathlib.Core.List.{List}
+use mathlib.Core.List.{List, [], _∷_, List·Memᴰ, List·Memᴰ·head, List·Memᴰ·tail}
 use Prim.Native.Nat.{ℕ, zero, suc, _*_, _≤_, _<_}
 use native.Mathlib.Omega.{arith}
 use native.Mathlib.Nat.{le-refl}
@@ -15,6 +15,10 @@ use Rattle.entries.proofs.StepLaws.{flat-end, flat-step, lists-end, lists-step,
 use Rattle.entries.proofs.PlainLaws.{token-alternatives, token-entry}
 use Rattle.classes.proofs.KindLaws.{entry-cases}
 use Rattle.tallies.proofs.TallyLaws.{length-inside}
+use Rattle.picking.specs.Literals.{literals}
+use Rattle.picking.specs.Numbers.{count, literalAt}
+use Rattle.picking.proofs.NumberLaws.{count-literals, literal-numbered}
+use Rattle.picking.proofs.LengthLaws.{literal-lengths}
 
 entry-size : (k v m : ℕ) → totalIn (entryToken k v m) ≡ 1
 unfolding totalIn
@@ -70,3 +74,20 @@ unfolding total
 tokens-size =
     by-steps width width-long (λ ws. 4 * total (tokensIn ws) ≤ length ws) (λ ws h. rw (tokens-end ws h) (omega arith))
     (λ ws h e. rw (tokens-step ws h) (let a = token-size ws h in let b = width-le ws h in let d = length-drop (width ws) ws in omega arith))
+
+-- ---- literals
+
+nth-in : (l : List (List ℕ)) (k : ℕ) → k < length l → List·Memᴰ (getD l k []) l
+nth-in [] k h = absurd (omega arith)
+nth-in (x ∷ l) zero h = List·Memᴰ·head refl
+nth-in (x ∷ l) (suc k) h = List·Memᴰ·tail (nth-in l k (omega arith))
+
+-- a literal is no longer than the entries
+pub literal-fits : (ws : List ℕ) (k : ℕ) → k < count (tokensIn ws) → 4 * length (literalAt (tokensIn ws) k) ≤ length ws
+literal-fits ws k h =
+    let T = tokensIn ws in
+    let m : List·Memᴰ (getD (literals T) k []) (literals T) = nth-in (literals T) k (let e = count-literals T in omega arith) in
+    let l : length (getD (literals T) k []) ≤ total T = literal-lengths T (getD (literals T) k []) m .1 in
+    let e : length (getD (literals T) k []) ≡ length (literalAt T k) = ap length (literal-numbered T k h) in
+    let s = tokens-size ws in
+    omega arith

@@ -1,5 +1,5 @@
 -- `generator::length_at` meets its contract. Assumes nothing.
-use Rattle.literals.proofs.RankLaws.{literal-fits}
+use Rattle.tallies.proofs.SizeLaws.{literal-fits}
 use native.Mathlib.Omega.{arith}
 use borrow.Author.Needs.{needs}
 use Rattle.generator.proofs.length_at.Statement.{statement}

@@ -1,7 +1,7 @@
 -- `generator::write_each` meets its contract. Assumes nothing.
 use Prim.Native.Nat.{_-_, _≤_}
 use Rattle.entries.specs.Words.{tokensIn}
-use Rattle.literals.proofs.RankLaws.{literal-fits}
+use Rattle.tallies.proofs.SizeLaws.{literal-fits}
 use Rattle.generator.proofs.OutputLaws as law
 use native.Mathlib.Omega.{arith}
 use borrow.Author.Needs.{needs}

@@ -3,7 +3,7 @@ use borrow.Author.Needs.{needs}
 use borrow.Author.Tests.{not-true, not-false}
 use Rattle.literaldoor.proofs.DoorLaws as law
 use Rattle.literaldoor.specs.Door.{said}
-use Rattle.literals.specs.Ranks.{choiceSays}
+use Rattle.picks.specs.Ranks.{choiceSays}
 use Rattle.entries.specs.Words.{tokensIn}
 use Prim.Native.Nat.{_-_}
 use mathlib.Core.Path.{sym, _∙_}

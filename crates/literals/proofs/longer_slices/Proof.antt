@@ -1,7 +1,7 @@
 -- `literals::longer_slices` meets its contract. Assumes nothing.
 use Rattle.entries.proofs.PartLaws.{part-long}
 use lib.ListN.{length, drop, length-drop, length-take}
-use Rattle.literals.specs.Ranks.{choiceSays}
+use Rattle.picks.specs.Ranks.{choiceSays}
 use Rattle.literals.proofs.LongerLaws.{Going}
 use Rattle.literals.proofs.SliceLaws as slices
 use Rattle.literals.proofs.LongerLaws as law

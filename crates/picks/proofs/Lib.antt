@@ -1,0 +1,2 @@
+-- The laws of one more slice.
+pub mod PickLaws

@@ -1,0 +1,3 @@
+-- The laws of scores and ranks.
+pub mod RankLaws
+pub mod WorthLaws
