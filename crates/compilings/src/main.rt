@@ -106,7 +106,7 @@ fn run(input: &[u8]) {
     let mut start = 0;
     let mut i = 0;
     while i < input.len() {
-        if input[i] == 10 {
+        if input[i] == b'\n' {
             fresh(&input[start..i]);
             start = i + 1;
         }

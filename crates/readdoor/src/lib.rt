@@ -21,14 +21,14 @@ fn read_text(text: &[u8], pool: &mut [u32]) -> ReadAnswer
     if 4096 < text.len() {
         return ReadAnswer::Refused(Refusal::TextTooLong, 0);
     }
-    if digits::peek(text, 0) != 123 {
+    if digits::peek(text, 0) != b'{' {
         return ReadAnswer::Refused(Refusal::Unexpected, 0);
     }
     let at = digits::skip_blanks(text, 1);
     let got = reader::read_list(text, at, 1, 0, pool, 0);
     match got {
         ListGot::Read(stop, words, _, _) => {
-            if digits::peek(text, stop) != 125 {
+            if digits::peek(text, stop) != b'}' {
                 return ReadAnswer::Refused(Refusal::Unexpected, stop);
             }
             let end = digits::skip_blanks(text, stop + 1);

@@ -209,7 +209,7 @@ pub fn read_alternatives(
     requires { ⌜ Room (length (now text)) at level count n (length (now pool)) × (level ≤ 8) ⌝ }
     ensures { λ r. ⌜ TokenSays (alternatives (now (text .entry)) level count at) n r (now (pool .entry)) (now (pool .exit)) ⌝ }
 {
-    if digits::peek(text, at) != 40 {
+    if digits::peek(text, at) != b'(' {
         return TokenGot::Absent;
     }
     if 512 <= count {
@@ -227,11 +227,11 @@ pub fn read_alternatives(
                 put_head(pool, m, 6, own, used);
                 k += 1;
                 let after = digits::peek(text, end);
-                if after == 41 {
+                if after == b')' {
                     put_head(pool, n, 5, k, used);
                     return TokenGot::Read(digits::skip_blanks(text, end + 1), used, counted, false);
                 }
-                if after != 124 {
+                if after != b'|' {
                     return TokenGot::Refused(Refusal::Unexpected, end);
                 }
                 miss = end;

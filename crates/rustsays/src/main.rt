@@ -111,10 +111,13 @@ fn size(n: u16) -> usize {
     n as usize
 }
 
+// What a letter has more than the value for which it stands.
+const UPPER: u8 = b'A' - 10;
+
 fn digit(v: u8) -> u8
     requires { ⌜ v ≤ 15 ⌝ }
 {
-    if v < 10 { 48 + v } else { 55 + v }
+    if v < 10 { b'0' + v } else { UPPER + v }
 }
 
 // A byte as two digits.
