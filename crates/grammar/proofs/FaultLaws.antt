@@ -3,6 +3,7 @@ use mathlib.Core.Path.{_≡_, refl, sym, ap, ap₂, _∙_, subst, subst₂}
 use mathlib.Core.Bool.{Bool, true, false, _&&_, _||_}
 use mathlib.Core.Logic.{_⊎_, inl, inr, ⊎-elim, _↔_}
 use mathlib.Core.List.{List}
+use Prim.Native.Char.{code}
 use Prim.Native.Nat.{ℕ, suc, _+_, _-_, _≤_, _<_}
 use native.Mathlib.Omega.{arith}
 use lib.Dec.{leb, ltb}
@@ -151,7 +152,7 @@ module _ {t : List ℕ} where
 
 -- and back: from the grammar's places to the reader's; the outer list, and one in brackets
 abbrev Outer : List ℕ → ℕ → ℕ → ℕ → ℕ → Type 0
-Outer t l c at miss = (length t ≤ 4096) × (here t 0 ≡ 123) × (l ≡ 1) × (c ≡ 0) × (at ≡ skip t 1) × (miss ≡ skip t 1)
+Outer t l c at miss = (length t ≤ 4096) × (here t 0 ≡ code "{") × (l ≡ 1) × (c ≡ 0) × (at ≡ skip t 1) × (miss ≡ skip t 1)
 
 abbrev Inner : List ℕ → ℕ → ℕ → ℕ → ℕ → Type 0
 Inner t l c at miss = given.InBrackets t l c at miss × (1 < l) × (c ≤ 512)
@@ -263,7 +264,7 @@ module _ {t : List ℕ} where
   fault-given (fault.too-deep b h) = given.too-deep (inner (omega arith) (begins-here b) .0) h
   fault-given (fault.too-many {level = l} {at = at} {e = e} {tok = tok} k s) = let x = looked-here k in go (x .0) (seen (x .1) s)
     where
-      go : given.Looked t l 512 at → ((y : ℕ) × (plainAt t (ltb 1 l) at ≡ found tok y e)) ⊎ (here t at ≡ 40) → Given t TooManyTokens at
+      go : given.Looked t l 512 at → ((y : ℕ) × (plainAt t (ltb 1 l) at ≡ found tok y e)) ⊎ (here t at ≡ code "(") → Given t TooManyTokens at
       go k (inl y) = given.too-many k (omega arith) (y .1)
       go k (inr o) = given.too-many-brackets k (omega arith) o
   fault-given (fault.too-many-brackets k m) = given.too-many-brackets (looked-here k .0) (omega arith) (mark-here m .0)

@@ -2,6 +2,7 @@
 use mathlib.Core.Path.{_≡_, refl, subst}
 use mathlib.Core.Bool.{Bool, true, false, cond}
 use mathlib.Core.List.{List}
+use Prim.Native.Char.{code}
 use Prim.Native.Nat.{ℕ, zero, suc, _+_, _-_, _<_, _≤_}
 use native.Mathlib.Omega.{arith}
 use borrow.Author.Tests.{ltb-true, ltb-false, eqb-true, lt-ltb}
@@ -60,15 +61,15 @@ token-or-right t level count at (refused r z) other p q = tt
 bracketed-right : (t : List ℕ) (level count at : ℕ) (ls : Parsed Lists) → (count < 512 → ListsRight t (level + 1) (count + 1) (skip t (at + 1)) ls)
     → TokenRight t level count at (bracketed t at count ls)
 unfolding Right bracketed asToken SpellsToken totalIn depthIn
-bracketed-right t level count at ls k = go (eqb (here t at) 40) (ltb count 512) ls refl refl k
+bracketed-right t level count at ls k = go (eqb (here t at) (code "(")) (ltb count 512) ls refl refl k
   where
-    go : (a b : Bool) (ls : Parsed Lists) → eqb (here t at) 40 ≡ a → ltb count 512 ≡ b → (count < 512 → ListsRight t (level + 1) (count + 1) (skip t (at + 1)) ls)
+    go : (a b : Bool) (ls : Parsed Lists) → eqb (here t at) (code "(") ≡ a → ltb count 512 ≡ b → (count < 512 → ListsRight t (level + 1) (count + 1) (skip t (at + 1)) ls)
         → TokenRight t level count at (cond a (cond b (asToken ls) (stopped TooManyTokens at)) missing)
     go true true (read ls e c) d f k =
         let p = k (ltb-true count 512 f) in
         let q : c ≡ count + 1 + totals ls = p .1 in
         let l : depths ls ≤ 9 - (level + 1) = p .3 in
-        (change (λ u z. z) (seq (mark-stands t at 40 (eqb-true (here t at) 40 d) (omega arith)) (p .0)), omega arith, p .2, omega arith)
+        (change (λ u z. z) (seq (mark-stands t at (code "(") (eqb-true (here t at) (code "(") d) (omega arith)) (p .0)), omega arith, p .2, omega arith)
     go true true missing d f k = tt
     go true true (stopped r z) d f k = tt
     go true false ls d f k = tt
@@ -115,7 +116,7 @@ list-right t level count at x p = deep (ltb 8 level) refl x p
     deep false d x p = shallow (ltb-false 8 level d) x p
 
 -- lists after `|` are the rest of the lists before it
-rest-lists : (ls : Lists) (s : List ℕ) → (Marked 124 ⨾ (λ b. SpellsLists ls b)) s → SpellsRest ls s
+rest-lists : (ls : Lists) (s : List ℕ) → (Marked (code "|") ⨾ (λ b. SpellsLists ls b)) s → SpellsRest ls s
 unfolding _⨾_ SpellsLists SpellsRest
 rest-lists neither s p = absurd (p .4)
 rest-lists (ts or ls) s p = (p .4 .0, (p .0, p .1, p .2, p .3, p .4 .1))
@@ -123,7 +124,7 @@ rest-lists (ts or ls) s p = (p .4 .0, (p .0, p .1, p .2, p .3, p .4 .1))
 lists-right : (t : List ℕ) (level count at miss : ℕ) (x : Parsed Tokens) (more : ℕ → ℕ → ℕ → Parsed Lists) → 2 ≤ level → ListRight t level count at x
     → ((c e m : ℕ) → c ≤ 512 → ListsRight t level c e (more c e m)) → ListsRight t level count at (thenLists t miss x more)
 unfolding Right thenLists beside SpellsLists SpellsRest totals depths
-lists-right t level count at miss (read ts e c) more l p k = go (eqb (here t e) 41) (eqb (here t e) 124) refl refl (more c (skip t (e + 1)) e) (k c (skip t (e + 1)) e (p .2))
+lists-right t level count at miss (read ts e c) more l p k = go (eqb (here t e) (code ")")) (eqb (here t e) (code "|")) refl refl (more c (skip t (e + 1)) e) (k c (skip t (e + 1)) e (p .2))
   where
     inside : ltb 1 level ≡ true
     inside = lt-ltb 1 level l
@@ -133,18 +134,18 @@ lists-right t level count at miss (read ts e c) more l p k = go (eqb (here t e) 
         change (λ u z. (p .0 .spelled .0, z))
         (seq (change {Q = λ s. SpellsTokens true ts s} (λ u z. subst (λ (i : Bool). SpellsTokens i ts u) inside (z .1)) (p .0)) r)
 
-    go : (a b : Bool) → eqb (here t e) 41 ≡ a → eqb (here t e) 124 ≡ b → (y : Parsed Lists) → ListsRight t level c (skip t (e + 1)) y
+    go : (a b : Bool) → eqb (here t e) (code ")") ≡ a → eqb (here t e) (code "|") ≡ b → (y : Parsed Lists) → ListsRight t level c (skip t (e + 1)) y
         → ListsRight t level count at (cond a (read (ts or neither) (skip t (e + 1)) c) (cond b (beside ts y) (stopped Unexpected e)))
     go true b d f y q =
         let i : c ≡ count + total ts = p .1 in
         let j : depth ts ≤ 9 - level = p .3 in
-        (first neither (change (λ u z. z) (mark-stands t e 41 (eqb-true (here t e) 41 d) (omega arith))), omega arith, p .2, omega arith)
+        (first neither (change (λ u z. z) (mark-stands t e (code ")") (eqb-true (here t e) (code ")") d) (omega arith))), omega arith, p .2, omega arith)
     go false true d f (read ls g h) q =
         let i : c ≡ count + total ts = p .1 in
         let j : depth ts ≤ 9 - level = p .3 in
         let m : h ≡ c + totals ls = q .1 in
         let n : depths ls ≤ 9 - level = q .3 in
-        (first ls (change (λ u z. rest-lists ls u z) (seq (mark-stands t e 124 (eqb-true (here t e) 124 f) (omega arith)) (q .0))), omega arith, q .2, omega arith)
+        (first ls (change (λ u z. rest-lists ls u z) (seq (mark-stands t e (code "|") (eqb-true (here t e) (code "|") f) (omega arith)) (q .0))), omega arith, q .2, omega arith)
     go false true d f missing q = tt
     go false true d f (stopped r z) q = tt
     go false false d f y q = tt

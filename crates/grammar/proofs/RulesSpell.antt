@@ -33,9 +33,9 @@ mark-spells {c} (rule.mark {b = b} p) = (code c ∷ [], b, refl, refl, blanks-sp
 
 digit-spells : {v : ℕ} {s : List ℕ} → rule.Digit v s → HexDigit v s
 unfolding HexDigit
-digit-spells (rule.decimal {v = v} h) = (48 + v, refl, decimal h refl)
-digit-spells (rule.upper {v = v} h) = (65 + v, refl, upper (omega arith) (omega arith) (omega arith))
-digit-spells (rule.lower {v = v} h) = (97 + v, refl, lower (omega arith) (omega arith) (omega arith))
+digit-spells (rule.decimal {v = v} h) = (code "0" + v, refl, decimal h refl)
+digit-spells (rule.upper {v = v} h) = (code "A" + v, refl, upper (omega arith) (omega arith) (omega arith))
+digit-spells (rule.lower {v = v} h) = (code "a" + v, refl, lower (omega arith) (omega arith) (omega arith))
 
 whole-spells : {v : ℕ} {s : List ℕ} → rule.Whole v s → Spaced (Whole v) s
 unfolding Spaced Whole _⨾_
@@ -44,23 +44,23 @@ whole-spells (rule.whole {h = h} {l = l} {a = a} {b = b} {c = c} p q r) =
 
 half-spells : {v : ℕ} {m : Mask} {s : List ℕ} → rule.Half v m s → Spaced (Masked v m) s × Negatable m
 unfolding Spaced Masked _⨾_ Sign Negatable
-half-spells (rule.low {a = a} {b = b} p q) = ((63 ∷ a, b, refl, (63 ∷ [], a, refl, refl, digit-spells p), blanks-spell q), tt)
+half-spells (rule.low {a = a} {b = b} p q) = ((code "?" ∷ a, b, refl, (code "?" ∷ [], a, refl, refl, digit-spells p), blanks-spell q), tt)
 half-spells (rule.high {a = a} p (rule.mark {b = b} q)) =
-    ((a ++ (63 ∷ []), b, sym (append-assoc a (63 ∷ []) b), (a, 63 ∷ [], refl, digit-spells p, refl), blanks-spell q), tt)
+    ((a ++ (code "?" ∷ []), b, sym (append-assoc a (code "?" ∷ []) b), (a, code "?" ∷ [], refl, digit-spells p, refl), blanks-spell q), tt)
 
-any-spells : {s : List ℕ} → rule.Mark "?" s → Spaced (Masked 0 all) (63 ∷ s)
+any-spells : {s : List ℕ} → rule.Mark "?" s → Spaced (Masked 0 all) (code "?" ∷ s)
 unfolding Spaced Masked _⨾_ Sign
-any-spells (rule.mark {b = b} q) = (63 ∷ (63 ∷ []), b, refl, (refl, (63 ∷ [], 63 ∷ [], refl, refl, refl)), blanks-spell q)
+any-spells (rule.mark {b = b} q) = (code "?" ∷ (code "?" ∷ []), b, refl, (refl, (code "?" ∷ [], code "?" ∷ [], refl, refl, refl)), blanks-spell q)
 
 -- one digit more
-digit-after : (s : List ℕ) (v : ℕ) → v < 10 → Decimals s → Decimals (s ++ ((48 + v) ∷ [])) × (value (s ++ ((48 + v) ∷ [])) ≡ 10 * value s + v)
+digit-after : (s : List ℕ) (v : ℕ) → v < 10 → Decimals s → Decimals (s ++ ((code "0" + v) ∷ [])) × (value (s ++ ((code "0" + v) ∷ [])) ≡ 10 * value s + v)
 unfolding Decimals value
 digit-after [] v h p = ((omega arith, omega arith, tt), omega arith)
 digit-after (c ∷ s) v h p =
     let i = digit-after s v h (p .2) in
-    let k : length (s ++ ((48 + v) ∷ [])) ≡ length s + 1 = length-append s ((48 + v) ∷ []) in
-    let l : length (s ++ ((48 + v) ∷ [])) ≡ suc (length s) = omega arith in
-    let e : value (s ++ ((48 + v) ∷ [])) ≡ 10 * value s + v = i .1 in
+    let k : length (s ++ ((code "0" + v) ∷ [])) ≡ length s + 1 = length-append s ((code "0" + v) ∷ []) in
+    let l : length (s ++ ((code "0" + v) ∷ [])) ≡ suc (length s) = omega arith in
+    let e : value (s ++ ((code "0" + v) ∷ [])) ≡ 10 * value s + v = i .1 in
     let q : 10 ^ suc (length s) ≡ 10 ^ length s * 10 = pow-suc 10 (length s) in
     ((p .0, p .1, i .0), rw (l, q, e) (omega arith))
 
@@ -70,9 +70,9 @@ numeral-spells (rule.digit {v = v} h) = ((omega arith, omega arith, tt), omega a
 numeral-spells (rule.digits {n = n} {v = v} {s = s} p h) =
     let i = numeral-spells p in
     let j = digit-after s v h (i .0) in
-    let k : length (s ++ ((48 + v) ∷ [])) ≡ length s + 1 = length-append s ((48 + v) ∷ []) in
+    let k : length (s ++ ((code "0" + v) ∷ [])) ≡ length s + 1 = length-append s ((code "0" + v) ∷ []) in
     let e : n ≡ value s = i .2 in
-    let f : value (s ++ ((48 + v) ∷ [])) ≡ 10 * value s + v = j .1 in
+    let f : value (s ++ ((code "0" + v) ∷ [])) ≡ 10 * value s + v = j .1 in
     (j .0, omega arith, omega arith)
 
 pub number-spells : {n : ℕ} {s : List ℕ} → rule.Number n s → Number n s
@@ -145,9 +145,9 @@ mutual
 
   pub solid-spells : {level : ℕ} {tok : Token} {s : List ℕ} → 1 ≤ level → level ≤ 8 → rule.Solid level tok s → SolidSpells level tok s
   solid-spells l h (rule.byte p) = (whole-spells p, tt, omega arith)
-  solid-spells l h (rule.not-byte {s = s} p) = ((126 ∷ [], s, refl, refl, whole-spells p), tt, omega arith)
+  solid-spells l h (rule.not-byte {s = s} p) = ((code "~" ∷ [], s, refl, refl, whole-spells p), tt, omega arith)
   solid-spells l h (rule.half p) = (inl (half-spells p .0), tt, omega arith)
-  solid-spells l h (rule.not-half {s = s} p) = ((half-spells p .1, (126 ∷ [], s, refl, refl, half-spells p .0)), tt, omega arith)
+  solid-spells l h (rule.not-half {s = s} p) = ((half-spells p .1, (code "~" ∷ [], s, refl, refl, half-spells p .0)), tt, omega arith)
   solid-spells l h (rule.any p) = (inl (any-spells p), tt, omega arith)
   solid-spells l h (rule.one p) = (inr (refl, range-spells p), tt, omega arith)
   solid-spells l h (rule.alternatives {level = level} {ts = ts} {ls = ls} {a = a} {b = b} {c = c} e p q r k) =

@@ -48,11 +48,11 @@ digit-is : (v : ℕ) (c : ℕ) → Digit c v → rule.Digit v (c ∷ [])
 digit-is v c (decimal l e) = subst (λ (x : ℕ). rule.Digit v (x ∷ [])) (sym e) (rule.decimal l)
 digit-is v c (upper k l e) =
     let x : 10 + (v - 10) ≡ v = omega arith in
-    let y : 65 + (v - 10) ≡ c = sym e in
+    let y : code "A" + (v - 10) ≡ c = sym e in
     subst₂ (λ (a b : ℕ). rule.Digit a (b ∷ [])) x y (rule.upper (omega arith))
 digit-is v c (lower k l e) =
     let x : 10 + (v - 10) ≡ v = omega arith in
-    let y : 97 + (v - 10) ≡ c = sym e in
+    let y : code "a" + (v - 10) ≡ c = sym e in
     subst₂ (λ (a b : ℕ). rule.Digit a (b ∷ [])) x y (rule.lower (omega arith))
 
 digit-derived : (v : ℕ) (s : List ℕ) → HexDigit v s → rule.Digit v s
@@ -78,10 +78,10 @@ half-derived : (v : ℕ) (m : Mask) (s : List ℕ) → Negatable m → Spaced (M
 unfolding Spaced Masked _⨾_ Sign Negatable
 half-derived v left s n p =
     let q = p .3 in
-    subst (rule.Half v left) (sym (sign-first 63 s (p .0) (p .1) (q .0) (q .1) (p .2) (q .2) (q .3))) (rule.low (digit-derived v (q .1) (q .4)) (blanks-derived (p .1) (p .4)))
+    subst (rule.Half v left) (sym (sign-first (code "?") s (p .0) (p .1) (q .0) (q .1) (p .2) (q .2) (q .3))) (rule.low (digit-derived v (q .1) (q .4)) (blanks-derived (p .1) (p .4)))
 half-derived v right s n p =
     let q = p .3 in
-    subst (rule.Half v right) (sym (sign-last 63 s (p .0) (p .1) (q .0) (q .1) (p .2) (q .2) (q .4))) (rule.high (digit-derived v (q .0) (q .3)) (rule.mark (blanks-derived (p .1) (p .4))))
+    subst (rule.Half v right) (sym (sign-last (code "?") s (p .0) (p .1) (q .0) (q .1) (p .2) (q .2) (q .4))) (rule.high (digit-derived v (q .0) (q .3)) (rule.mark (blanks-derived (p .1) (p .4))))
 half-derived v all s n p = absurd n
 
 -- digits after those of a number
@@ -91,22 +91,22 @@ digits-after n a [] p q =
     let e : n ≡ n * 10 ^ 0 + 0 = omega arith in
     subst₂ rule.Numeral e (sym (append-nil a)) p
 digits-after n a (c ∷ s) p q =
-    let l : 48 ≤ c = q .0 in
-    let h : c ≤ 57 = q .1 in
-    let y : 48 + (c - 48) ≡ c = omega arith in
-    let i = digits-after (10 * n + (c - 48)) (a ++ (c ∷ [])) s (subst (λ (x : ℕ). rule.Numeral (10 * n + (c - 48)) (a ++ (x ∷ []))) y (rule.digits p (omega arith))) (q .2) in
+    let l : code "0" ≤ c = q .0 in
+    let h : c ≤ code "9" = q .1 in
+    let y : code "0" + (c - code "0") ≡ c = omega arith in
+    let i = digits-after (10 * n + (c - code "0")) (a ++ (c ∷ [])) s (subst (λ (x : ℕ). rule.Numeral (10 * n + (c - code "0")) (a ++ (x ∷ []))) y (rule.digits p (omega arith))) (q .2) in
     let k : 10 ^ suc (length s) ≡ 10 ^ length s * 10 = pow-suc 10 (length s) in
-    let e : (10 * n + (c - 48)) * 10 ^ length s + value s ≡ n * 10 ^ suc (length s) + ((c - 48) * 10 ^ length s + value s) = rw k (omega arith) in
+    let e : (10 * n + (c - code "0")) * 10 ^ length s + value s ≡ n * 10 ^ suc (length s) + ((c - code "0") * 10 ^ length s + value s) = rw k (omega arith) in
     subst₂ rule.Numeral e (append-assoc a (c ∷ []) s) i
 
 pub numeral-derived : (s : List ℕ) → Decimals s → 0 < length s → rule.Numeral (value s) s
 unfolding Decimals value
 numeral-derived [] p h = let z : 0 < 0 = h in absurd (omega arith)
 numeral-derived (c ∷ s) p h =
-    let l : 48 ≤ c = p .0 in
-    let k : c ≤ 57 = p .1 in
-    let y : 48 + (c - 48) ≡ c = omega arith in
-    digits-after (c - 48) (c ∷ []) s (subst (λ (x : ℕ). rule.Numeral (c - 48) (x ∷ [])) y (rule.digit (omega arith))) (p .2)
+    let l : code "0" ≤ c = p .0 in
+    let k : c ≤ code "9" = p .1 in
+    let y : code "0" + (c - code "0") ≡ c = omega arith in
+    digits-after (c - code "0") (c ∷ []) s (subst (λ (x : ℕ). rule.Numeral (c - code "0") (x ∷ [])) y (rule.digit (omega arith))) (p .2)
 
 pub number-derived : (n : ℕ) (s : List ℕ) → Number n s → rule.Number n s
 unfolding Number Numeral Spaced _⨾_
@@ -163,12 +163,12 @@ masked-derived level v right s (inl p) = rule.half (half-derived v right s tt p)
 masked-derived level v right s (inr p) = absurd p
 masked-derived level v all s (inl p) =
     let q = p .3 .1 in
-    let e : s ≡ 63 ∷ (63 ∷ p .1) = sign-first 63 s (p .0) (p .1) (q .0) (q .1) (p .2) (q .2) (q .3) ∙ ap (λ (x : List ℕ). 63 ∷ (x ++ p .1)) (q .4) in
+    let e : s ≡ code "?" ∷ (code "?" ∷ p .1) = sign-first (code "?") s (p .0) (p .1) (q .0) (q .1) (p .2) (q .2) (q .3) ∙ ap (λ (x : List ℕ). code "?" ∷ (x ++ p .1)) (q .4) in
     subst₂ (λ (n : ℕ) (x : List ℕ). rule.Solid level (MaskedByte n all) x) (sym (p .3 .0)) (sym e) (rule.any (rule.mark (blanks-derived (p .1) (p .4))))
 masked-derived level v all s (inr p) = subst (λ (n : ℕ). rule.Solid level (MaskedByte n all) s) (sym (p .0)) (rule.one (range-derived 1 (some 1) s (p .1)))
 
 -- `~` before a token
-tilde : (s a b : List ℕ) → s ≡ a ++ b → a ≡ 126 ∷ [] → s ≡ 126 ∷ b
+tilde : (s a b : List ℕ) → s ≡ a ++ b → a ≡ code "~" ∷ [] → s ≡ code "~" ∷ b
 tilde s a b h k = h ∙ ap (λ (x : List ℕ). x ++ b) k
 
 pub jump-derived : (level from : ℕ) (to : Option ℕ) (s : List ℕ) → 1 ≤ level → SpellsToken (ltb 1 level) (Jump from to) s → rule.Gap level (Jump from to) s

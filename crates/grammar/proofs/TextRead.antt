@@ -2,6 +2,7 @@
 use mathlib.Core.Path.{_≡_, refl, sym, ap, _∙_}
 use mathlib.Core.Logic.{_↔_}
 use mathlib.Core.List.{List, _++_}
+use Prim.Native.Char.{code}
 use Prim.Native.Nat.{ℕ, _+_, _≤_}
 use native.Mathlib.Omega.{arith}
 use borrow.Author.Tests.{le-leb}
@@ -17,7 +18,7 @@ use Rattle.grammar.proofs.Fronts.{marked-form, mark-seen}
 use Rattle.grammar.proofs.TextSpelled.{accepted-spelled}
 use Rattle.grammar.proofs.ListsRead.{outer-clear, outer-is-read}
 
-text-steps : (t : List ℕ) (x : ℕ) (ts : Tokens) (y c e : ℕ) → length t ≤ 4096 → here t 0 ≡ 123 → skip t 1 ≡ x → list t 1 0 x ≡ read ts y c → here t y ≡ 125 → skip t (y + 1) ≡ e
+text-steps : (t : List ℕ) (x : ℕ) (ts : Tokens) (y c e : ℕ) → length t ≤ 4096 → here t 0 ≡ code "{" → skip t 1 ≡ x → list t 1 0 x ≡ read ts y c → here t y ≡ code "}" → skip t (y + 1) ≡ e
     → reading t ≡ accepted e ts
 unfolding reading closing
 text-steps t x ts y c e l h s k i j = rw (le-leb (length t) 4096 l, h, s, k, i, j) refl
@@ -31,10 +32,10 @@ string-read t ts w r h p q d n l =
     let k = p .4 .1 in
     let c1 = cut t 0 w m (p .1) r h (p .2) in
     let c2 = cut t (0 + length m) (p .1) u k r (c1 .1) (p .4 .2) in
-    let s1 = mark-seen t 0 123 m (p .1 ++ r) (c1 .0) (p .3) (outer-clear ts (p .1) r (p .4)) in
-    let f = marked-form 125 k (p .4 .4) in
+    let s1 = mark-seen t 0 (code "{") m (p .1 ++ r) (c1 .0) (p .3) (outer-clear ts (p .1) r (p .4)) in
+    let f = marked-form (code "}") k (p .4 .4) in
     let s2 = outer-is-read ts t (0 + length m) u (f .0 ++ r) (c2 .0 ∙ ap (λ (s : List ℕ). u ++ (s ++ r)) (f .1)) (p .4 .3 .1) (p .4 .3 .0) d n in
-    let s3 = mark-seen t (0 + length m + length u) 125 k r (c2 .1) (p .4 .4) q in
+    let s3 = mark-seen t (0 + length m + length u) (code "}") k r (c2 .1) (p .4 .4) q in
     let i : length w ≡ length m + length (p .1) = c1 .2 in
     let j : length (p .1) ≡ length u + length k = c2 .2 in
     let v : skip t (0 + length m + length u + 1) ≡ 0 + length m + length u + length k = s3 .1 in

@@ -2,6 +2,7 @@
 use mathlib.Core.Path.{_≡_, refl, subst}
 use mathlib.Core.Bool.{Bool, true, false, cond}
 use mathlib.Core.List.{List}
+use Prim.Native.Char.{code}
 use Prim.Native.Nat.{ℕ, _+_, _≤_}
 use native.Mathlib.Omega.{arith}
 use borrow.Author.Tests.{leb-true, eqb-true}
@@ -19,13 +20,13 @@ abbrev OutcomeRight : List ℕ → Outcome → Type 0
 OutcomeRight t (accepted e ts) = Spelled t e ts
 OutcomeRight t (rejected r p) = Unit {0}
 
-closing-right : (t : List ℕ) (at : ℕ) (x : Parsed Tokens) → length t ≤ 4096 → Stands (Marked 123) t 0 at → ListRight t 1 0 at x → OutcomeRight t (closing t at x)
+closing-right : (t : List ℕ) (at : ℕ) (x : Parsed Tokens) → length t ≤ 4096 → Stands (Marked (code "{")) t 0 at → ListRight t 1 0 at x → OutcomeRight t (closing t at x)
 unfolding Right closing SpellsString SpellsText
-closing-right t at (read ts e c) l m p = go (eqb (here t e) 125) refl
+closing-right t at (read ts e c) l m p = go (eqb (here t e) (code "}")) refl
   where
-    go : (a : Bool) → eqb (here t e) 125 ≡ a → OutcomeRight t (cond a (accepted (skip t (e + 1)) ts) (rejected Unexpected e))
+    go : (a : Bool) → eqb (here t e) (code "}") ≡ a → OutcomeRight t (cond a (accepted (skip t (e + 1)) ts) (rejected Unexpected e))
     go true d =
-        let s = seq m (seq (p .0) (mark-stands t e 125 (eqb-true (here t e) 125 d) (omega arith))) in
+        let s = seq m (seq (p .0) (mark-stands t e (code "}") (eqb-true (here t e) (code "}") d) (omega arith))) in
         let q : skip t (e + 1) ≡ 0 + length (s .string) = s .reach in
         let i : c ≡ 0 + total ts = p .1 in
         let k : c ≤ 512 = p .2 in
@@ -36,12 +37,12 @@ closing-right t at (stopped r z) l m p = tt
 
 reading-right : (t : List ℕ) → OutcomeRight t (reading t)
 unfolding reading
-reading-right t = go (leb (length t) 4096) (eqb (here t 0) 123) refl refl
+reading-right t = go (leb (length t) 4096) (eqb (here t 0) (code "{")) refl refl
   where
-    go : (a b : Bool) → leb (length t) 4096 ≡ a → eqb (here t 0) 123 ≡ b
+    go : (a b : Bool) → leb (length t) 4096 ≡ a → eqb (here t 0) (code "{") ≡ b
         → OutcomeRight t (cond a (cond b (closing t (skip t 1) (list t 1 0 (skip t 1))) (rejected Unexpected 0)) (rejected TextTooLong 0))
     go true true d e =
-        closing-right t (skip t 1) (list t 1 0 (skip t 1)) (leb-true (length t) 4096 d) (mark-stands t 0 123 (eqb-true (here t 0) 123 e) (omega arith))
+        closing-right t (skip t 1) (list t 1 0 (skip t 1)) (leb-true (length t) 4096 d) (mark-stands t 0 (code "{") (eqb-true (here t 0) (code "{") e) (omega arith))
         (list-right-all (enough t (skip t 1)) t 1 0 (skip t 1) (omega arith) (omega arith))
     go true false d e = tt
     go false b d e = tt

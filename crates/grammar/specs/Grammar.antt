@@ -14,10 +14,10 @@ Text = List ℕ
 
 -- space, tab, CR, LF
 pub data Blank : ℕ → Type 0 where
-  space : Blank 32
-  tab : Blank 9
-  return : Blank 13
-  feed : Blank 10
+  space : Blank (code " ")
+  tab : Blank (code "\t")
+  return : Blank (code "\r")
+  feed : Blank (code "\n")
 
 -- any number of them, also none
 pub data Blanks : Text → Type 0 where

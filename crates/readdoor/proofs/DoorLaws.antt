@@ -1,4 +1,5 @@
 -- What the door's steps make of the answer and of the pool. Assumes nothing.
+use Prim.Native.Char.{code}
 use Prim.Native.Nat.{ℕ, _+_, _-_, _≤_, _<_}
 use mathlib.Core.Path.{_≡_, refl, sym, ap, ap₂, _∙_}
 use mathlib.Core.List.{List, _++_, append-assoc}
@@ -34,14 +35,14 @@ unfolding TextSays
 text-read x p q e u ts h a b = rw h (ap (answer.Read e) a, b)
 
 -- after the outer list
-module _ (t : List ℕ) (at : ℕ) (short : length t ≤ 4096) (opened : getD t 0 0 ≡ 123) (start : at ≡ skip t 1) (g : ListGot) (p q : List ℕ) (says : ListSays (list t 1 0 at) 0 g p q) where
-  pub text-done : (s u d k e : ℕ) → g ≡ list-got.Read s u d k → getD t s 0 ≡ 125 → e ≡ skip t (s + 1) → TextSays (reading t) (answer.Read e u) p q
+module _ (t : List ℕ) (at : ℕ) (short : length t ≤ 4096) (opened : getD t 0 0 ≡ code "{") (start : at ≡ skip t 1) (g : ListGot) (p q : List ℕ) (says : ListSays (list t 1 0 at) 0 g p q) where
+  pub text-done : (s u d k e : ℕ) → g ≡ list-got.Read s u d k → getD t s 0 ≡ code "}" → e ≡ skip t (s + 1) → TextSays (reading t) (answer.Read e u) p q
   text-done s u d k e h b w =
       let z = list-read 0 g p q (list t 1 0 at) s u d k h says in
       let v = z .2 in
       text-read (reading t) p q e u (z .0) (text-opened t short opened at start (z .1) ∙ text-closed t at (z .0) s d b ∙ ap (λ (i : ℕ). accepted i (z .0)) (sym w)) (omega arith) (z .4)
 
-  pub text-open : (s u d k : ℕ) → g ≡ list-got.Read s u d k → (getD t s 0 ≡ 125 → ⊥) → TextSays (reading t) (answer.Refused Unexpected s) p q
+  pub text-open : (s u d k : ℕ) → g ≡ list-got.Read s u d k → (getD t s 0 ≡ code "}" → ⊥) → TextSays (reading t) (answer.Refused Unexpected s) p q
   text-open s u d k h b =
       let z = list-read 0 g p q (list t 1 0 at) s u d k h says in
       text-refused (reading t) p q Unexpected s (text-opened t short opened at start (z .1) ∙ text-unclosed t at (z .0) s d b)

@@ -1,4 +1,5 @@
 -- The loop over the lists of alternatives: what has been read so far, and what each turn and each way out make of it. Assumes nothing.
+use Prim.Native.Char.{code}
 use Prim.Native.Nat.{ℕ, suc, _+_, _-_, _*_, _/_, _≤_, _<_}
 use mathlib.Core.Path.{_≡_, refl, sym, ap, ap₂, _∙_}
 use mathlib.Core.Bool.{false}
@@ -100,13 +101,13 @@ module _ (t : List ℕ) (l count at n : ℕ) (p : List ℕ) where
         )
 
     pub listed-next : (e u d own y : ℕ) (q′ : List ℕ) → n + 4 ≤ length p → m + 4 ≤ length p → g ≡ list-got.Read e u d own → q′ ≡ written q m (6 ∷ own ∷ ((u - (m + 4)) / 4) ∷ 0 ∷ []) → length q′ ≡ length p
-        → getD t e 0 ≡ 124 → y ≡ skip t (e + 1) → Listed t l count at n p q′ y e u d (k + 1)
+        → getD t e 0 ≡ code "|" → y ≡ skip t (e + 1) → Listed t l count at n p q′ y e u d (k + 1)
     listed-next e u d own y q′ r r′ h hq lq b s =
         let z = marked e u d own r r′ h in
         let ts = z .0 in
         let ls = inv .ls in
         let w = turned e u d own h in
-        let i : e < length t = here-at t e 124 b (omega arith) in
+        let i : e < length t = here-at t e (code "|") b (omega arith) in
         let f = skip-from t (e + 1) in
         let fi = skip-in t (e + 1) (omega arith) in
         let o = inv .own in
@@ -126,8 +127,8 @@ module _ (t : List ℕ) (l count at n : ℕ) (p : List ℕ) where
           kept = lq;
         }
 
-    pub listed-done : (e u d own y : ℕ) (q′ q″ : List ℕ) → n + 4 ≤ length p → m + 4 ≤ length p → getD t at 0 ≡ 40 → count < 512 → g ≡ list-got.Read e u d own → q′ ≡ written q m (6 ∷ own ∷ ((u - (m + 4)) / 4) ∷ 0 ∷ [])
-        → q″ ≡ written q′ n (5 ∷ (k + 1) ∷ ((u - (n + 4)) / 4) ∷ 0 ∷ []) → getD t e 0 ≡ 41 → y ≡ skip t (e + 1) → TokenSays (alternatives t l count at) n (token-got.Read y u d false) p q″
+    pub listed-done : (e u d own y : ℕ) (q′ q″ : List ℕ) → n + 4 ≤ length p → m + 4 ≤ length p → getD t at 0 ≡ code "(" → count < 512 → g ≡ list-got.Read e u d own → q′ ≡ written q m (6 ∷ own ∷ ((u - (m + 4)) / 4) ∷ 0 ∷ [])
+        → q″ ≡ written q′ n (5 ∷ (k + 1) ∷ ((u - (n + 4)) / 4) ∷ 0 ∷ []) → getD t e 0 ≡ code ")" → y ≡ skip t (e + 1) → TokenSays (alternatives t l count at) n (token-got.Read y u d false) p q″
     unfolding asToken isJump entriesOf
     listed-done e u d own y q′ q″ r r′ o f h hq hq″ b s =
         let z = marked e u d own r r′ h in
@@ -143,17 +144,17 @@ module _ (t : List ℕ) (l count at n : ℕ) (p : List ℕ) where
         ∙ ap₂ (λ (a j : ℕ). written p n (5 ∷ a ∷ (j / 4) ∷ 0 ∷ listEntries ls)) kk i)
 
     -- a refusal within
-    stops : {r : Refusal} {y : ℕ} (q′ : List ℕ) → getD t at 0 ≡ 40 → count < 512 → lists t (l + 1) c x miss ≡ stopped r y → TokenSays (alternatives t l count at) n (token-got.Refused r y) p q′
+    stops : {r : Refusal} {y : ℕ} (q′ : List ℕ) → getD t at 0 ≡ code "(" → count < 512 → lists t (l + 1) c x miss ≡ stopped r y → TokenSays (alternatives t l count at) n (token-got.Refused r y) p q′
     unfolding asToken
     stops {r} {y} q′ o f w = says-refused (alternatives t l count at) n p q′ r y (bracket-open t l count at o f (inv .whole ∙ ap (besides (inv .ls)) w ∙ besides-stopped (inv .ls) r y))
 
-    pub listed-else : (e u d own : ℕ) (q′ : List ℕ) → getD t at 0 ≡ 40 → count < 512 → g ≡ list-got.Read e u d own → (getD t e 0 ≡ 41 → ⊥) → (getD t e 0 ≡ 124 → ⊥) → TokenSays (alternatives t l count at) n (token-got.Refused Unexpected e) p q′
+    pub listed-else : (e u d own : ℕ) (q′ : List ℕ) → getD t at 0 ≡ code "(" → count < 512 → g ≡ list-got.Read e u d own → (getD t e 0 ≡ code ")" → ⊥) → (getD t e 0 ≡ code "|" → ⊥) → TokenSays (alternatives t l count at) n (token-got.Refused Unexpected e) p q′
     listed-else e u d own q′ o f h a b =
         let z = list-read (m + 4) g pool q (list t (l + 1) c x) e u d own h says in
         stops q′ o f (lists-else t (l + 1) c x miss (z .1) a b)
 
-    pub listed-missing : getD t at 0 ≡ 40 → count < 512 → g ≡ list-got.Absent → (q′ : List ℕ) → TokenSays (alternatives t l count at) n (token-got.Refused Unexpected miss) p q′
+    pub listed-missing : getD t at 0 ≡ code "(" → count < 512 → g ≡ list-got.Absent → (q′ : List ℕ) → TokenSays (alternatives t l count at) n (token-got.Refused Unexpected miss) p q′
     listed-missing o f h q′ = stops q′ o f (lists-missing t (l + 1) c x miss (list-absent (m + 4) g pool q (list t (l + 1) c x) h says .0))
 
-    pub listed-stop : getD t at 0 ≡ 40 → count < 512 → (r : Refusal) (y : ℕ) → g ≡ list-got.Refused r y → (q′ : List ℕ) → TokenSays (alternatives t l count at) n (token-got.Refused r y) p q′
+    pub listed-stop : getD t at 0 ≡ code "(" → count < 512 → (r : Refusal) (y : ℕ) → g ≡ list-got.Refused r y → (q′ : List ℕ) → TokenSays (alternatives t l count at) n (token-got.Refused r y) p q′
     listed-stop o f r y h q′ = stops q′ o f (lists-stopped t (l + 1) c x miss (list-refused (m + 4) g pool q (list t (l + 1) c x) r y h says))

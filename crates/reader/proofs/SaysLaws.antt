@@ -1,4 +1,5 @@
 -- What is known of what was read, once the answer is. Assumes nothing.
+use Prim.Native.Char.{code}
 use Prim.Native.Nat.{ℕ, _+_, _≤_, _<_}
 use mathlib.Core.Path.{_≡_, refl, ap, ap₂, _∙_, subst}
 use mathlib.Core.Bool.{Bool, cond}
@@ -115,14 +116,14 @@ module _ (t : List ℕ) (l c at : ℕ) where
   one-entry h = subst (λ (x : Seen Token). Flat x) h (plain-flat t (ltb 1 l) at)
 
   -- alternatives
-  pub no-bracket : (getD t at 0 ≡ 40 → ⊥) → alternatives t l c at ≡ missing
+  pub no-bracket : (getD t at 0 ≡ code "(" → ⊥) → alternatives t l c at ≡ missing
   unfolding bracketed
-  no-bracket h = simp (ne-eqb (getD t at 0) 40 h)
+  no-bracket h = simp (ne-eqb (getD t at 0) (code "(") h)
 
-  pub bracket-full : getD t at 0 ≡ 40 → 512 ≤ c → alternatives t l c at ≡ stopped TooManyTokens at
+  pub bracket-full : getD t at 0 ≡ code "(" → 512 ≤ c → alternatives t l c at ≡ stopped TooManyTokens at
   unfolding bracketed
   bracket-full h k = rw (h, le-ltb c 512 k)
 
-  pub bracket-open : getD t at 0 ≡ 40 → c < 512 → {y : Parsed Lists} → lists t (l + 1) (c + 1) (skip t (at + 1)) (skip t (at + 1)) ≡ y → alternatives t l c at ≡ asToken y
+  pub bracket-open : getD t at 0 ≡ code "(" → c < 512 → {y : Parsed Lists} → lists t (l + 1) (c + 1) (skip t (at + 1)) (skip t (at + 1)) ≡ y → alternatives t l c at ≡ asToken y
   unfolding bracketed
   bracket-open h k e = rw (h, lt-ltb c 512 k, e)

@@ -2,6 +2,7 @@
 use mathlib.Core.Path.{_≡_, refl}
 use mathlib.Core.Bool.{Bool, true, false, cond}
 use mathlib.Core.List.{List}
+use Prim.Native.Char.{code}
 use Prim.Native.Nat.{ℕ, zero, suc, _+_, _-_, _*_, _≤_, _<_}
 use native.Mathlib.Omega.{arith}
 use borrow.Author.Tests.{eqb-true, ltb-true}
@@ -67,7 +68,7 @@ module _ (t : List ℕ) (at c : ℕ) where
 
   bracketed-in : (y : Parsed Lists) → ListsIn t (skip t (at + 1)) (c + 1) y → TokenIn t at c (bracketed t at c y)
   unfolding bracketed TokenIn
-  bracketed-in y k = go (eqb (getD t at 0) 40) (ltb c 512)
+  bracketed-in y k = go (eqb (getD t at 0) (code "(")) (ltb c 512)
     where
       go : (a b : Bool) → TokenIn t at c (cond a (cond b (asToken y) (stopped TooManyTokens at)) missing)
       go true true = as-in (skip t (at + 1)) y (omega (arith, skip-from t (at + 1))) k
@@ -112,12 +113,12 @@ module _ (t : List ℕ) (at c : ℕ) where
 
   lists-in-of : (miss : ℕ) (x : Parsed Tokens) (more : ℕ → ℕ → ℕ → Parsed Lists) → ListIn t at c x → ((d e m : ℕ) → ListsIn t e d (more d e m)) → ListsIn t at c (thenLists t miss x more)
   unfolding thenLists ListIn ListsIn listEntries
-  lists-in-of miss (read ts e d) more g k = go (eqb (getD t e 0) 41) (eqb (getD t e 0) 124) refl
+  lists-in-of miss (read ts e d) more g k = go (eqb (getD t e 0) (code ")")) (eqb (getD t e 0) (code "|")) refl
     where
-      go : (a b : Bool) → eqb (getD t e 0) 41 ≡ a → ListsIn t at c (cond a (read (ts or neither) (skip t (e + 1)) d) (cond b (beside ts (more d (skip t (e + 1)) e)) (stopped Unexpected e)))
+      go : (a b : Bool) → eqb (getD t e 0) (code ")") ≡ a → ListsIn t at c (cond a (read (ts or neither) (skip t (e + 1)) d) (cond b (beside ts (more d (skip t (e + 1)) e)) (stopped Unexpected e)))
       go true b q =
           let l = length-append (entries ts) (listEntries neither) in
-          let h : e < length t = here-at t e 41 (eqb-true (getD t e 0) 41 q) (omega arith) in
+          let h : e < length t = here-at t e (code ")") (eqb-true (getD t e 0) (code ")") q) (omega arith) in
           record { moved = omega (arith, skip-from t (e + 1)); inside = skip-in t (e + 1) (omega arith); counted = g .counted; within = g .within; room = omega arith }
       go false true q = beside-in ts e d (skip t (e + 1)) (more d (skip t (e + 1)) e) g (omega (arith, skip-from t (e + 1))) (k d (skip t (e + 1)) e)
       go false false q = tt

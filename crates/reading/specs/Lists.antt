@@ -1,6 +1,7 @@
 -- Tokens, lists, alternatives, and the whole text. Assumes nothing: these are definitions.
 use mathlib.Core.Bool.{Bool, true, false, cond, _&&_, _||_}
 use mathlib.Core.List.{List}
+use Prim.Native.Char.{code}
 use Prim.Native.Nat.{ℕ, zero, suc, _+_, _-_, _*_}
 use lib.Dec.{eqb, leb, ltb}
 use lib.ListN.{length}
@@ -30,7 +31,7 @@ asToken (stopped r p) = stopped r p
 
 -- alternatives count at their `(`
 unfoldable pub bracketed : List ℕ → ℕ → ℕ → Parsed Lists → Parsed Token
-bracketed t at count lists = cond (eqb (here t at) 40) (cond (ltb count 512) (asToken lists) (stopped TooManyTokens at)) missing
+bracketed t at count lists = cond (eqb (here t at) (code "(")) (cond (ltb count 512) (asToken lists) (stopped TooManyTokens at)) missing
 
 -- a token before those that follow it
 unfoldable pub before : Token → Parsed Tokens → Parsed Tokens
@@ -84,8 +85,8 @@ beside ts (stopped r p) = stopped r p
 -- a list in brackets, then `)`, or `|` and more lists; `miss` is where it is missed: where it should begin, or at the `|` before it
 unfoldable pub thenLists : List ℕ → ℕ → Parsed Tokens → (ℕ → ℕ → ℕ → Parsed Lists) → Parsed Lists
 thenLists t miss (read ts e count) more =
-    cond (eqb (here t e) 41) (read (ts or neither) (skip t (e + 1)) count)
-    (cond (eqb (here t e) 124) (beside ts (more count (skip t (e + 1)) e)) (stopped Unexpected e))
+    cond (eqb (here t e) (code ")")) (read (ts or neither) (skip t (e + 1)) count)
+    (cond (eqb (here t e) (code "|")) (beside ts (more count (skip t (e + 1)) e)) (stopped Unexpected e))
 thenLists t miss missing more = stopped Unexpected miss
 thenLists t miss (stopped r p) more = stopped r p
 
@@ -133,7 +134,7 @@ pub data Outcome : Type 0 where
 
 -- after the outer list that begins at `at`: `}` and blanks, and the rest is ignored
 unfoldable pub closing : List ℕ → ℕ → Parsed Tokens → Outcome
-closing t at (read ts e count) = cond (eqb (here t e) 125) (accepted (skip t (e + 1)) ts) (rejected Unexpected e)
+closing t at (read ts e count) = cond (eqb (here t e) (code "}")) (accepted (skip t (e + 1)) ts) (rejected Unexpected e)
 closing t at missing = rejected Unexpected at
 closing t at (stopped r p) = rejected r p
 
@@ -141,5 +142,5 @@ closing t at (stopped r p) = rejected r p
 unfoldable pub reading : List ℕ → Outcome
 reading t =
     cond (leb (length t) 4096)
-    (cond (eqb (here t 0) 123) (closing t (skip t 1) (list t 1 0 (skip t 1))) (rejected Unexpected 0))
+    (cond (eqb (here t 0) (code "{")) (closing t (skip t 1) (list t 1 0 (skip t 1))) (rejected Unexpected 0))
     (rejected TextTooLong 0)
