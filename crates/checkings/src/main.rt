@@ -1,5 +1,6 @@
 // Answers the lines of the file `programs`, each a haystack, the two bounds of a window and node words, by the doors that take programs. The words are any
 // words: what a text cannot compile to is tried here. What the program must write, the file `stdout`, was made outside: README.md beside it says how.
+use base::NODE_POOL;
 use base::Refusal;
 use checkdoors::Answer;
 use digits::Nibble;
@@ -95,12 +96,12 @@ fn holding(pool: &[u32], from: usize, to: usize, v: u32) -> usize {
     found
 }
 
-// How many of the first 512 words are 0 after the used ones, how many of the four beyond are as before, and the used ones.
+// How many of the lent words are 0 after the used ones, how many of the four beyond are as before, and the used ones.
 fn left(pool: &[u32], used: usize) {
     io::write_all(STDOUT_FILENO, b" zeros ");
-    number(holding(pool, used, 512, 0) as u64);
+    number(holding(pool, used, NODE_POOL, 0) as u64);
     io::write_all(STDOUT_FILENO, b" old ");
-    number(holding(pool, 512, 516, OLD) as u64);
+    number(holding(pool, NODE_POOL, NODE_POOL + 4, OLD) as u64);
     words(pool, used);
 }
 
@@ -121,10 +122,10 @@ fn mirrored(program: &[u32], pool: &mut [u32]) {
 
 // Into a pool that has room, and into one that is a word too short.
 fn mirrors(program: &[u32]) {
-    let mut pool = [7u32; 516];
+    let mut pool = [7u32; NODE_POOL + 4];
     io::write_all(STDOUT_FILENO, b"\nmirror");
     mirrored(program, &mut pool);
-    let mut short = [7u32; 511];
+    let mut short = [7u32; NODE_POOL - 1];
     io::write_all(STDOUT_FILENO, b"\nshort");
     mirrored(program, &mut short);
 }

@@ -1,5 +1,7 @@
 // The door by which any bytes are compiled as a pattern: its programs, forwards and in reverse.
+use base::NODE_POOL;
 use base::Refusal;
+use base::TOKEN_POOL;
 use compiler::Made;
 use compiler::clear;
 use compiler::compile_tokens;
@@ -41,7 +43,7 @@ fn compile_text(text: &[u8], forward: &mut [u32], reverse: &mut [u32]) -> Compil
     ensures { λ r. ⌜ TextMakes (reading (now (text .entry))) (said r)
         (now (forward .entry)) (now (forward .exit)) (now (reverse .entry)) (now (reverse .exit)) ⌝ }
 {
-    let mut tokens = [0u32; 4096];
+    let mut tokens = [0u32; TOKEN_POOL];
     let r = read(text, &mut tokens);
     match r {
         ReadAnswer::Read { end, words } => {
@@ -61,10 +63,10 @@ pub fn compile(text: &[u8], forward: &mut [u32], reverse: &mut [u32]) -> Compile
         × (now (forward .exit) ≡ forwardLeaves (now (text .entry)) (now (forward .entry)) (now (reverse .entry)))
         × (now (reverse .exit) ≡ reverseLeaves (now (text .entry)) (now (forward .entry)) (now (reverse .entry))) ⌝ }
 {
-    if forward.len() < 512 {
+    if forward.len() < NODE_POOL {
         return CompileAnswer::Refused(Refusal::NoRoom, 0);
     }
-    if reverse.len() < 512 {
+    if reverse.len() < NODE_POOL {
         return CompileAnswer::Refused(Refusal::NoRoom, 0);
     }
     compile_text(text, forward, reverse)

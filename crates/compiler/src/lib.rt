@@ -13,6 +13,10 @@ ghost use Rattle.emit.specs.Lists.{sizeAt, offsets};
 ghost use Rattle.base.specs.Pools.{filled, cleared};
 ghost use Rattle.compiler.specs.Made.{Makes, limited};
 ghost use Rattle.compiler.specs.Walks.{jumpNear, plainEntry, plainEntries, simpleAt, Entered, Simply};
+use base::ENTRY_LIMIT;
+use base::JUMP_LIMIT;
+use base::NODE_LIMIT;
+use base::NODE_POOL;
 use base::Refusal;
 use base::zero_words;
 use emit::add_tokens;
@@ -30,7 +34,7 @@ fn jump_near(b: u32, c: u32) -> bool
     if c == 0 {
         return false;
     }
-    b <= 255
+    b <= JUMP_LIMIT
 }
 
 // Whether an entry may stand inside a branch.
@@ -137,7 +141,7 @@ fn fill(pool: &mut [u32], words: &[u32], n: usize)
     ensures { λ _. ⌜ now (pool .exit) ≡ filled 512 (take n (now (words .entry))) (now (pool .entry)) ⌝ }
 {
     copy_words(pool, words, n);
-    zero_words(pool, n, 512);
+    zero_words(pool, n, NODE_POOL);
 }
 
 // Zeros in the first 512 words of both pools.
@@ -145,8 +149,8 @@ pub fn clear(forward: &mut [u32], reverse: &mut [u32])
     requires { ⌜ (512 ≤ length (now forward)) × (512 ≤ length (now reverse)) ⌝ }
     ensures { λ _. ⌜ (now (forward .exit) ≡ cleared 512 (now (forward .entry))) × (now (reverse .exit) ≡ cleared 512 (now (reverse .entry))) ⌝ }
 {
-    zero_words(forward, 0, 512);
-    zero_words(reverse, 0, 512);
+    zero_words(forward, 0, NODE_POOL);
+    zero_words(reverse, 0, NODE_POOL);
 }
 
 // 14, then 13, or both programs: n words of the one, m of the other, and whether a branch is above its limit.
@@ -167,11 +171,11 @@ fn finish(
         clear(forward, reverse);
         return Made::Refused(Refusal::BranchTooLong);
     }
-    if 512 < n {
+    if NODE_LIMIT < n {
         clear(forward, reverse);
         return Made::Refused(Refusal::TooManyNodes);
     }
-    if 512 < m {
+    if NODE_LIMIT < m {
         clear(forward, reverse);
         return Made::Refused(Refusal::TooManyNodes);
     }
@@ -189,16 +193,16 @@ fn either(a: bool, b: bool) -> bool
     b
 }
 
-// Both programs of simple tokens. Their words are made on the stack, where all that entries can give fit, 1,024 words each.
+// Both programs of simple tokens. Their words are made on the stack, where all that entries can give fit: an entry gives a word at most.
 fn compile_simple(tokens: &[u32], forward: &mut [u32], reverse: &mut [u32]) -> Made
     requires { ⌜ Entered (now tokens) × Simply (now tokens) × (512 ≤ length (now forward)) × (512 ≤ length (now reverse)) ⌝ }
     ensures { λ r. ⌜ ((ts : Tokens) → now (tokens .entry) ≡ entries ts → Spelled ts → Makes (compile ts) r
         (now (forward .entry)) (now (forward .exit)) (now (reverse .entry)) (now (reverse .exit))) ⌝ }
 {
-    let mut starts = [0u16; 1024];
+    let mut starts = [0u16; ENTRY_LIMIT];
     let count = find_starts(tokens, &mut starts);
-    let mut first = [0u32; 1024];
-    let mut second = [0u32; 1024];
+    let mut first = [0u32; ENTRY_LIMIT];
+    let mut second = [0u32; ENTRY_LIMIT];
     let f = add_tokens(tokens, &starts[0..count], false, &mut first);
     let r = add_tokens(tokens, &starts[0..count], true, &mut second);
     let long = either(f.long, r.long);

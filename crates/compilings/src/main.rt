@@ -1,4 +1,5 @@
 // Compiles texts from standard input, one on each line, and writes what the compiling door answers and leaves.
+use base::NODE_POOL;
 use compiledoor::CompileAnswer;
 ghost use Prim.Native.Nat.{_≤_};
 
@@ -58,13 +59,13 @@ fn holding(pool: &[u32], from: usize, to: usize, v: u32) -> usize {
     found
 }
 
-// A pool: the used words, how many of its first 512 are 0 after them, and how many of the four beyond are as before.
+// A pool: the used words, how many of the lent ones are 0 after them, and how many of the four beyond are as before.
 fn left(pool: &[u32], used: usize) {
     number(used as u64);
     io::write_all(OUT, b" zeros ");
-    number(holding(pool, used, 512, 0) as u64);
+    number(holding(pool, used, NODE_POOL, 0) as u64);
     io::write_all(OUT, b" old ");
-    number(holding(pool, 512, 516, OLD) as u64);
+    number(holding(pool, NODE_POOL, NODE_POOL + 4, OLD) as u64);
     list(pool, used);
 }
 
@@ -97,8 +98,8 @@ fn one(text: &[u8], forward: &mut [u32], reverse: &mut [u32]) {
 }
 
 fn fresh(text: &[u8]) {
-    let mut forward = [0u32; 516];
-    let mut reverse = [0u32; 516];
+    let mut forward = [0u32; NODE_POOL + 4];
+    let mut reverse = [0u32; NODE_POOL + 4];
     one(text, &mut forward, &mut reverse);
 }
 
@@ -118,8 +119,8 @@ fn main() {
     let mut input = [0u8; 32768];
     let n = io::read_full(0, &mut input);
     run(&input[..n]);
-    let mut forward = [0u32; 516];
-    let mut short = [0u32; 511];
+    let mut forward = [0u32; NODE_POOL + 4];
+    let mut short = [0u32; NODE_POOL - 1];
     one(b"{ AB }", &mut forward, &mut short);
     one(b"{ AG }", &mut short, &mut forward);
 }

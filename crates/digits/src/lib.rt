@@ -1,5 +1,7 @@
 // Translated from boreal's boreal-parser/src/hex_string.rs (MIT OR Apache-2.0), commit 7010b5e967; see NOTICE.
 // The small readers. Each one answers where it stopped, and where the blanks after that end.
+use base::INNER_JUMP_LIMIT;
+use base::NUMBER_LIMIT;
 use base::Refusal;
 ghost use mathlib.Core.Path.{_≡_};
 ghost use mathlib.Core.Bool.{_&&_};
@@ -207,7 +209,7 @@ pub fn number(text: &[u8], at: usize) -> Numeral
             return Numeral::Number(value as u32, i, skip_blanks(text, i));
         }
         value = 10 * value + wide(c - b'0');
-        if 4294967295 < value {
+        if NUMBER_LIMIT < value {
             return Numeral::TooBig;
         }
         i += 1;
@@ -229,12 +231,12 @@ fn both_are(a: u32, b: u32, v: u32) -> bool
     b == v
 }
 
-// Alternatives have no jump above 200.
+// Alternatives have no jump above their own limit.
 fn inside_too_big(inside: bool, to: u32) -> bool
     ensures { λ r. ⌜ r ≡ inside && ltb 200 to ⌝ }
 {
     if inside {
-        return 200 < to;
+        return INNER_JUMP_LIMIT < to;
     }
     false
 }

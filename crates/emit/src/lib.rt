@@ -15,6 +15,8 @@ ghost use Rattle.emit.specs.Items.{entryItem, maskItem, notMaskItem, jum
 ghost use Rattle.compiling.specs.Compiling.{branchLimit};
 ghost use Rattle.compiling.specs.Compile.{shortIn, shortOf, short};
 ghost use Rattle.emit.specs.Lists.{listProgram, branchesAt, Listed, altAt, tokenAt, itemCount, itemLast, itemOut, sizeAt, Stands, tokensProgram, Outlined};
+use base::BRANCH_LIMIT;
+use base::JUMP_LIMIT;
 use nodes::ByteTest;
 use nodes::Node;
 use nodes::node_word;
@@ -110,7 +112,7 @@ fn add_jump(out: &mut [u32], n: usize, last: Last, len: u8) -> Tail
         return append_jump(out, n, len);
     };
     let sum = old as u32 + len as u32;
-    if 255 < sum {
+    if JUMP_LIMIT < sum {
         return append_jump(out, n, len);
     }
     let at = n - 1;
@@ -188,7 +190,7 @@ fn branch_word(n: usize) -> u32
 fn longer(long: bool, n: usize) -> bool
     ensures { λ r. ⌜ r ≡ (long || not (leb n branchLimit)) ⌝ }
 {
-    if 255 < n {
+    if BRANCH_LIMIT < n {
         return true;
     }
     long

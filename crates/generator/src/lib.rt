@@ -8,6 +8,7 @@ ghost use Rattle.picking.specs.Literals.{literals};
 ghost use Rattle.picking.specs.Numbers.{count, literalAt};
 ghost use Rattle.spelling.specs.Words.{tokensIn};
 ghost use Rattle.generator.specs.Output.{over, Generated};
+use base::ENTRY_LIMIT;
 
 // How many literals were written; or one of the buffers is too small, and nothing was.
 pub enum Wrote {
@@ -15,13 +16,13 @@ pub enum Wrote {
     NoRoom,
 }
 
-// A literal has at most as many bytes as there are entries, of which a pool holds 1,024.
+// A literal has at most as many bytes as there are entries.
 fn length_at(ws: &[u32], k: usize) -> usize
     requires { ⌜ (length (now ws) ≤ 4096) × (k < count (tokensIn (now ws))) × (count (tokensIn (now ws)) ≤ 256) ⌝ }
     ensures { λ r. ⌜ (r ≡ length (literalAt (tokensIn (now (ws .entry))) k)) × (r ≤ 1024) ⌝ }
 {
-    let mut scratch = [0u8; 1024];
-    spelling::write_literal(ws, k, &mut scratch[0..1024])
+    let mut scratch = [0u8; ENTRY_LIMIT];
+    spelling::write_literal(ws, k, &mut scratch[0..ENTRY_LIMIT])
 }
 
 // The bytes of all n literals. Known before the first is written, for a refusal leaves the buffers as they were.

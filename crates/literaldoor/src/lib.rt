@@ -1,6 +1,7 @@
 // Translated from boreal's boreal/src/matcher/literals.rs (MIT OR Apache-2.0), commit 7010b5e967; see NOTICE.
 // The door by which the search literals of any bytes, read as a pattern, are picked.
 use base::Refusal;
+use base::TOKEN_POOL;
 use generator::Wrote;
 use literals::Pick;
 use readdoor::ReadAnswer;
@@ -84,13 +85,13 @@ fn pick_tokens(ws: &[u32], reached: usize, bytes: &mut [u8], lengths: &mut [u16]
     write_choice(ws, reached, choice, bytes, lengths)
 }
 
-// Picks the literals of a text. The tokens are read into 4,096 words of the stack.
+// Picks the literals of a text. The tokens are read into words of the stack.
 pub fn literals(text: &[u8], bytes: &mut [u8], lengths: &mut [u16]) -> LiteralsAnswer
     ensures { λ r. ⌜ (said r ≡ literalsSays (now (text .entry)) (now (bytes .entry)) (now (lengths .entry)))
         × (now (bytes .exit) ≡ bytesLeft (now (text .entry)) (now (bytes .entry)) (now (lengths .entry)))
         × (now (lengths .exit) ≡ lengthsLeft (now (text .entry)) (now (bytes .entry)) (now (lengths .entry))) ⌝ }
 {
-    let mut tokens = [0u32; 4096];
+    let mut tokens = [0u32; TOKEN_POOL];
     let r = readdoor::read(text, &mut tokens);
     match r {
         ReadAnswer::Read { end, words } => pick_tokens(&tokens[0..words], end, bytes, lengths),

@@ -15,6 +15,9 @@ ghost use Rattle.picking.specs.Choice.{least, penalty, rank, ranked, widened, a
 ghost use Rattle.spelling.specs.Words.{tokenIn, tokensIn};
 ghost use Rattle.literals.specs.Ranks.{rankSays, choiceSays, Settles, Beaten};
 ghost use Rattle.literals.specs.Whole.{byteEnd, partEnd, Placed, Whole, runEnd};
+use base::COMBINATION_LIMIT;
+use base::ENTRY_LIMIT;
+use base::LITERAL_LIMIT;
 
 // A slice's rank; or it has too many combinations; or too many literals.
 pub enum Rank {
@@ -23,13 +26,13 @@ pub enum Rank {
     TooMany,
 }
 
-// A literal has at most as many bytes as there are entries, of which a pool holds 1,024.
+// A literal has at most as many bytes as there are entries.
 fn score_at(ws: &[u32], k: usize) -> u32
     requires { ⌜ (length (now ws) ≤ 4096) × (k < count (tokensIn (now ws))) × (count (tokensIn (now ws)) ≤ 256) ⌝ }
     ensures { λ r. ⌜ r ≡ literalScore (literalAt (tokensIn (now (ws .entry))) k) ⌝ }
 {
-    let mut scratch = [0u8; 1024];
-    let n = spelling::write_literal(ws, k, &mut scratch[0..1024]);
+    let mut scratch = [0u8; ENTRY_LIMIT];
+    let n = spelling::write_literal(ws, k, &mut scratch[0..ENTRY_LIMIT]);
     atoms::literal_score(&scratch[0..n])
 }
 
@@ -108,10 +111,10 @@ pub fn rank_of(ws: &[u32], best: Pick) -> Rank
     let t = spelling::tally_tokens(ws);
     let n = t.literals;
     let c = t.combinations;
-    if 256 < c {
+    if COMBINATION_LIMIT < c {
         return Rank::Skipped;
     }
-    if 256 < n {
+    if LITERAL_LIMIT < n {
         return Rank::TooMany;
     }
     worth(ws, n, penalty_of(c), best)

@@ -1,4 +1,6 @@
 // The mirror of a sound program: its items and each branch's contents in reverse, its branches in their order.
+use base::NODE_LIMIT;
+use base::NODE_POOL;
 use base::Refusal;
 use base::zero_words;
 use nodes::NextWord;
@@ -85,19 +87,19 @@ fn mirror_words(words: &[u32], out: &mut [u32])
 pub fn mirror(words: &[u32], pool: &mut [u32]) -> MirrorAnswer
     ensures { λ r. ⌜ (said r ≡ mirrorSays (now (words .entry)) (now (pool .entry))) × (now (pool .exit) ≡ mirrorLeaves (now (words .entry)) (now (pool .entry))) ⌝ }
 {
-    if pool.len() < 512 {
+    if pool.len() < NODE_POOL {
         return MirrorAnswer::Refused(Refusal::NoRoom);
     }
-    if 512 < words.len() {
-        zero_words(pool, 0, 512);
+    if NODE_LIMIT < words.len() {
+        zero_words(pool, 0, NODE_POOL);
         return MirrorAnswer::Refused(Refusal::TooManyNodes);
     }
     if !is_sound(words) {
-        zero_words(pool, 0, 512);
+        zero_words(pool, 0, NODE_POOL);
         return MirrorAnswer::Refused(Refusal::Unsound);
     }
     let n = words.len();
     mirror_words(words, &mut pool[0..n]);
-    zero_words(pool, n, 512);
+    zero_words(pool, n, NODE_POOL);
     MirrorAnswer::Mirrored(n)
 }

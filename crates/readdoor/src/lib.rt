@@ -1,6 +1,8 @@
 // Translated from boreal's boreal-parser/src/hex_string.rs (MIT OR Apache-2.0), commit 7010b5e967; see NOTICE.
 // The door by which any bytes are read as a pattern.
 use base::Refusal;
+use base::TEXT_LIMIT;
+use base::TOKEN_POOL;
 use reader::ListGot;
 ghost use mathlib.Core.Path.{_≡_};
 ghost use lib.ListN.{length};
@@ -18,7 +20,7 @@ fn read_text(text: &[u8], pool: &mut [u32]) -> ReadAnswer
     requires { ⌜ length (now pool) ≡ 4096 ⌝ }
     ensures { λ r. ⌜ TextSays (reading (now (text .entry))) r (now (pool .entry)) (now (pool .exit)) ⌝ }
 {
-    if 4096 < text.len() {
+    if TEXT_LIMIT < text.len() {
         return ReadAnswer::Refused(Refusal::TextTooLong, 0);
     }
     if digits::peek(text, 0) != b'{' {
@@ -44,17 +46,17 @@ pub fn read(text: &[u8], pool: &mut [u32]) -> ReadAnswer
     ensures { λ r. ⌜ (said r ≡ readSays (now (text .entry)) (now (pool .entry)))
         × (now (pool .exit) ≡ readLeaves (now (text .entry)) (now (pool .entry))) ⌝ }
 {
-    if pool.len() < 4096 {
+    if pool.len() < TOKEN_POOL {
         return ReadAnswer::Refused(Refusal::NoRoom, 0);
     }
-    let r = read_text(text, &mut pool[0..4096]);
+    let r = read_text(text, &mut pool[0..TOKEN_POOL]);
     match r {
         ReadAnswer::Read { end, words } => {
-            base::zero_words(pool, words, 4096);
+            base::zero_words(pool, words, TOKEN_POOL);
             ReadAnswer::Read { end, words }
         }
         ReadAnswer::Refused(code, place) => {
-            base::zero_words(pool, 0, 4096);
+            base::zero_words(pool, 0, TOKEN_POOL);
             ReadAnswer::Refused(code, place)
         }
     }

@@ -1,7 +1,9 @@
 // Translated from boreal's boreal-parser/src/hex_string.rs (MIT OR Apache-2.0), commit 7010b5e967; see NOTICE.
 // The readers of token, list and alternatives call each other. Lists and alternatives are read in loops, so the stack
 // grows with the levels and not with the tokens.
+use base::LEVEL_LIMIT;
 use base::Refusal;
+use base::TOKEN_LIMIT;
 use digits::Mask;
 use digits::Piece;
 use digits::Plain;
@@ -144,7 +146,7 @@ pub fn read_token(
     let piece = digits::plain_token(text, at, 1 < level);
     match piece {
         Piece::Found(tok, _, end) => {
-            if 512 <= count {
+            if TOKEN_LIMIT <= count {
                 return TokenGot::Refused(Refusal::TooManyTokens, at);
             }
             let jump = put_plain(pool, n, tok);
@@ -167,7 +169,7 @@ pub fn read_list(
     requires { ⌜ Room (length (now text)) at level count n (length (now pool)) ⌝ }
     ensures { λ r. ⌜ ListSays (list (now (text .entry)) level count at) n r (now (pool .entry)) (now (pool .exit)) ⌝ }
 {
-    if 8 < level {
+    if LEVEL_LIMIT < level {
         return ListGot::Refused(Refusal::HexStringTooDeep, at);
     }
     let mut x = at;
@@ -212,7 +214,7 @@ pub fn read_alternatives(
     if digits::peek(text, at) != b'(' {
         return TokenGot::Absent;
     }
-    if 512 <= count {
+    if TOKEN_LIMIT <= count {
         return TokenGot::Refused(Refusal::TooManyTokens, at);
     }
     let mut x = digits::skip_blanks(text, at + 1);

@@ -1,4 +1,5 @@
 // Reads texts from standard input, each on a line after its length, and writes what the reading door answers and leaves.
+use base::TOKEN_POOL;
 use digits::Numeral;
 use readdoor::ReadAnswer;
 ghost use Prim.Native.Nat.{_≤_};
@@ -60,12 +61,12 @@ fn holding(pool: &[u32], from: usize, to: usize, v: u32) -> usize {
     found
 }
 
-// How many of the first 4,096 words are 0 after the used ones, and how many of the four beyond are as before.
+// How many of the lent words are 0 after the used ones, and how many of the four beyond are as before.
 fn left(pool: &[u32], used: usize) {
     io::write_all(OUT, b" zeros ");
-    number(holding(pool, used, 4096, 0) as u64);
+    number(holding(pool, used, TOKEN_POOL, 0) as u64);
     io::write_all(OUT, b" old ");
-    number(holding(pool, 4096, 4100, OLD) as u64);
+    number(holding(pool, TOKEN_POOL, TOKEN_POOL + 4, OLD) as u64);
     io::write_all(OUT, b"\n");
 }
 
@@ -118,10 +119,10 @@ fn run(input: &[u8], pool: &mut [u32]) {
 
 fn main() {
     let mut input = [0u8; 65536];
-    let mut pool = [0u32; 4100];
+    let mut pool = [0u32; TOKEN_POOL + 4];
     let n = io::read_full(0, &mut input);
     run(&input[..n], &mut pool);
-    let mut short = [7u32; 4095];
+    let mut short = [7u32; TOKEN_POOL - 1];
     one(b"{ AB }", &mut short);
     one(b"{ AG }", &mut short);
 }

@@ -1,6 +1,10 @@
 // Answers the cases of the file `cases` by the library's doors, in the lines that `compare/run sample` writes for the original Rust. What the
 // program must write, the file `stdout`, was made by the Rust and not by this program: README.md beside it says how.
+use base::LENT_BYTES;
+use base::LENT_LENGTHS;
+use base::NODE_POOL;
 use base::Refusal;
+use base::TOKEN_POOL;
 use checkdoors::Answer;
 use compiledoor::CompileAnswer;
 use digits::Nibble;
@@ -85,8 +89,8 @@ fn least(n: usize, most: usize) -> usize
 }
 
 fn programs(text: &[u8], hay: &[u8]) {
-    let mut forward = [0u32; 512];
-    let mut reverse = [0u32; 512];
+    let mut forward = [0u32; NODE_POOL];
+    let mut reverse = [0u32; NODE_POOL];
     let r = compiledoor::compile(text, &mut forward, &mut reverse);
     match r {
         CompileAnswer::Compiled {
@@ -98,9 +102,9 @@ fn programs(text: &[u8], hay: &[u8]) {
             words(&forward, f);
             io::write_all(STDOUT_FILENO, b"reverse");
             words(&reverse, b);
-            let n = least(f, 512);
+            let n = least(f, NODE_POOL);
             ends(&forward[0..n], hay);
-            let m = least(b, 512);
+            let m = least(b, NODE_POOL);
             starts(&reverse[0..m], hay);
         }
         CompileAnswer::Refused(why, place) => refused(why, place),
@@ -155,8 +159,8 @@ fn each(bytes: &[u8], lengths: &[u16], count: usize) {
 
 // The literals' line. Where 17 or 19 is given, literals aren't compared.
 fn picked(text: &[u8]) {
-    let mut bytes = [0u8; 32768];
-    let mut lengths = [0u16; 256];
+    let mut bytes = [0u8; LENT_BYTES];
+    let mut lengths = [0u16; LENT_LENGTHS];
     let r = literaldoor::literals(text, &mut bytes, &mut lengths);
     match r {
         LiteralsAnswer::Picked {
@@ -175,7 +179,7 @@ fn picked(text: &[u8]) {
 }
 
 fn answers(text: &[u8], hay: &[u8]) {
-    let mut tokens = [0u32; 4096];
+    let mut tokens = [0u32; TOKEN_POOL];
     let r = readdoor::read(text, &mut tokens);
     match r {
         ReadAnswer::Read { end, words: used } => {

@@ -11,6 +11,7 @@ ghost use Rattle.picking.specs.Numbers.{countOf, count, countIn, prefixIn, pref
 ghost use Rattle.spelling.specs.Words.{maskIn, entryToken, flatIn, ends, listsIn, tokenIn, width, tokensIn};
 ghost use Rattle.spelling.specs.Classes.{passes, gapped};
 ghost use Rattle.spelling.specs.Tallies.{Tallied, Numerable, Past, Written, Pieced};
+use base::LITERAL_LIMIT;
 use bitmap::Bitmap;
 
 // The bytes with the half that a mask leaves to be compared.
@@ -188,8 +189,8 @@ pub fn is_plain(ws: &[u32]) -> bool
     true
 }
 
-// Counts above 256 are all one to the picker, so they stop at 257.
-const TOP: usize = 257;
+// Counts above the limit, which combinations share with literals, are all one to the picker, so they stop right above it.
+const TOP: usize = LITERAL_LIMIT + 1;
 
 fn smaller(a: usize, b: usize) -> usize
     ensures { λ r. ⌜ r ≡ min a b ⌝ }
