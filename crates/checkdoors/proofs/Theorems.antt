@@ -11,6 +11,7 @@ use lib.ListN.{length, take, drop, getD, length-append, length-take, length-drop
 use lib.Seq.{ext-getD, getD-take, getD-drop, drop-drop}
 use denote.Ref.{RefT, ptr, now}
 use Rattle.base.proofs.RefusalLaws.{number-one}
+use Rattle.meaning.specs.Limits.{nodeLimit}
 use Rattle.meaning.specs.Programs.{Span}
 use Rattle.meaning.specs.Choices.{short, long, Nowhere, FirstForward, FirstReverse}
 use Rattle.meaning.specs.Rows.{forward, backward}
@@ -202,7 +203,7 @@ module _ (ws hay : List ℕ) (s e : ℕ) (h : sound ws ≡ true) (d : s ≤ e) (
   )
 
 -- sound programs laid end to end, within the node limit: the door finds exactly where a span of the one is followed by a span of the other
-module _ (ws vs hay : List ℕ) (s e : ℕ) (h : sound ws ≡ true) (g : sound vs ≡ true) (room : length ws + length vs ≤ 512) (d : s ≤ e) (l : e ≤ length hay) where
+module _ (ws vs hay : List ℕ) (s e : ℕ) (h : sound ws ≡ true) (g : sound vs ≡ true) (room : length ws + length vs ≤ nodeLimit) (d : s ≤ e) (l : e ≤ length hay) where
   both-ok : none ≡ refusal (ws ++ vs) (length hay) s e
   both-ok = ok (ws ++ vs) hay s e (join-sound ws vs h g room) d l
 

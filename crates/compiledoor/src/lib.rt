@@ -10,6 +10,7 @@ use readdoor::read;
 ghost use mathlib.Core.Path.{_≡_};
 ghost use Prim.Native.Nat.{_≤_};
 ghost use lib.ListN.{length};
+ghost use Rattle.meaning.specs.Limits.{nodePool};
 ghost use Rattle.reading.specs.Lists.{reading};
 ghost use Rattle.compiledoor.specs.Door.{said, madeSays, TextMakes, compileSays, forwardLeaves, reverseLeaves};
 
@@ -39,7 +40,7 @@ fn answer_of(reached: usize, made: Made) -> CompileAnswer
 
 // With both pools long enough. The tokens are read into 4,096 words of the stack.
 fn compile_text(text: &[u8], forward: &mut [u32], reverse: &mut [u32]) -> CompileAnswer
-    requires { ⌜ (512 ≤ length (now forward)) × (512 ≤ length (now reverse)) ⌝ }
+    requires { ⌜ (nodePool ≤ length (now forward)) × (nodePool ≤ length (now reverse)) ⌝ }
     ensures { λ r. ⌜ TextMakes (reading (now (text .entry))) (said r)
         (now (forward .entry)) (now (forward .exit)) (now (reverse .entry)) (now (reverse .exit)) ⌝ }
 {

@@ -5,10 +5,10 @@ use mathlib.Core.List.{List, [], _∷_}
 use Prim.Native.Nat.{ℕ, _+_, _*_, _≤_}
 use lib.Dec.{eqb, leb}
 use lib.ListN.{length, getD, take, drop}
+use Rattle.meaning.specs.Limits.{jumpLimit, tokenPool}
 use Rattle.meaning.specs.Tokens.{Tokens}
 use Rattle.meaning.specs.Values.{Spelled}
 use Rattle.meaning.specs.Entries.{entries}
-use Rattle.compiling.specs.Compiling.{jumpLimit}
 use Rattle.compiling.specs.Compile.{simple}
 
 -- a jump's entry: it has a to, within the limit
@@ -37,7 +37,7 @@ pub record Entered (ws : List ℕ) : Type 0 where
   pub tokens : Tokens
   pub entered : ws ≡ entries tokens
   pub spelled : Spelled tokens
-  pub short : length ws ≤ 4096
+  pub short : length ws ≤ tokenPool
 
 -- whatever tokens the words are the entries of, they are simple
 abbrev pub Simply : List ℕ → Type 0

@@ -5,6 +5,7 @@ ghost use mathlib.Core.List.{_++_};
 ghost use lib.Dec.{leb};
 ghost use Prim.Native.Nat.{_+_, _*_, _≤_};
 ghost use lib.ListN.{length, take, drop};
+ghost use Rattle.meaning.specs.Limits.{nodeLimit, nodePool};
 ghost use Rattle.meaning.specs.Tokens.{Tokens};
 ghost use Rattle.meaning.specs.Entries.{tokenCount, entries};
 ghost use Rattle.meaning.specs.Values.{Spelled};
@@ -137,8 +138,8 @@ fn copy_words(pool: &mut [u32], words: &[u32], n: usize)
 
 // A program's words in its pool, and zeros in the rest of the 512.
 fn fill(pool: &mut [u32], words: &[u32], n: usize)
-    requires { ⌜ (n ≤ length (now words)) × (n ≤ 512) × (512 ≤ length (now pool)) ⌝ }
-    ensures { λ _. ⌜ now (pool .exit) ≡ filled 512 (take n (now (words .entry))) (now (pool .entry)) ⌝ }
+    requires { ⌜ (n ≤ length (now words)) × (n ≤ nodePool) × (nodePool ≤ length (now pool)) ⌝ }
+    ensures { λ _. ⌜ now (pool .exit) ≡ filled nodePool (take n (now (words .entry))) (now (pool .entry)) ⌝ }
 {
     copy_words(pool, words, n);
     zero_words(pool, n, NODE_POOL);
@@ -146,8 +147,8 @@ fn fill(pool: &mut [u32], words: &[u32], n: usize)
 
 // Zeros in the first 512 words of both pools.
 pub fn clear(forward: &mut [u32], reverse: &mut [u32])
-    requires { ⌜ (512 ≤ length (now forward)) × (512 ≤ length (now reverse)) ⌝ }
-    ensures { λ _. ⌜ (now (forward .exit) ≡ cleared 512 (now (forward .entry))) × (now (reverse .exit) ≡ cleared 512 (now (reverse .entry))) ⌝ }
+    requires { ⌜ (nodePool ≤ length (now forward)) × (nodePool ≤ length (now reverse)) ⌝ }
+    ensures { λ _. ⌜ (now (forward .exit) ≡ cleared nodePool (now (forward .entry))) × (now (reverse .exit) ≡ cleared nodePool (now (reverse .entry))) ⌝ }
 {
     zero_words(forward, 0, NODE_POOL);
     zero_words(reverse, 0, NODE_POOL);
@@ -163,8 +164,8 @@ fn finish(
     forward: &mut [u32],
     reverse: &mut [u32],
 ) -> Made
-    requires { ⌜ (n ≤ length (now first)) × (m ≤ length (now second)) × (512 ≤ length (now forward)) × (512 ≤ length (now reverse)) ⌝ }
-    ensures { λ r. ⌜ Makes (limited (not long) (leb n 512 && leb m 512) (take n (now (first .entry))) (take m (now (second .entry)))) r
+    requires { ⌜ (n ≤ length (now first)) × (m ≤ length (now second)) × (nodePool ≤ length (now forward)) × (nodePool ≤ length (now reverse)) ⌝ }
+    ensures { λ r. ⌜ Makes (limited (not long) (leb n nodeLimit && leb m nodeLimit) (take n (now (first .entry))) (take m (now (second .entry)))) r
         (now (forward .entry)) (now (forward .exit)) (now (reverse .entry)) (now (reverse .exit)) ⌝ }
 {
     if long {
@@ -195,7 +196,7 @@ fn either(a: bool, b: bool) -> bool
 
 // Both programs of simple tokens. Their words are made on the stack, where all that entries can give fit: an entry gives a word at most.
 fn compile_simple(tokens: &[u32], forward: &mut [u32], reverse: &mut [u32]) -> Made
-    requires { ⌜ Entered (now tokens) × Simply (now tokens) × (512 ≤ length (now forward)) × (512 ≤ length (now reverse)) ⌝ }
+    requires { ⌜ Entered (now tokens) × Simply (now tokens) × (nodePool ≤ length (now forward)) × (nodePool ≤ length (now reverse)) ⌝ }
     ensures { λ r. ⌜ ((ts : Tokens) → now (tokens .entry) ≡ entries ts → Spelled ts → Makes (compile ts) r
         (now (forward .entry)) (now (forward .exit)) (now (reverse .entry)) (now (reverse .exit))) ⌝ }
 {
@@ -211,7 +212,7 @@ fn compile_simple(tokens: &[u32], forward: &mut [u32], reverse: &mut [u32]) -> M
 
 // The programs of tokens, forwards and from every list read backwards; 12 first, then 14, then 13.
 pub fn compile_tokens(tokens: &[u32], forward: &mut [u32], reverse: &mut [u32]) -> Made
-    requires { ⌜ Entered (now tokens) × (512 ≤ length (now forward)) × (512 ≤ length (now reverse)) ⌝ }
+    requires { ⌜ Entered (now tokens) × (nodePool ≤ length (now forward)) × (nodePool ≤ length (now reverse)) ⌝ }
     ensures { λ r. ⌜ ((ts : Tokens) → now (tokens .entry) ≡ entries ts → Spelled ts → Makes (compile ts) r
         (now (forward .entry)) (now (forward .exit)) (now (reverse .entry)) (now (reverse .exit))) ⌝ }
 {

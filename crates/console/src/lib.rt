@@ -8,7 +8,7 @@ use printing::Listed;
 ghost use mathlib.Core.Path.{_≡_};
 ghost use Prim.Native.Nat.{_≤_};
 ghost use lib.ListN.{length, take};
-ghost use Rattle.lister.specs.Listings.{listingOf};
+ghost use Rattle.lister.specs.Listings.{listingOf, listingLimit};
 ghost use Rattle.console.specs.Inputs.{Within};
 
 // The most that a listing has: every text's fits.
@@ -49,8 +49,8 @@ fn write_out(to: i32, bytes: &[u8]) {
 
 // Lays the listing of a text at the front of a buffer that has room for every one.
 fn lay(text: &[u8], out: &mut [u8]) -> usize
-    requires { ⌜ 81920 ≤ length (now out) ⌝ }
-    ensures { λ r. ⌜ (r ≤ 81920) × (take r (now (out .exit)) ≡ listingOf (now (text .entry))) ⌝ }
+    requires { ⌜ listingLimit ≤ length (now out) ⌝ }
+    ensures { λ r. ⌜ (r ≤ listingLimit) × (take r (now (out .exit)) ≡ listingOf (now (text .entry))) ⌝ }
 {
     let r = lister::list_pattern(text, out);
     let Listed::Wrote(n) = r else {

@@ -8,6 +8,7 @@ ghost use mathlib.Core.Bool.{_&&_};
 ghost use Prim.Native.Nat.{_+_, _<_};
 ghost use lib.ListN.{getD};
 ghost use lib.Dec.{eqb, ltb};
+ghost use Rattle.meaning.specs.Limits.{innerJumpLimit};
 ghost use Rattle.reading.specs.Blanks.{blank, skip};
 ghost use Rattle.reading.specs.Pieces.{within, digit, byteAt, maskedAt, hexAt, notAt, numberAt, checked, closedAt, dashAt, rangeAt, jumpToken, jumped, plainly, plainAt, _else_};
 ghost use Rattle.digits.specs.Answers.{valueOf, spelled, tokenOf, pieceOf, numbered, ranged, upperOf};
@@ -233,7 +234,7 @@ fn both_are(a: u32, b: u32, v: u32) -> bool
 
 // Alternatives have no jump above their own limit.
 fn inside_too_big(inside: bool, to: u32) -> bool
-    ensures { λ r. ⌜ r ≡ inside && ltb 200 to ⌝ }
+    ensures { λ r. ⌜ r ≡ inside && ltb innerJumpLimit to ⌝ }
 {
     if inside {
         return INNER_JUMP_LIMIT < to;

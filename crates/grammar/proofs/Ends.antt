@@ -10,6 +10,7 @@ use borrow.Author.Tests.{eqb-true, eqb-false}
 use lib.Dec.{eqb, ltb}
 use lib.ListN.{length, drop}
 use Rattle.base.specs.declared.Refusal.the-variants.{TooManyTokens}
+use Rattle.meaning.specs.Limits.{tokenLimit, innerJumpLimit}
 use Rattle.meaning.specs.Tokens.{Mask, left, right, all, Token, Tokens, Lists}
 use Rattle.reading.specs.Blanks.{here, skip}
 use Rattle.reading.specs.Pieces.{Seen, found, absent, refused, upTo, _else_, digit, Hex, whole, masked, twoDigits, byteAt, oneDigit, maskedAt, hexAt, plainly, negated, notAt, numberAt, Range, between, checked, closedAt, upperAt, dashAt, lowerAt, rangeAt, jumped, plainAt}
@@ -106,7 +107,7 @@ module _ (t : List ℕ) where
   jumped-ends : (inside : Bool) (at : ℕ) (x : Seen Range) → Ends t x → Ends t (jumped inside at x)
   unfolding Ends jumped
   jumped-ends inside at (found (between from none) s e) h = cond-ends inside _ _ tt h
-  jumped-ends inside at (found (between from (some to)) s e) h = cond-ends (inside && ltb 200 to) _ _ tt h
+  jumped-ends inside at (found (between from (some to)) s e) h = cond-ends (inside && ltb innerJumpLimit to) _ _ tt h
   jumped-ends inside at absent h = tt
   jumped-ends inside at (refused r p) h = tt
 
@@ -188,6 +189,6 @@ module _ (t : List ℕ) where
       counts tok s e q false = tt
 
       go : (x : Seen Token) → plainAt t (ltb 1 level) at ≡ x → TokenAfter level at (tokenOr at count x (bracketed t at count inner))
-      go (found tok s e) q = counts tok s e q (ltb count 512)
-      go absent q = opens q (eqb (here t at) (code "(")) (ltb count 512) refl
+      go (found tok s e) q = counts tok s e q (ltb count tokenLimit)
+      go absent q = opens q (eqb (here t at) (code "(")) (ltb count tokenLimit) refl
       go (refused r p) q = tt

@@ -8,6 +8,7 @@ use Prim.Native.Nat.{ℕ, suc, _+_, _-_, _*_, _^_, _≤_, _<_}
 use native.Mathlib.Nat.{pow-suc}
 use native.Mathlib.Omega.{arith}
 use lib.ListN.{length, drop}
+use Rattle.meaning.specs.Limits.{numberLimit}
 use Rattle.reading.specs.Blanks.{here, skip}
 use Rattle.reading.specs.Given as given
 use Rattle.reading.specs.Pieces.{Seen, found, within, numeral, numberAt}
@@ -119,7 +120,7 @@ big-there t x b =
     let k = decimals-here t x (b .0) in
     let v = p .5 in
     let l = p .4 in
-    let h : 4294967295 < numeral 0 (drop x t) = b .1 in
+    let h : numberLimit < numeral 0 (drop x t) = b .1 in
     fault.big (p .1) (p .2) (numeral-derived (p .0) (p .3) (omega arith)) (omega arith)
 
 pub big-here : {t : List ℕ} {x : ℕ} → fault.Big t x → given.Big t x

@@ -12,6 +12,7 @@ use lib.Dec.{eqb, ltb}
 use lib.ListN.{length, drop}
 use Rattle.base.specs.declared.Refusal.{Refusal}
 use Rattle.base.specs.declared.Refusal.the-variants.{Unexpected, NumberTooBig, CannotNegateMaskAll, TooManyTokens}
+use Rattle.meaning.specs.Limits.{tokenLimit, levelLimit}
 use Rattle.meaning.specs.Tokens.{left, right, all, Token, Lists, NotByte, NotMaskedByte, Jump, Alternatives, totalIn}
 use Rattle.reading.specs.Blanks.{here, skip}
 use Rattle.reading.specs.Given as given
@@ -38,13 +39,13 @@ use Rattle.grammar.proofs.FaultPieces.{stood, stand, mark-there, mark-h
 
 -- the levels of lists
 abbrev pub Level : ℕ → Type 0
-Level level = (1 ≤ level) × (level ≤ 8)
+Level level = (1 ≤ level) × (level ≤ levelLimit)
 
-spells-token : {level : ℕ} {tok : Token} {s : List ℕ} → Level level → Spells level tok s → SpellsToken (ltb 1 level) tok s × (level + depthIn tok ≤ 8)
-spells-token {level} l (inl p) = let q = solid-spells (l .0) (l .1) p in let d = q .2 in let k : level ≤ 8 = l .1 in (q .0, omega arith)
-spells-token {level} l (inr p) = let q = jump-spells p in let d = q .1 in let k : level ≤ 8 = l .1 in (q .0, omega arith)
+spells-token : {level : ℕ} {tok : Token} {s : List ℕ} → Level level → Spells level tok s → SpellsToken (ltb 1 level) tok s × (level + depthIn tok ≤ levelLimit)
+spells-token {level} l (inl p) = let q = solid-spells (l .0) (l .1) p in let d = q .2 in let k : level ≤ levelLimit = l .1 in (q .0, omega arith)
+spells-token {level} l (inr p) = let q = jump-spells p in let d = q .1 in let k : level ≤ levelLimit = l .1 in (q .0, omega arith)
 
-token-spells : (level : ℕ) (tok : Token) (s : List ℕ) → 1 ≤ level → depthIn tok ≤ 8 - level → SpellsToken (ltb 1 level) tok s → Spells level tok s
+token-spells : (level : ℕ) (tok : Token) (s : List ℕ) → 1 ≤ level → depthIn tok ≤ levelLimit - level → SpellsToken (ltb 1 level) tok s → Spells level tok s
 token-spells level tok s l d p = go (jump-or tok)
   where
     go : NoJump tok ⊎ ((from : ℕ) × (to : Option ℕ) × (tok ≡ Jump from to)) → Spells level tok s
@@ -71,15 +72,15 @@ seen {t} {level} {at} {e} {tok} l m = go (plain-or tok) (stood m)
 
 -- a token is read exactly if it stands there and is within the count
 pub token-there : (t : List ℕ) (level count at : ℕ) (tok : Token) (e d : ℕ) → Level level → token t level count at ≡ read tok e d
-    → Stands t (Spells level tok) at e × (d ≡ count + totalIn tok) × (d ≤ 512)
+    → Stands t (Spells level tok) at e × (d ≡ count + totalIn tok) × (d ≤ tokenLimit)
 unfolding Right TokenAfter
 token-there t level count at tok e d l q =
-    let p = subst (λ (x : Parsed Token). Right (λ k s. SpellsToken (ltb 1 level) k s) (λ k. totalIn k) (λ k. depthIn k) t (8 - level) count at x) q (token-right (enough t at) t level count at (l .0)) in
+    let p = subst (λ (x : Parsed Token). Right (λ k s. SpellsToken (ltb 1 level) k s) (λ k. totalIn k) (λ k. depthIn k) t (levelLimit - level) count at x) q (token-right (enough t at) t level count at (l .0)) in
     let m = p .0 in
     let n = subst (λ (x : Parsed Token). TokenAfter t level at x) q (token-after t level count at) in
     (stand t (Spells level tok) at e (m .string) (m .split) (token-spells level tok (m .string) (l .0) (p .3) (m .spelled)) n (m .reach), p .1, p .2)
 
-pub token-here : (t : List ℕ) (level count at : ℕ) (tok : Token) (e : ℕ) → Level level → Stands t (Spells level tok) at e → count + totalIn tok ≤ 512
+pub token-here : (t : List ℕ) (level count at : ℕ) (tok : Token) (e : ℕ) → Level level → Stands t (Spells level tok) at e → count + totalIn tok ≤ tokenLimit
     → token t level count at ≡ read tok e (count + totalIn tok)
 token-here t level count at tok e l m k =
     let s = stood m in
@@ -87,11 +88,11 @@ token-here t level count at tok e l m k =
     token-is-read tok t level count at (s .0) (s .1) (s .2) (s .4) (p .0) (l .0) (p .1) k ∙ ap (λ (x : ℕ). read tok x (count + totalIn tok)) (sym (s .5))
 
 pub token-stands : (t : List ℕ) (level count at : ℕ) (tok : Token) (e d : ℕ) → Level level
-    → (token t level count at ≡ read tok e d) ↔ (Stands t (Spells level tok) at e × (d ≡ count + totalIn tok) × (d ≤ 512))
+    → (token t level count at ≡ read tok e d) ↔ (Stands t (Spells level tok) at e × (d ≡ count + totalIn tok) × (d ≤ tokenLimit))
 token-stands t level count at tok e d l = (
   (λ q. token-there t level count at tok e d l q),
   λ p.
-      let q : count + totalIn tok ≤ 512 = subst (λ (x : ℕ). x ≤ 512) (p .1) (p .2) in
+      let q : count + totalIn tok ≤ tokenLimit = subst (λ (x : ℕ). x ≤ tokenLimit) (p .1) (p .2) in
       token-here t level count at tok e l (p .0) q ∙ ap (λ (x : ℕ). read tok e x) (sym (p .1)),
 )
 
@@ -209,7 +210,7 @@ missing-here t level count at l m = token-step t level count at ∙ go (plainAt 
     inner : Parsed Lists
     inner = lists t (level + 1) (count + 1) (skip t (at + 1)) (skip t (at + 1))
 
-    bracket : (a : Bool) → eqb (here t at) (code "(") ≡ a → _≡_ {A = Parsed Token} (cond a (cond (ltb count 512) (asToken inner) (stopped TooManyTokens at)) missing) missing
+    bracket : (a : Bool) → eqb (here t at) (code "(") ≡ a → _≡_ {A = Parsed Token} (cond a (cond (ltb count tokenLimit) (asToken inner) (stopped TooManyTokens at)) missing) missing
     bracket true i = absurd (m .2 (skip t (at + 1)) (mark-there t "(" at (eqb-true (here t at) (code "(") i) (omega arith)))
     bracket false i = refl
 

@@ -10,6 +10,7 @@ use native.Mathlib.Omega.{arith}
 use borrow.Author.Tests.{lt-ltb}
 use lib.Dec.{ltb}
 use lib.ListN.{length, drop}
+use Rattle.meaning.specs.Limits.{tokenLimit, levelLimit}
 use Rattle.meaning.specs.Tokens.{Token, Tokens, Lists, Byte, NotByte, MaskedByte, NotMaskedByte, Jump, Alternatives, nothing, _then_, neither, _or_, totalIn, total, totals}
 use Rattle.reading.specs.Blanks.{here, skip}
 use Rattle.reading.specs.Pieces.{found, absent, within, digit, plainAt}
@@ -55,20 +56,20 @@ token-missing t level count at c h k =
     ∙ rw (none-at t (ltb 1 level) at c h k) (no-bracket t at count c (lists t (level + 1) (count + 1) (skip t (at + 1)) (skip t (at + 1))) h k)
 
 -- a token other than alternatives
-pub token-found : (t : List ℕ) (level count at : ℕ) (tok : Token) (s e : ℕ) → plainAt t (ltb 1 level) at ≡ found tok s e → count < 512 → token t level count at ≡ read tok e (count + 1)
+pub token-found : (t : List ℕ) (level count at : ℕ) (tok : Token) (s e : ℕ) → plainAt t (ltb 1 level) at ≡ found tok s e → count < tokenLimit → token t level count at ≡ read tok e (count + 1)
 unfolding tokenOr
-token-found t level count at tok s e h l = token-step t level count at ∙ rw (h, lt-ltb count 512 l) refl
+token-found t level count at tok s e h l = token-step t level count at ∙ rw (h, lt-ltb count tokenLimit l) refl
 
 -- alternatives
-token-bracketed : (t : List ℕ) (level count at x : ℕ) (ls : Lists) (e c : ℕ) → here t at ≡ code "(" → skip t (at + 1) ≡ x → count < 512
+token-bracketed : (t : List ℕ) (level count at x : ℕ) (ls : Lists) (e c : ℕ) → here t at ≡ code "(" → skip t (at + 1) ≡ x → count < tokenLimit
     → lists t (level + 1) (count + 1) x x ≡ read ls e c → token t level count at ≡ read (Alternatives ls) e c
 unfolding tokenOr bracketed asToken
 token-bracketed t level count at x ls e c h s l k =
     token-step t level count at
-    ∙ rw (plain-absent t (ltb 1 level) at (code "(") h (no-digits .3) (omega arith) (omega arith) (omega arith), h, s, lt-ltb count 512 l, k) refl
+    ∙ rw (plain-absent t (ltb 1 level) at (code "(") h (no-digits .3) (omega arith) (omega arith) (omega arith), h, s, lt-ltb count tokenLimit l, k) refl
 
 -- a list
-pub list-bounded : (t : List ℕ) (level count at : ℕ) (ts : Tokens) (e c : ℕ) → level ≤ 8 → Bounded ts → more t level count at ≡ read ts e c → list t level count at ≡ read ts e c
+pub list-bounded : (t : List ℕ) (level count at : ℕ) (ts : Tokens) (e c : ℕ) → level ≤ levelLimit → Bounded ts → more t level count at ≡ read ts e c → list t level count at ≡ read ts e c
 unfolding listOf Bounded
 list-bounded t level count at nothing e c l b h = absurd b
 list-bounded t level count at (tok then ts) e c l b h = list-of t level count at l ∙ rw (h, is-bounded tok ts b) refl
@@ -94,23 +95,23 @@ rest-opens ls w p = let f = rest-form ls w p in (f .0, f .1, f .2, closer-high (
 -- with levels left and tokens to spare, it is read whole
 abbrev pub TokenRead : Token → Type 0
 TokenRead tok =
-    (t : List ℕ) (level count at : ℕ) (w r : List ℕ) → drop at t ≡ w ++ r → NoBlank r → SpellsToken (ltb 1 level) tok w → 1 ≤ level → level + depthIn tok ≤ 8
-    → count + totalIn tok ≤ 512 → token t level count at ≡ read tok (at + length w) (count + totalIn tok)
+    (t : List ℕ) (level count at : ℕ) (w r : List ℕ) → drop at t ≡ w ++ r → NoBlank r → SpellsToken (ltb 1 level) tok w → 1 ≤ level → level + depthIn tok ≤ levelLimit
+    → count + totalIn tok ≤ tokenLimit → token t level count at ≡ read tok (at + length w) (count + totalIn tok)
 
 abbrev pub MoreRead : Tokens → Type 0
 MoreRead ts =
     (t : List ℕ) (level count at : ℕ) (w r : List ℕ) → drop at t ≡ w ++ r → NoBlank r → token t level (count + total ts) (at + length w) ≡ missing → SpellsTokens (ltb 1 level) ts w
-    → 1 ≤ level → level + depth ts ≤ 9 → count + total ts ≤ 512 → more t level count at ≡ read ts (at + length w) (count + total ts)
+    → 1 ≤ level → level + depth ts ≤ suc levelLimit → count + total ts ≤ tokenLimit → more t level count at ≡ read ts (at + length w) (count + total ts)
 
 abbrev pub ListsRead : Lists → Type 0
 ListsRead ls =
-    (t : List ℕ) (level count at miss : ℕ) (w r : List ℕ) → drop at t ≡ w ++ r → NoBlank r → SpellsLists ls w → 2 ≤ level → level + depths ls ≤ 9
-    → count + totals ls ≤ 512 → lists t level count at miss ≡ read ls (at + length w) (count + totals ls)
+    (t : List ℕ) (level count at miss : ℕ) (w r : List ℕ) → drop at t ≡ w ++ r → NoBlank r → SpellsLists ls w → 2 ≤ level → level + depths ls ≤ suc levelLimit
+    → count + totals ls ≤ tokenLimit → lists t level count at miss ≡ read ls (at + length w) (count + totals ls)
 
 abbrev pub RestRead : Lists → Type 0
 RestRead ls =
     (t : List ℕ) (level count at miss : ℕ) (ts : Tokens) (x n : ℕ) (w r : List ℕ) → list t level count at ≡ read ts x n → drop x t ≡ w ++ r → NoBlank r → SpellsRest ls w
-    → 2 ≤ level → level + depths ls ≤ 9 → n + totals ls ≤ 512 → lists t level count at miss ≡ read (ts or ls) (x + length w) (n + totals ls)
+    → 2 ≤ level → level + depths ls ≤ suc levelLimit → n + totals ls ≤ tokenLimit → lists t level count at miss ≡ read (ts or ls) (x + length w) (n + totals ls)
 
 plain-read : (tok : Token) → Plain tok → TokenRead tok
 plain-read tok k t level count at w r h q p l d n =
@@ -167,7 +168,7 @@ then-read tok ts x y t level count at w r h q k p l d n =
 
 -- a list before what ends it
 list-read : (ts : Tokens) → MoreRead ts → (t : List ℕ) (level count at : ℕ) (w : List ℕ) (c : ℕ) (r : List ℕ) → drop at t ≡ w ++ (c ∷ r) → Closer c → SpellsTokens (ltb 1 level) ts w
-    → Bounded ts → 1 ≤ level → level + depth ts ≤ 9 → count + total ts ≤ 512 → list t level count at ≡ read ts (at + length w) (count + total ts)
+    → Bounded ts → 1 ≤ level → level + depth ts ≤ suc levelLimit → count + total ts ≤ tokenLimit → list t level count at ≡ read ts (at + length w) (count + total ts)
 list-read ts x t level count at w c r h k p b l d n =
     let i : 1 ≤ depth ts = depth-some ts in
     let m : token t level (count + total ts) (at + length w) ≡ missing =
@@ -176,7 +177,7 @@ list-read ts x t level count at w c r h k p b l d n =
 
 -- a list in brackets and what follows it
 both-read : (ts : Tokens) (ls : Lists) → MoreRead ts → RestRead ls → (t : List ℕ) (level count at miss : ℕ) (w r : List ℕ) → drop at t ≡ w ++ r → NoBlank r → Bounded ts
-    → ((λ a. SpellsTokens true ts a) ⨾ (λ b. SpellsRest ls b)) w → 2 ≤ level → level + depths (ts or ls) ≤ 9 → count + totals (ts or ls) ≤ 512
+    → ((λ a. SpellsTokens true ts a) ⨾ (λ b. SpellsRest ls b)) w → 2 ≤ level → level + depths (ts or ls) ≤ suc levelLimit → count + totals (ts or ls) ≤ tokenLimit
     → lists t level count at miss ≡ read (ts or ls) (at + length w) (count + totals (ts or ls))
 unfolding _⨾_ totals depths
 both-read ts ls x y t level count at miss w r h q b p l d n =
@@ -251,6 +252,6 @@ unfolding _⨾_
 outer-clear ts w r p =
     subst NoBlank (sym (cut (w ++ r) 0 w (p .0) (p .1) r refl (p .2) .0)) (tokens-clear false ts (p .0) (p .1 ++ r) (p .3 .1) (opens-clear (p .1) r (mark-opens (code "}") (p .1) (omega arith) (p .4))))
 
-pub outer-is-read : (ts : Tokens) (t : List ℕ) (at : ℕ) (w r : List ℕ) → drop at t ≡ w ++ (code "}" ∷ r) → SpellsTokens false ts w → Bounded ts → depth ts ≤ 8 → total ts ≤ 512
+pub outer-is-read : (ts : Tokens) (t : List ℕ) (at : ℕ) (w r : List ℕ) → drop at t ≡ w ++ (code "}" ∷ r) → SpellsTokens false ts w → Bounded ts → depth ts ≤ levelLimit → total ts ≤ tokenLimit
     → list t 1 0 at ≡ read ts (at + length w) (0 + total ts)
 outer-is-read ts t at w r h p b d n = list-read ts (more-is-read ts) t 1 0 at w (code "}") r h (inr (inr refl)) p b (omega arith) (omega arith) (omega arith)

@@ -10,6 +10,7 @@ use native.Mathlib.Omega.{arith}
 use borrow.Author.Tests.{le-ltb, ne-eqb, eqb-true}
 use lib.Dec.{eqb}
 use lib.ListN.{length, drop}
+use Rattle.meaning.specs.Limits.{innerJumpLimit}
 use Rattle.meaning.specs.Tokens.{Mask, left, right, all, Token, Byte, NotByte, MaskedByte, NotMaskedByte, Jump, Alternatives}
 use Rattle.reading.specs.Blanks.{here, skip}
 use Rattle.reading.specs.Pieces.{found, absent, _else_, within, digit, Hex, whole, masked, hexAt, plainly, negated, decimals, numeral, numberAt, between, checked, closedAt, upperAt, dashAt, lowerAt, rangeAt, jumpToken, jumped, plainAt}
@@ -311,7 +312,7 @@ jump-made : (inside : Bool) (at from : ℕ) (to : Option ℕ) (s e : ℕ) → No
 unfolding NotOne Allowed
 jump-made true at from none s e n a = absurd a
 jump-made false at from none s e n a = jumped-open at from s e false refl
-jump-made true at from (some to) s e n a = jumped-found at from s e true to (le-ltb 200 to a) ∙ ap (λ (x : Token). found x s e) (not-one from to n)
+jump-made true at from (some to) s e n a = jumped-found at from s e true to (le-ltb innerJumpLimit to a) ∙ ap (λ (x : Token). found x s e) (not-one from to n)
 jump-made false at from (some to) s e n a = jumped-found at from s e false to refl ∙ ap (λ (x : Token). found x s e) (not-one from to n)
 
 one-made : (inside : Bool) (at s e : ℕ) → jumped inside at (found (between 1 (some 1)) s e) ≡ found (MaskedByte 0 all) s e

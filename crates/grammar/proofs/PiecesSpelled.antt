@@ -11,6 +11,7 @@ use borrow.Author.Tests.{ltb-false, leb-true, eqb-true, eqb-false}
 use lib.Dec.{eqb, leb, ltb}
 use lib.ListN.{length, drop}
 use Rattle.base.specs.declared.Refusal.the-variants.{NumberTooBig, JumpEmpty, JumpRangeInvalid, JumpTooBigInAlternation}
+use Rattle.meaning.specs.Limits.{numberLimit, innerJumpLimit}
 use Rattle.meaning.specs.Tokens.{left, right, all, Token, Lists, Byte, NotByte, MaskedByte, NotMaskedByte, Jump, Alternatives}
 use Rattle.reading.specs.Blanks.{here, skip}
 use Rattle.reading.specs.Pieces.{Seen, found, absent, refused, upTo, _else_, within, digit, Hex, whole, masked, twoDigits, byteAt, oneDigit, maskedAt, hexAt, plainly, negated, notAt, decimals, numeral, numberAt, Range, between, checked, closedAt, upperAt, dashAt, lowerAt, rangeAt, jumpToken, jumped, plainAt}
@@ -96,7 +97,7 @@ decimals-here t at h =
     let q : 0 < decimals (here t at ∷ drop (suc at) t) = decimals-some (here t at) (drop (suc at) t) h in
     omega arith
 
-numeral-stands : (t : List ℕ) (at : ℕ) → within (code "0") (code "9") (here t at) ≡ true → numeral 0 (drop at t) ≤ 4294967295
+numeral-stands : (t : List ℕ) (at : ℕ) → within (code "0") (code "9") (here t at) ≡ true → numeral 0 (drop at t) ≤ numberLimit
     → Stands (Numeral (numeral 0 (drop at t))) t at (at + decimals (drop at t))
 unfolding Numeral
 numeral-stands t at h l =
@@ -108,12 +109,12 @@ numeral-stands t at h l =
 
 pub number-sound : (t : List ℕ) (at : ℕ) → Sound Number t at (numberAt t at)
 unfolding Sound numberAt Number
-number-sound t at = go (within (code "0") (code "9") (here t at)) (leb (numeral 0 (drop at t)) 4294967295) refl refl
+number-sound t at = go (within (code "0") (code "9") (here t at)) (leb (numeral 0 (drop at t)) numberLimit) refl refl
   where
-    go : (a b : Bool) → within (code "0") (code "9") (here t at) ≡ a → leb (numeral 0 (drop at t)) 4294967295 ≡ b
+    go : (a b : Bool) → within (code "0") (code "9") (here t at) ≡ a → leb (numeral 0 (drop at t)) numberLimit ≡ b
         → Sound Number t at (cond a (cond b (upTo t (numeral 0 (drop at t)) (at + decimals (drop at t))) (refused NumberTooBig at)) absent)
     go true true d e =
-        spaced-stands (Numeral (numeral 0 (drop at t))) t at (at + decimals (drop at t)) (numeral-stands t at d (leb-true (numeral 0 (drop at t)) 4294967295 e))
+        spaced-stands (Numeral (numeral 0 (drop at t))) t at (at + decimals (drop at t)) (numeral-stands t at d (leb-true (numeral 0 (drop at t)) numberLimit e))
     go true false d e = tt
     go false b d e = tt
 
@@ -224,12 +225,12 @@ jumped-sound : (t : List ℕ) (inside : Bool) (at : ℕ) (r : Seen Range) → So
 unfolding Sound jumped SpellsRange SpellsPlain SpellsToken Plain NotOne Allowed
 jumped-sound t true at (found (between from none) s e) p = tt
 jumped-sound t false at (found (between from none) s e) p = change (λ u q. ((q, tt, tt), tt)) p
-jumped-sound t inside at (found (between from (some to)) s e) p = go inside (ltb 200 to) refl p
+jumped-sound t inside at (found (between from (some to)) s e) p = go inside (ltb innerJumpLimit to) refl p
   where
-    go : (i c : Bool) → ltb 200 to ≡ c → Stands (Bounds from (some to)) t at e
+    go : (i c : Bool) → ltb innerJumpLimit to ≡ c → Stands (Bounds from (some to)) t at e
         → Sound (SpellsPlain i) t at (cond (i && c) (refused JumpTooBigInAlternation at) (found (jumpToken from to) s e))
     go true true g p = tt
-    go true false g p = jump-spelled t true at from to e (ltb-false 200 to g) p
+    go true false g p = jump-spelled t true at from to e (ltb-false innerJumpLimit to g) p
     go false c g p = jump-spelled t false at from to e tt p
 jumped-sound t inside at absent p = tt
 jumped-sound t inside at (refused r z) p = tt

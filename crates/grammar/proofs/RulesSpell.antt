@@ -11,6 +11,7 @@ use native.Mathlib.Omega.{arith}
 use borrow.Author.Tests.{ltb-true, lt-ltb, le-ltb}
 use lib.Dec.{ltb}
 use lib.ListN.{length, length-append}
+use Rattle.meaning.specs.Limits.{levelLimit, innerJumpLimit}
 use Rattle.meaning.specs.Tokens.{Mask, all, Token, Tokens, Lists, nothing, _then_, _or_}
 use Rattle.grammar.specs.Grammar as rule
 use Rattle.grammar.proofs.Spelling.{_⨾_, Blank, Blanks, Spaced, Sign, Marked, Digit, decimal, upper, lower, HexDigit, Whole, Masked, Decimals, value, Numeral, Number, From, To, Single, Dashed, Ordered, Bracketed, Bounds, Allowed, NotOne, AsJump, Negatable, NoJump, EndsWell, Bounded, SpellsToken, SpellsTokens, SpellsLists, SpellsRest, SpellsList, depthIn, depth, depths}
@@ -91,7 +92,7 @@ range-spells (rule.at-most {a = a} {b = b} {c = c} {d = d} p q r u h) =
 range-spells (rule.any-many {a = a} {b = b} {c = c} p q r) =
     (tt, inr (a, [] ++ (b ++ ([] ++ c)), refl, mark-spells p, ([], b ++ ([] ++ c), refl, inr (refl, refl), (b, [] ++ c, refl, mark-spells q, ([], c, refl, refl, mark-spells r)))))
 
-allowed-some : (level n : ℕ) → (1 < level → n ≤ 200) → Allowed (ltb 1 level) (some n)
+allowed-some : (level n : ℕ) → (1 < level → n ≤ innerJumpLimit) → Allowed (ltb 1 level) (some n)
 unfolding Allowed
 allowed-some level n h = go (ltb 1 level) refl
   where
@@ -110,16 +111,16 @@ jump-spells {level} (rule.unbounded p h) = ((range-spells p, tt, allowed-none le
 
 -- what is to be shown of tokens, lists and what follows them, on a level: how they are spelled, and that they are within the levels left
 abbrev SolidSpells : ℕ → Token → List ℕ → Type 0
-SolidSpells level tok s = SpellsToken (ltb 1 level) tok s × NoJump tok × (depthIn tok ≤ 8 - level)
+SolidSpells level tok s = SpellsToken (ltb 1 level) tok s × NoJump tok × (depthIn tok ≤ levelLimit - level)
 
 abbrev ListSpells : ℕ → Tokens → List ℕ → Type 0
-ListSpells level ts s = SpellsTokens (ltb 1 level) ts s × Bounded ts × (depth ts ≤ 9 - level)
+ListSpells level ts s = SpellsTokens (ltb 1 level) ts s × Bounded ts × (depth ts ≤ suc levelLimit - level)
 
 abbrev TailSpells : ℕ → Tokens → List ℕ → Type 0
-TailSpells level ts s = SpellsTokens (ltb 1 level) ts s × ((tok : Token) → EndsWell tok ts) × (depth ts ≤ 9 - level)
+TailSpells level ts s = SpellsTokens (ltb 1 level) ts s × ((tok : Token) → EndsWell tok ts) × (depth ts ≤ suc levelLimit - level)
 
 abbrev RestSpells : ℕ → Lists → List ℕ → Type 0
-RestSpells level ls s = SpellsRest ls s × (depths ls ≤ 9 - level)
+RestSpells level ls s = SpellsRest ls s × (depths ls ≤ suc levelLimit - level)
 
 inner : (level : ℕ) (ts : Tokens) (s : List ℕ) → 1 < level → SpellsTokens (ltb 1 level) ts s → SpellsTokens true ts s
 inner level ts s h = subst (λ (b : Bool). SpellsTokens b ts s) (lt-ltb 1 level h)
@@ -129,21 +130,21 @@ unfolding Bounded EndsWell
 bounded-ends nothing p tok = absurd p
 bounded-ends (next then ts) p tok = p .1
 
-only-spells : (level : ℕ) (tok : Token) (s : List ℕ) → level ≤ 8 → SolidSpells level tok s → ListSpells level (tok then nothing) s
+only-spells : (level : ℕ) (tok : Token) (s : List ℕ) → level ≤ levelLimit → SolidSpells level tok s → ListSpells level (tok then nothing) s
 unfolding SpellsTokens Bounded EndsWell depth _⨾_
 only-spells level tok s h p =
-    let d : depthIn tok ≤ 8 - level = p .2 in
+    let d : depthIn tok ≤ levelLimit - level = p .2 in
     ((s, [], sym (append-nil s), p .0, refl), (p .1, p .1), omega arith)
 
-then-spells : (level : ℕ) (tok : Token) (ts : Tokens) (s a b : List ℕ) → s ≡ a ++ b → level ≤ 8 → SpellsToken (ltb 1 level) tok a → depthIn tok ≤ 8 - level → SpellsTokens (ltb 1 level) ts b → depth ts ≤ 9 - level
-    → SpellsTokens (ltb 1 level) (tok then ts) s × (depth (tok then ts) ≤ 9 - level)
+then-spells : (level : ℕ) (tok : Token) (ts : Tokens) (s a b : List ℕ) → s ≡ a ++ b → level ≤ levelLimit → SpellsToken (ltb 1 level) tok a → depthIn tok ≤ levelLimit - level → SpellsTokens (ltb 1 level) ts b → depth ts ≤ suc levelLimit - level
+    → SpellsTokens (ltb 1 level) (tok then ts) s × (depth (tok then ts) ≤ suc levelLimit - level)
 unfolding SpellsTokens depth _⨾_
 then-spells level tok ts s a b e h p d q f = ((a, b, e, p, q), omega arith)
 
 mutual
   unfolding SpellsToken AsJump SpellsLists SpellsRest Bounded EndsWell NoJump depthIn depths _⨾_ Sign
 
-  pub solid-spells : {level : ℕ} {tok : Token} {s : List ℕ} → 1 ≤ level → level ≤ 8 → rule.Solid level tok s → SolidSpells level tok s
+  pub solid-spells : {level : ℕ} {tok : Token} {s : List ℕ} → 1 ≤ level → level ≤ levelLimit → rule.Solid level tok s → SolidSpells level tok s
   solid-spells l h (rule.byte p) = (whole-spells p, tt, omega arith)
   solid-spells l h (rule.not-byte {s = s} p) = ((code "~" ∷ [], s, refl, refl, whole-spells p), tt, omega arith)
   solid-spells l h (rule.half p) = (inl (half-spells p .0), tt, omega arith)
@@ -153,11 +154,11 @@ mutual
   solid-spells l h (rule.alternatives {level = level} {ts = ts} {ls = ls} {a = a} {b = b} {c = c} e p q r k) =
       let i = list-spells (omega arith) (omega arith) q in
       let j = rest-spells (omega arith) (omega arith) r in
-      let d : depth ts ≤ 9 - suc level = i .2 in
-      let f : depths ls ≤ 9 - suc level = j .1 in
+      let d : depth ts ≤ suc levelLimit - suc level = i .2 in
+      let f : depths ls ≤ suc levelLimit - suc level = j .1 in
       ((a, b ++ c, e, mark-spells p, (i .1, (b, c, refl, inner (suc level) ts b (omega arith) (i .0), j .0))), tt, omega arith)
 
-  pub list-spells : {level : ℕ} {ts : Tokens} {s : List ℕ} → 1 ≤ level → level ≤ 8 → rule.TokenList level ts s → ListSpells level ts s
+  pub list-spells : {level : ℕ} {ts : Tokens} {s : List ℕ} → 1 ≤ level → level ≤ levelLimit → rule.TokenList level ts s → ListSpells level ts s
   list-spells l h (rule.only {level = level} {tok = tok} {s = s} p) = only-spells level tok s h (solid-spells l h p)
   list-spells l h (rule.more {level = level} {tok = tok} {ts = ts} {s = s} {a = a} {b = b} e p q) =
       let i = solid-spells l h p in
@@ -165,7 +166,7 @@ mutual
       let k = then-spells level tok ts s a b e h (i .0) (i .2) (j .0) (j .2) in
       (k .0, (i .1, j .1 tok), k .1)
 
-  tail-spells : {level : ℕ} {ts : Tokens} {s : List ℕ} → 1 ≤ level → level ≤ 8 → rule.Tail level ts s → TailSpells level ts s
+  tail-spells : {level : ℕ} {ts : Tokens} {s : List ℕ} → 1 ≤ level → level ≤ levelLimit → rule.Tail level ts s → TailSpells level ts s
   tail-spells l h (rule.list {ts = ts} p) = let i = list-spells l h p in (i .0, bounded-ends ts (i .1), i .2)
   tail-spells l h (rule.jump {level = level} {tok = tok} {ts = ts} {s = s} {a = a} {b = b} e p q) =
       let i = jump-spells p in
@@ -174,16 +175,16 @@ mutual
       let k = then-spells level tok ts s a b e h (i .0) (omega arith) (j .0) (j .2) in
       (k .0, (λ x. j .1 tok), k .1)
 
-  rest-spells : {level : ℕ} {ls : Lists} {s : List ℕ} → 1 < level → level ≤ 8 → rule.Rest level ls s → RestSpells level ls s
+  rest-spells : {level : ℕ} {ls : Lists} {s : List ℕ} → 1 < level → level ≤ levelLimit → rule.Rest level ls s → RestSpells level ls s
   rest-spells l h (rule.close p) = (mark-spells p, omega arith)
   rest-spells l h (rule.bar {level = level} {ts = ts} {ls = ls} {a = a} {b = b} {c = c} e p q r) =
       let i = list-spells (omega arith) h q in
       let j = rest-spells l h r in
-      let d : depth ts ≤ 9 - level = i .2 in
-      let f : depths ls ≤ 9 - level = j .1 in
+      let d : depth ts ≤ suc levelLimit - level = i .2 in
+      let f : depths ls ≤ suc levelLimit - level = j .1 in
       ((i .1, (a, b ++ c, e, mark-spells p, (b, c, refl, inner level ts b l (i .0), j .0))), omega arith)
 
-pub outer-spells : {ts : Tokens} {s : List ℕ} → rule.TokenList 1 ts s → SpellsList false ts s × (depth ts ≤ 8)
+pub outer-spells : {ts : Tokens} {s : List ℕ} → rule.TokenList 1 ts s → SpellsList false ts s × (depth ts ≤ levelLimit)
 outer-spells {ts} {s} p =
     let i = list-spells {level = 1} {ts = ts} {s = s} (omega arith) (omega arith) p in
     ((i .1, subst (λ (b : Bool). SpellsTokens b ts s) (le-ltb 1 1 (omega arith)) (i .0)), omega arith)

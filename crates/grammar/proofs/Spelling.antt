@@ -8,6 +8,7 @@ use mathlib.Core.List.{List, [], _∷_, _++_}
 use Prim.Native.Char.{code}
 use Prim.Native.Nat.{ℕ, suc, _+_, _-_, _*_, _^_, _≤_, _<_, max}
 use lib.ListN.{length}
+use Rattle.meaning.specs.Limits.{textLimit, tokenLimit, levelLimit, numberLimit, innerJumpLimit}
 use Rattle.meaning.specs.Tokens.{Mask, left, right, all, Token, Tokens, Lists, Byte, NotByte, MaskedByte, NotMaskedByte, Jump, Alternatives, nothing, _then_, neither, _or_, total}
 
 -- some of the byte strings
@@ -72,7 +73,7 @@ value (c ∷ s) = (c - code "0") * 10 ^ length s + value s
 
 -- one decimal digit or more, with any count of leading zeros, for a number of at most 4,294,967,295
 unfoldable pub Numeral : ℕ → Language
-Numeral n s = Decimals s × (0 < length s) × (n ≡ value s) × (n ≤ 4294967295)
+Numeral n s = Decimals s × (0 < length s) × (n ≡ value s) × (n ≤ numberLimit)
 
 -- a number and the blanks that may follow it
 unfoldable pub Number : ℕ → Language
@@ -112,7 +113,7 @@ Bounds from to s = Ordered from to × Bracketed from to s
 unfoldable pub Allowed : Bool → Option ℕ → Type 0
 Allowed false to = Unit {0}
 Allowed true none = ⊥
-Allowed true (some to) = to ≤ 200
+Allowed true (some to) = to ≤ innerJumpLimit
 
 -- `[1]` and `[1-1]` spell no jump
 unfoldable pub NotOne : ℕ → Option ℕ → Type 0
@@ -212,4 +213,4 @@ unfoldable mutual
 
 -- a text that is spelled within 01's limits: 8 list levels, 512 tokens, 4,096 bytes
 abbrev pub Spelled : List ℕ → ℕ → Tokens → Type 0
-Spelled t e ts = SpellsText t e ts × (depth ts ≤ 8) × (total ts ≤ 512) × (length t ≤ 4096)
+Spelled t e ts = SpellsText t e ts × (depth ts ≤ levelLimit) × (total ts ≤ tokenLimit) × (length t ≤ textLimit)

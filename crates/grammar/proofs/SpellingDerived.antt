@@ -11,6 +11,7 @@ use native.Mathlib.Omega.{arith}
 use borrow.Author.Tests.{ltb-false, lt-ltb, le-ltb}
 use lib.Dec.{ltb}
 use lib.ListN.{length}
+use Rattle.meaning.specs.Limits.{levelLimit}
 use Rattle.meaning.specs.Tokens.{Mask, left, right, all, Token, Tokens, Lists, Byte, NotByte, MaskedByte, NotMaskedByte, Jump, Alternatives, nothing, _then_, neither, _or_}
 use Rattle.grammar.specs.Grammar as rule
 use Rattle.grammar.proofs.Spelling.{_⨾_, Blank, Blanks, NoBlank, Spaced, Sign, Marked, Digit, decimal, upper, lower, HexDigit, Whole, Masked, Decimals, value, Numeral, Number, From, To, Single, Dashed, Ordered, Bracketed, Bounds, Allowed, NotOne, AsJump, Negatable, NoJump, EndsWell, Bounded, SpellsToken, SpellsTokens, SpellsLists, SpellsRest, SpellsList, depthIn, depth, depths}
@@ -220,7 +221,7 @@ outer level ts s h = subst (λ (b : Bool). SpellsTokens b ts s) (sym (lt-ltb 1 l
 mutual
   unfolding SpellsToken SpellsTokens SpellsLists SpellsRest Bounded EndsWell NoJump depthIn depth depths _⨾_ Sign
 
-  pub solid-derived : (tok : Token) (level : ℕ) (s : List ℕ) → 1 ≤ level → NoJump tok → depthIn tok ≤ 8 - level → SpellsToken (ltb 1 level) tok s → rule.Solid level tok s
+  pub solid-derived : (tok : Token) (level : ℕ) (s : List ℕ) → 1 ≤ level → NoJump tok → depthIn tok ≤ levelLimit - level → SpellsToken (ltb 1 level) tok s → rule.Solid level tok s
   solid-derived (Byte v) level s l n d p = rule.byte (whole-derived v s p)
   solid-derived (NotByte v) level s l n d p = subst (rule.Solid level (NotByte v)) (sym (tilde s (p .0) (p .1) (p .2) (p .3))) (rule.not-byte (whole-derived v (p .1) (p .4)))
   solid-derived (MaskedByte v m) level s l n d p = masked-derived level v m s p
@@ -230,7 +231,7 @@ mutual
   solid-derived (Jump from to) level s l n d p = absurd n
   solid-derived (Alternatives ls) level s l n d p = brackets-derived ls level s (p .0) (p .1) (p .2) (mark-derived "(" (p .0) (p .3)) l d (p .4)
 
-  brackets-derived : (ls : Lists) (level : ℕ) (s a u : List ℕ) → s ≡ a ++ u → rule.Mark "(" a → 1 ≤ level → depths ls ≤ 8 - level → SpellsLists ls u → rule.Solid level (Alternatives ls) s
+  brackets-derived : (ls : Lists) (level : ℕ) (s a u : List ℕ) → s ≡ a ++ u → rule.Mark "(" a → 1 ≤ level → depths ls ≤ levelLimit - level → SpellsLists ls u → rule.Solid level (Alternatives ls) s
   brackets-derived neither level s a u e m l d p = absurd p
   brackets-derived (ts or ls) level s a u e m l d p =
       let q = p .1 in
@@ -238,19 +239,19 @@ mutual
       rule.alternatives (parts a e (q .2)) m (list-derived ts (suc level) (q .0) (omega arith) (omega arith) (p .0) (outer (suc level) ts (q .0) (omega arith) (q .3)))
       (rest-derived ls (suc level) (q .1) (omega arith) (omega arith) (q .4)) (omega arith)
 
-  pub list-derived : (ts : Tokens) (level : ℕ) (s : List ℕ) → 1 ≤ level → depth ts ≤ 9 - level → Bounded ts → SpellsTokens (ltb 1 level) ts s → rule.TokenList level ts s
+  pub list-derived : (ts : Tokens) (level : ℕ) (s : List ℕ) → 1 ≤ level → depth ts ≤ suc levelLimit - level → Bounded ts → SpellsTokens (ltb 1 level) ts s → rule.TokenList level ts s
   list-derived nothing level s l d w p = absurd w
   list-derived (tok then ts) level s l d w p =
       listed-then level tok ts s (p .0) (p .1) (p .2) (solid-derived tok level (p .0) l (w .0) (omega arith) (p .3)) (w .1) (p .4)
       (λ w. tail-derived ts level (p .1) l (omega arith) w (p .4))
 
-  tail-derived : (ts : Tokens) (level : ℕ) (s : List ℕ) → 1 ≤ level → depth ts ≤ 9 - level → ((x : Token) → EndsWell x ts) → SpellsTokens (ltb 1 level) ts s → rule.Tail level ts s
+  tail-derived : (ts : Tokens) (level : ℕ) (s : List ℕ) → 1 ≤ level → depth ts ≤ suc levelLimit - level → ((x : Token) → EndsWell x ts) → SpellsTokens (ltb 1 level) ts s → rule.Tail level ts s
   tail-derived nothing level s l d w p = absurd (w (Jump 0 none))
   tail-derived (tok then ts) level s l d w p =
       tail-then level tok ts s (p .0) (p .1) (p .2) (λ n. solid-derived tok level (p .0) l n (omega arith) (p .3)) l (p .3) (w tok) (p .4)
       (λ w. tail-derived ts level (p .1) l (omega arith) w (p .4))
 
-  rest-derived : (ls : Lists) (level : ℕ) (s : List ℕ) → 1 < level → depths ls ≤ 9 - level → SpellsRest ls s → rule.Rest level ls s
+  rest-derived : (ls : Lists) (level : ℕ) (s : List ℕ) → 1 < level → depths ls ≤ suc levelLimit - level → SpellsRest ls s → rule.Rest level ls s
   rest-derived neither level s l d p = rule.close (mark-derived ")" s p)
   rest-derived (ts or ls) level s l d p =
       let q = p .1 in
@@ -258,5 +259,5 @@ mutual
       rule.bar (parts (q .0) (q .2) (r .2)) (mark-derived "|" (q .0) (q .3)) (list-derived ts level (r .0) (omega arith) (omega arith) (p .0) (outer level ts (r .0) l (r .3)))
       (rest-derived ls level (r .1) l (omega arith) (r .4))
 
-pub outer-derived : (ts : Tokens) (s : List ℕ) → SpellsList false ts s → depth ts ≤ 8 → rule.TokenList 1 ts s
+pub outer-derived : (ts : Tokens) (s : List ℕ) → SpellsList false ts s → depth ts ≤ levelLimit → rule.TokenList 1 ts s
 outer-derived ts s p d = list-derived ts 1 s (omega arith) (omega arith) (p .0) (subst (λ (b : Bool). SpellsTokens b ts s) (sym (le-ltb 1 1 (omega arith))) (p .1))

@@ -7,6 +7,7 @@ use Prim.Native.Nat.{ℕ, _+_, _≤_}
 use native.Mathlib.Omega.{arith}
 use borrow.Author.Tests.{le-leb}
 use lib.ListN.{length, drop}
+use Rattle.meaning.specs.Limits.{textLimit, tokenLimit, levelLimit}
 use Rattle.meaning.specs.Tokens.{Tokens, total}
 use Rattle.reading.specs.Blanks.{here, skip}
 use Rattle.reading.specs.Lists.{read, list, accepted, rejected, closing, reading}
@@ -18,12 +19,12 @@ use Rattle.grammar.proofs.Fronts.{marked-form, mark-seen}
 use Rattle.grammar.proofs.TextSpelled.{accepted-spelled}
 use Rattle.grammar.proofs.ListsRead.{outer-clear, outer-is-read}
 
-text-steps : (t : List ℕ) (x : ℕ) (ts : Tokens) (y c e : ℕ) → length t ≤ 4096 → here t 0 ≡ code "{" → skip t 1 ≡ x → list t 1 0 x ≡ read ts y c → here t y ≡ code "}" → skip t (y + 1) ≡ e
+text-steps : (t : List ℕ) (x : ℕ) (ts : Tokens) (y c e : ℕ) → length t ≤ textLimit → here t 0 ≡ code "{" → skip t 1 ≡ x → list t 1 0 x ≡ read ts y c → here t y ≡ code "}" → skip t (y + 1) ≡ e
     → reading t ≡ accepted e ts
 unfolding reading closing
-text-steps t x ts y c e l h s k i j = rw (le-leb (length t) 4096 l, h, s, k, i, j) refl
+text-steps t x ts y c e l h s k i j = rw (le-leb (length t) textLimit l, h, s, k, i, j) refl
 
-string-read : (t : List ℕ) (ts : Tokens) (w r : List ℕ) → drop 0 t ≡ w ++ r → SpellsString ts w → NoBlank r → depth ts ≤ 8 → total ts ≤ 512 → length t ≤ 4096
+string-read : (t : List ℕ) (ts : Tokens) (w r : List ℕ) → drop 0 t ≡ w ++ r → SpellsString ts w → NoBlank r → depth ts ≤ levelLimit → total ts ≤ tokenLimit → length t ≤ textLimit
     → reading t ≡ accepted (length w) ts
 unfolding SpellsString _⨾_
 string-read t ts w r h p q d n l =
@@ -43,7 +44,7 @@ string-read t ts w r h p q d n l =
     text-steps t (0 + length m) ts (0 + length m + length u) (0 + total ts) (length w) l (s1 .0) (s1 .1) s2 (s3 .0) e
 
 -- a text that spells tokens up to an offset, within the limits, is accepted with just these
-pub spelled-accepted : (t : List ℕ) (e : ℕ) (ts : Tokens) → SpellsText t e ts → depth ts ≤ 8 → total ts ≤ 512 → length t ≤ 4096 → reading t ≡ accepted e ts
+pub spelled-accepted : (t : List ℕ) (e : ℕ) (ts : Tokens) → SpellsText t e ts → depth ts ≤ levelLimit → total ts ≤ tokenLimit → length t ≤ textLimit → reading t ≡ accepted e ts
 unfolding SpellsText
 spelled-accepted t e ts p d n l = string-read t ts (p .0) (p .1) (p .2) (p .3) (p .4) d n l ∙ ap (λ (x : ℕ). accepted x ts) (sym (p .5))
 

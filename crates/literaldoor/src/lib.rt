@@ -9,6 +9,7 @@ ghost use mathlib.Core.Path.{_≡_};
 ghost use mathlib.Core.Bool.{true};
 ghost use Prim.Native.Nat.{_≤_};
 ghost use lib.ListN.{length};
+ghost use Rattle.meaning.specs.Limits.{literalLimit, tokenPool};
 ghost use Rattle.picking.specs.Literals.{literals as literalsOf};
 ghost use Rattle.picking.specs.Numbers.{count};
 ghost use Rattle.picking.specs.Runs.{plain, segments};
@@ -37,7 +38,7 @@ fn write_taken(
     bytes: &mut [u8],
     lengths: &mut [u16],
 ) -> LiteralsAnswer
-    requires { ⌜ (length (now ws) ≤ 4096) × (count (tokensIn (now ws)) ≤ 256) ⌝ }
+    requires { ⌜ (length (now ws) ≤ tokenPool) × (count (tokensIn (now ws)) ≤ literalLimit) ⌝ }
     ensures { λ r. ⌜ Picks reached (picked rank (literalsOf (tokensIn (now (ws .entry))))) (said r) (now (bytes .entry)) (now (lengths .entry)) (now (bytes .exit)) (now (lengths .exit)) ⌝ }
 {
     let w = generator::write_all(ws, bytes, lengths);
@@ -59,7 +60,7 @@ fn write_choice(
     bytes: &mut [u8],
     lengths: &mut [u16],
 ) -> LiteralsAnswer
-    requires { ⌜ (length (now ws) ≤ 4096) × Kept (now ws) choice ⌝ }
+    requires { ⌜ (length (now ws) ≤ tokenPool) × Kept (now ws) choice ⌝ }
     ensures { λ r. ⌜ Picks reached (taking (choiceSays (now (ws .entry)) choice)) (said r) (now (bytes .entry)) (now (lengths .entry)) (now (bytes .exit)) (now (lengths .exit)) ⌝ }
 {
     match choice {
@@ -75,7 +76,7 @@ fn write_choice(
 
 // 19, then 17, then 18.
 fn pick_tokens(ws: &[u32], reached: usize, bytes: &mut [u8], lengths: &mut [u16]) -> LiteralsAnswer
-    requires { ⌜ (length (now ws) ≤ 4096) × Whole (now ws) × (plain (tokensIn (now ws)) ≡ true → AllTold (segments (tokensIn (now ws)))) ⌝ }
+    requires { ⌜ (length (now ws) ≤ tokenPool) × Whole (now ws) × (plain (tokensIn (now ws)) ≡ true → AllTold (segments (tokensIn (now ws)))) ⌝ }
     ensures { λ r. ⌜ Picks reached (pick (tokensIn (now (ws .entry)))) (said r) (now (bytes .entry)) (now (lengths .entry)) (now (bytes .exit)) (now (lengths .exit)) ⌝ }
 {
     if !spelling::is_plain(ws) {

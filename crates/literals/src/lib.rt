@@ -9,6 +9,7 @@ ghost use lib.ListN.{length, take, drop};
 ghost use Rattle.atoms.specs.Score.{literalScore};
 ghost use Rattle.picking.specs.Literals.{literals};
 ghost use Rattle.picking.specs.Numbers.{count, literalAt};
+ghost use Rattle.meaning.specs.Limits.{literalLimit, tokenPool};
 ghost use Rattle.meaning.specs.Tokens.{Tokens, nothing};
 ghost use Rattle.picking.specs.Runs.{Slice, parts, longer, slices, closes};
 ghost use Rattle.picking.specs.Choice.{least, penalty, rank, ranked, widened, against, best as bestOf, unranked, tooMany, strong, aloneOr, inRun};
@@ -28,7 +29,7 @@ pub enum Rank {
 
 // A literal has at most as many bytes as there are entries.
 fn score_at(ws: &[u32], k: usize) -> u32
-    requires { ⌜ (length (now ws) ≤ 4096) × (k < count (tokensIn (now ws))) × (count (tokensIn (now ws)) ≤ 256) ⌝ }
+    requires { ⌜ (length (now ws) ≤ tokenPool) × (k < count (tokensIn (now ws))) × (count (tokensIn (now ws)) ≤ literalLimit) ⌝ }
     ensures { λ r. ⌜ r ≡ literalScore (literalAt (tokensIn (now (ws .entry))) k) ⌝ }
 {
     let mut scratch = [0u8; ENTRY_LIMIT];
@@ -80,7 +81,7 @@ fn beaten(best: Pick, rank: u32) -> bool
 
 // What the literals are worth to the best so far. Scoring more of them can only lower the rank, so it stops where that changes nothing.
 fn worth(ws: &[u32], n: usize, penalty: u32, best: Pick) -> Rank
-    requires { ⌜ (length (now ws) ≤ 4096) × (n ≡ count (tokensIn (now ws))) × (n ≤ 256) ⌝ }
+    requires { ⌜ (length (now ws) ≤ tokenPool) × (n ≡ count (tokensIn (now ws))) × (n ≤ literalLimit) ⌝ }
     ensures { λ r. ⌜ Settles best r (ranked (least literalScore (literals (tokensIn (now (ws .entry)))) - penalty)) ⌝ }
 {
     if n == 0 {
@@ -105,7 +106,7 @@ fn worth(ws: &[u32], n: usize, penalty: u32, best: Pick) -> Rank
 
 // A slice's rank, or one that changes the best so far as little.
 pub fn rank_of(ws: &[u32], best: Pick) -> Rank
-    requires { ⌜ length (now ws) ≤ 4096 ⌝ }
+    requires { ⌜ length (now ws) ≤ tokenPool ⌝ }
     ensures { λ r. ⌜ Settles best r (rank (tokensIn (now (ws .entry)))) ⌝ }
 {
     let t = spelling::tally_tokens(ws);
@@ -220,7 +221,7 @@ fn is_full(best: Pick) -> bool
 
 // The first highest slice of a run, with the literal parts on either side.
 fn best_slice(run: &[u32]) -> Pick
-    requires { ⌜ (length (now run) ≤ 4096) × Whole (now run) ⌝ }
+    requires { ⌜ (length (now run) ≤ tokenPool) × Whole (now run) ⌝ }
     ensures { λ r. ⌜ choiceSays (now (run .entry)) r ≡ bestOf unranked (slices (parts (tokensIn (now (run .entry)))) nothing) ⌝ }
 {
     let mut prior = 0;
@@ -241,7 +242,7 @@ fn best_slice(run: &[u32]) -> Pick
 
 // The first literal part that scores at least 80.
 fn strong_part(run: &[u32]) -> Pick
-    requires { ⌜ (length (now run) ≤ 4096) × Whole (now run) ⌝ }
+    requires { ⌜ (length (now run) ≤ tokenPool) × Whole (now run) ⌝ }
     ensures { λ r. ⌜ choiceSays (now (run .entry)) r ≡ aloneOr (strong (parts (tokensIn (now (run .entry))))) unranked ⌝ }
 {
     let mut at = 0;
@@ -261,7 +262,7 @@ fn strong_part(run: &[u32]) -> Pick
 
 // What is chosen in a run: such a part alone, or else the best slice.
 pub fn in_run(run: &[u32]) -> Pick
-    requires { ⌜ (length (now run) ≤ 4096) × Whole (now run) ⌝ }
+    requires { ⌜ (length (now run) ≤ tokenPool) × Whole (now run) ⌝ }
     ensures { λ r. ⌜ choiceSays (now (run .entry)) r ≡ inRun (tokensIn (now (run .entry))) ⌝ }
 {
     let s = strong_part(run);

@@ -9,6 +9,7 @@ use lib.Dec.{leb, ltb}
 use borrow.Author.Tests.{leb-true, le-leb}
 use lib.ListN.{length, take, drop, length-append, length-drop, take-append-drop}
 use lib.Seq.{take-append-seam, drop-append-seam, length-take-le, take-all}
+use Rattle.meaning.specs.Limits.{nodeLimit}
 use Rattle.meaning.specs.Programs.{Item, Prog, Branches, alt, end, _▹_, stop, or}
 use Rattle.meaning.specs.Words.{fieldSize, kindOf, firstOf, secondOf, Shape, item, opens, mark, wrong, shape, properBy, proper, plain, plainProg, plainWords, Says, SaysIn, nothing, node, alternation, last, more, SoundProgram, soundWords, soundBranches, branches, prog, branchesOf, sound, Sound, SoundBranches}
 use Rattle.meaning.proofs.KindLaws.{Seen, seen, kind-opens}
@@ -155,14 +156,14 @@ mutual
 pub sound-program : (ws : List ℕ) → sound ws ≡ true → SoundProgram ws
 unfolding sound
 sound-program ws h = record {
-  short-enough = leb-true (length ws) 512 (and-left (leb (length ws) 512) (soundWords (length ws) ws) h);
+  short-enough = leb-true (length ws) nodeLimit (and-left (leb (length ws) nodeLimit) (soundWords (length ws) ws) h);
   program = prog ws;
-  says = said (length ws) ws (le-refl _) (and-right (leb (length ws) 512) (soundWords (length ws) ws) h);
+  says = said (length ws) ws (le-refl _) (and-right (leb (length ws) nodeLimit) (soundWords (length ws) ws) h);
 }
 
 pub program-sound : (ws : List ℕ) → SoundProgram ws → sound ws ≡ true
 unfolding sound
-program-sound ws h = and-both (le-leb (length ws) 512 (h .short-enough)) (computes (h .says) .sounds)
+program-sound ws h = and-both (le-leb (length ws) nodeLimit (h .short-enough)) (computes (h .says) .sounds)
 
 pub program-one : {ws : List ℕ} {p : Prog} → Says ws p → prog ws ≡ p
 program-one h = computes h .says

@@ -13,6 +13,7 @@ ghost use mathlib.Core.Path.{_≡_};
 ghost use mathlib.Core.List.{reverse};
 ghost use Prim.Native.Nat.{_≤_};
 ghost use lib.ListN.{length};
+ghost use Rattle.meaning.specs.Limits.{nodeLimit};
 ghost use Rattle.meaning.specs.Words.{Sound, SoundBranches, mirrorBranches, mirrorWords};
 ghost use Rattle.mirror.specs.MirrorDoor.{said, mirrorSays, mirrorLeaves};
 
@@ -37,7 +38,7 @@ fn reverse_into(src: &[u32], dst: &mut [u32])
 
 // Branches go to their own places, from the front on.
 fn mirror_branches(alts: &[u32], out: &mut [u32])
-    requires { ⌜ SoundBranches (now alts) × (length (now out) ≡ length (now alts)) × (length (now alts) ≤ 512) ⌝ }
+    requires { ⌜ SoundBranches (now alts) × (length (now out) ≡ length (now alts)) × (length (now alts) ≤ nodeLimit) ⌝ }
     ensures { λ _. ⌜ now (out .exit) ≡ mirrorBranches (length (now (alts .entry))) (now (alts .entry)) ⌝ }
 {
     let n = alts.len();
@@ -62,7 +63,7 @@ fn mirror_branches(alts: &[u32], out: &mut [u32])
 
 // Items go to the opposite places, from the back on.
 fn mirror_words(words: &[u32], out: &mut [u32])
-    requires { ⌜ Sound (now words) × (length (now out) ≡ length (now words)) × (length (now words) ≤ 512) ⌝ }
+    requires { ⌜ Sound (now words) × (length (now out) ≡ length (now words)) × (length (now words) ≤ nodeLimit) ⌝ }
     ensures { λ _. ⌜ now (out .exit) ≡ mirrorWords (now (words .entry)) ⌝ }
 {
     let mut ns = words;

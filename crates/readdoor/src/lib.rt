@@ -6,6 +6,7 @@ use base::TOKEN_POOL;
 use reader::ListGot;
 ghost use mathlib.Core.Path.{_≡_};
 ghost use lib.ListN.{length};
+ghost use Rattle.meaning.specs.Limits.{tokenPool};
 ghost use Rattle.reading.specs.Lists.{reading};
 ghost use Rattle.readdoor.specs.Door.{said, readSays, readLeaves, TextSays};
 
@@ -17,7 +18,7 @@ pub enum ReadAnswer {
 
 // Into a pool of just the words that are lent.
 fn read_text(text: &[u8], pool: &mut [u32]) -> ReadAnswer
-    requires { ⌜ length (now pool) ≡ 4096 ⌝ }
+    requires { ⌜ length (now pool) ≡ tokenPool ⌝ }
     ensures { λ r. ⌜ TextSays (reading (now (text .entry))) r (now (pool .entry)) (now (pool .exit)) ⌝ }
 {
     if TEXT_LIMIT < text.len() {

@@ -11,6 +11,7 @@ ghost use mathlib.Core.Path.{_≡_};
 ghost use mathlib.Core.List.{[], _∷_};
 ghost use Prim.Native.Nat.{_+_, _-_, _/_, _≤_, _<_};
 ghost use lib.ListN.{length};
+ghost use Rattle.meaning.specs.Limits.{levelLimit, tokenPool};
 ghost use Rattle.meaning.specs.Entries.{entriesOf, maskNumber};
 ghost use Rattle.reading.specs.Lists.{isJump, token, list};
 ghost use Rattle.digits.specs.Answers.{maskOf, tokenOf};
@@ -43,7 +44,7 @@ fn put(pool: &mut [u32], n: usize, kind: u32, a: u32, b: u32, c: u32)
 
 // The entry before other entries that end at `end`: alternatives, or a list's mark.
 fn put_head(pool: &mut [u32], n: usize, kind: u32, count: usize, end: usize)
-    requires { ⌜ (n + 4 ≤ end) × (end ≤ length (now pool)) × (length (now pool) ≡ 4096) × (count ≤ 4096) ⌝ }
+    requires { ⌜ (n + 4 ≤ end) × (end ≤ length (now pool)) × (length (now pool) ≡ tokenPool) × (count ≤ tokenPool) ⌝ }
     ensures { λ _. ⌜ now (pool .exit) ≡ written (now (pool .entry)) n (kind ∷ count ∷ ((end - (n + 4)) / 4) ∷ 0 ∷ []) ⌝ }
 {
     let inner = (end - (n + 4)) / 4;
@@ -140,7 +141,7 @@ pub fn read_token(
     pool: &mut [u32],
     n: usize,
 ) -> TokenGot
-    requires { ⌜ Room (length (now text)) at level count n (length (now pool)) × (level ≤ 8) ⌝ }
+    requires { ⌜ Room (length (now text)) at level count n (length (now pool)) × (level ≤ levelLimit) ⌝ }
     ensures { λ r. ⌜ TokenSays (token (now (text .entry)) level count at) n r (now (pool .entry)) (now (pool .exit)) ⌝ }
 {
     let piece = digits::plain_token(text, at, 1 < level);
@@ -208,7 +209,7 @@ pub fn read_alternatives(
     pool: &mut [u32],
     n: usize,
 ) -> TokenGot
-    requires { ⌜ Room (length (now text)) at level count n (length (now pool)) × (level ≤ 8) ⌝ }
+    requires { ⌜ Room (length (now text)) at level count n (length (now pool)) × (level ≤ levelLimit) ⌝ }
     ensures { λ r. ⌜ TokenSays (alternatives (now (text .entry)) level count at) n r (now (pool .entry)) (now (pool .exit)) ⌝ }
 {
     if digits::peek(text, at) != b'(' {

@@ -11,6 +11,7 @@ use lib.Dec.{eqb, ltb, leb}
 use lib.ListN.{drop, getD}
 use Rattle.base.specs.declared.Refusal.{Refusal}
 use Rattle.base.specs.declared.Refusal.the-variants.{Unexpected, NumberTooBig, JumpEmpty, JumpRangeInvalid, JumpTooBigInAlternation, CannotNegateMaskAll}
+use Rattle.meaning.specs.Limits.{numberLimit, innerJumpLimit}
 use Rattle.meaning.specs.Tokens.{left, right, all, Token}
 use Rattle.reading.specs.Blanks.{skip}
 use Rattle.reading.specs.Pieces.{Seen, found, absent, refused, Hex, whole, masked, Range, between, digit, within, twoDigits, byteAt, oneDigit, maskedAt, hexAt, negated, decimals, numeral, numberAt, checked, closedAt, upperAt, dashAt, lowerAt, rangeAt, jumpToken, jumped, plainly, plainAt, _else_, decimal}
@@ -73,7 +74,7 @@ in-token-refuses {t} {inside} {at} (given.big-to {from = from} {x = x} h f d b) 
 in-token-refuses {t} {inside} {at} (given.empty {stop = stop} j) = plain-jump t inside at (opens j) (jumps-range j ∙ checked-empty t at 0 0 stop both-zero)
 in-token-refuses {t} {inside} {at} (given.backwards {from = from} {to = to} {stop = stop} j h) = plain-jump t inside at (opens j) (jumps-range j ∙ checked-wrong t at from to stop (not-both from to (omega arith)) h)
 in-token-refuses {t} {inside} {at} (given.open-inside {from = from} {stop = stop} i j) = plain-jump t inside at (opens j) (jumps-range j) ∙ jumped-unbounded at from stop (skip t stop) inside i
-in-token-refuses {t} {inside} {at} (given.long-inside {from = from} {to = to} {stop = stop} i j h k) = plain-jump t inside at (opens j) (jumps-range j ∙ checked-both t at from to stop (not-both from to (omega arith)) h) ∙ jumped-big at from stop (skip t stop) inside to (rw (i, lt-ltb 200 to k))
+in-token-refuses {t} {inside} {at} (given.long-inside {from = from} {to = to} {stop = stop} i j h k) = plain-jump t inside at (opens j) (jumps-range j ∙ checked-both t at from to stop (not-both from to (omega arith)) h) ∙ jumped-big at from stop (skip t stop) inside to (rw (i, lt-ltb innerJumpLimit to k))
 
 -- `??` is two question marks, and no byte is refused
 unfoldable Hexed : List ℕ → ℕ → Seen Hex → Type 0
@@ -126,11 +127,11 @@ Numbered t x (refused r p) = (r ≡ NumberTooBig) × (p ≡ x) × given.Big t x
 
 numbered : (t : List ℕ) (x : ℕ) → Numbered t x (numberAt t x)
 unfolding numberAt Numbered
-numbered t x = go (decimal (getD t x 0)) (leb (numeral 0 (drop x t)) 4294967295) refl refl
+numbered t x = go (decimal (getD t x 0)) (leb (numeral 0 (drop x t)) numberLimit) refl refl
   where
-    go : (a b : Bool) → decimal (getD t x 0) ≡ a → leb (numeral 0 (drop x t)) 4294967295 ≡ b → Numbered t x (cond a (cond b (found (numeral 0 (drop x t)) (x + decimals (drop x t)) (skip t (x + decimals (drop x t)))) (refused NumberTooBig x)) absent)
+    go : (a b : Bool) → decimal (getD t x 0) ≡ a → leb (numeral 0 (drop x t)) numberLimit ≡ b → Numbered t x (cond a (cond b (found (numeral 0 (drop x t)) (x + decimals (drop x t)) (skip t (x + decimals (drop x t)))) (refused NumberTooBig x)) absent)
     go true true i j = tt
-    go true false i j = (refl, refl, (i, leb-false (numeral 0 (drop x t)) 4294967295 j))
+    go true false i j = (refl, refl, (i, leb-false (numeral 0 (drop x t)) numberLimit j))
     go false b i j = tt
 
 -- what reading a jump gives
@@ -208,13 +209,13 @@ module _ (t : List ℕ) (at : ℕ) where
   unfolding jumped Ranged Rises
   jump-case true r p (found (between from none) s e) h q = move (cc) (cc) (given.open-inside refl (h .0))
   jump-case false r p (found (between from none) s e) h q = never (cc)
-  jump-case inside r p (found (between from (some to)) s e) h q = go inside (ltb 200 to) refl refl
+  jump-case inside r p (found (between from (some to)) s e) h q = go inside (ltb innerJumpLimit to) refl refl
     where
-      long : (i b : Bool) → inside ≡ i → ltb 200 to ≡ b → _≡_ {A = Seen Token} (cond (i && b) (refused JumpTooBigInAlternation at) (found (jumpToken from to) s e)) (refused r p)
+      long : (i b : Bool) → inside ≡ i → ltb innerJumpLimit to ≡ b → _≡_ {A = Seen Token} (cond (i && b) (refused JumpTooBigInAlternation at) (found (jumpToken from to) s e)) (refused r p)
       long i b u v = ap₂ (λ (a c : Bool). cond (a && c) (refused JumpTooBigInAlternation at) (found (jumpToken from to) s e)) (sym u) (sym v) ∙ q
 
-      go : (i b : Bool) → inside ≡ i → ltb 200 to ≡ b → given.InToken t inside at r p
-      go true true u v = let z = long true true u v in move (cc) (cc) (given.long-inside u (h .0) (h .1) (ltb-true 200 to v))
+      go : (i b : Bool) → inside ≡ i → ltb innerJumpLimit to ≡ b → given.InToken t inside at r p
+      go true true u v = let z = long true true u v in move (cc) (cc) (given.long-inside u (h .0) (h .1) (ltb-true innerJumpLimit to v))
       go true false u v = let z = long true false u v in never (cc)
       go false b u v = let z = long false b u v in never (cc)
   jump-case inside r p absent h q = never (cc)

@@ -10,6 +10,7 @@ use native.Mathlib.Omega.{arith}
 use borrow.Author.Tests.{ltb-false}
 use lib.Dec.{eqb, ltb}
 use lib.ListN.{getD}
+use Rattle.meaning.specs.Limits.{tokenLimit, levelLimit, innerJumpLimit}
 use Rattle.meaning.specs.Tokens.{Mask, left, right, all, Token, Tokens, Lists, Byte, NotByte, MaskedByte, NotMaskedByte, Jump, Alternatives, nothing, _then_, neither, _or_}
 use Rattle.reading.specs.Blanks.{skip}
 use Rattle.reading.specs.Pieces.{Seen, found, absent, refused, Hex, whole, masked, Range, between, digit, twoDigits, byteAt, oneDigit, maskedAt, hexAt, negated, notAt, numberAt, checked, closedAt, upperAt, dashAt, lowerAt, rangeAt, jumpToken, jumped, plainly, plainAt, _else_}
@@ -167,7 +168,7 @@ module _ (One : Token → Type 0) (All : Tokens → Type 0) (Any : Lists → Typ
   piece-jumped : (inside : Bool) (at : ℕ) (x : Seen Range) → Rising x → Piece (jumped inside at x)
   unfolding jumped jumpToken Piece Rising
   piece-jumped inside at (found (between from none) s e) h = piece-by inside _ _ tt (keeps .open-jump from)
-  piece-jumped inside at (found (between from (some to)) s e) h = piece-by (inside && ltb 200 to) _ _ tt (one-jump (eqb from 1 && eqb to 1) from to h)
+  piece-jumped inside at (found (between from (some to)) s e) h = piece-by (inside && ltb innerJumpLimit to) _ _ tt (one-jump (eqb from 1 && eqb to 1) from to h)
   piece-jumped inside at absent h = tt
   piece-jumped inside at (refused r p) h = tt
 
@@ -183,7 +184,7 @@ module _ (One : Token → Type 0) (All : Tokens → Type 0) (Any : Lists → Typ
 
   is-or : (at c : ℕ) (x : Seen Token) (y : Parsed Token) → Piece x → Is y → Is (tokenOr at c x y)
   unfolding tokenOr Piece Is
-  is-or at c (found tok s e) y h k = is-by (ltb c 512) _ _ h tt
+  is-or at c (found tok s e) y h k = is-by (ltb c tokenLimit) _ _ h tt
   is-or at c absent y h k = k
   is-or at c (refused r p) y h k = tt
 
@@ -195,7 +196,7 @@ module _ (One : Token → Type 0) (All : Tokens → Type 0) (Any : Lists → Typ
 
   is-bracketed : (t : List ℕ) (at c : ℕ) (y : Parsed Lists) → May y → Is (bracketed t at c y)
   unfolding bracketed Is
-  is-bracketed t at c y h = is-by (eqb (getD t at 0) (code "(")) _ _ (is-by (ltb c 512) _ _ (is-token y h) tt) tt
+  is-bracketed t at c y h = is-by (eqb (getD t at 0) (code "(")) _ _ (is-by (ltb c tokenLimit) _ _ (is-token y h) tt) tt
 
   are-before : (tok : Token) (y : Parsed Tokens) → One tok → Are y → Are (before tok y)
   unfolding before Are
@@ -250,7 +251,7 @@ module _ (One : Token → Type 0) (All : Tokens → Type 0) (Any : Lists → Typ
 
     list-kept : (f : ℕ) (t : List ℕ) (l c at : ℕ) → Are (listF f t l c at)
     list-kept zero t l c at = tt
-    list-kept (suc f) t l c at = are-by (ltb 8 l) _ _ tt (are-list at (moreF f t l c at) (more-kept f t l c at))
+    list-kept (suc f) t l c at = are-by (ltb levelLimit l) _ _ tt (are-list at (moreF f t l c at) (more-kept f t l c at))
 
     lists-kept : (f : ℕ) (t : List ℕ) (l c at miss : ℕ) → May (listsF f t l c at miss)
     lists-kept zero t l c at miss = tt

@@ -9,6 +9,7 @@ use borrow.Author.Tests.{eqb-true, ltb-true}
 use lib.Dec.{eqb, ltb}
 use lib.ListN.{length, getD, length-append}
 use Rattle.base.specs.declared.Refusal.the-variants.{Unexpected, JumpAtBound, HexStringTooDeep, TooManyTokens}
+use Rattle.meaning.specs.Limits.{tokenLimit, levelLimit}
 use Rattle.meaning.specs.Tokens.{Token, Tokens, Lists, nothing, _then_, neither, _or_}
 use Rattle.meaning.specs.Entries.{entriesOf, entries, listEntries}
 use Rattle.reading.specs.Blanks.{skip}
@@ -23,7 +24,7 @@ pub record Gone (k : ℕ) (t : List ℕ) (at c n e d : ℕ) : Type 0 where
   pub moved : at < e
   pub inside : e ≤ length t
   pub counted : c < d
-  pub within : d ≤ 512
+  pub within : d ≤ tokenLimit
   pub room : n + k + 8 * c ≤ 8 * d
 
 unfoldable pub TokenIn : List ℕ → ℕ → ℕ → Parsed Token → Type 0
@@ -49,14 +50,14 @@ ListsIn t at c (stopped r p) = Unit {0}
 
 module _ (t : List ℕ) (at c : ℕ) where
   -- a token read whole
-  counted-in : (tok : Token) (s e : ℕ) (b : Bool) → ltb c 512 ≡ b → Inside t at (found tok s e) → Flat (found tok s e) → (y : Parsed Token) → TokenIn t at c y → TokenIn t at c (cond b (read tok e (c + 1)) y)
+  counted-in : (tok : Token) (s e : ℕ) (b : Bool) → ltb c tokenLimit ≡ b → Inside t at (found tok s e) → Flat (found tok s e) → (y : Parsed Token) → TokenIn t at c y → TokenIn t at c (cond b (read tok e (c + 1)) y)
   unfolding TokenIn Inside Flat
-  counted-in tok s e true q h l y k = let u = ltb-true c 512 q in record { moved = omega arith; inside = h .2; counted = omega arith; within = omega arith; room = omega arith }
+  counted-in tok s e true q h l y k = let u = ltb-true c tokenLimit q in record { moved = omega arith; inside = h .2; counted = omega arith; within = omega arith; room = omega arith }
   counted-in tok s e false q h l y k = k
 
   or-in : (x : Seen Token) (y : Parsed Token) → Inside t at x → Flat x → TokenIn t at c y → TokenIn t at c (tokenOr at c x y)
   unfolding tokenOr TokenIn
-  or-in (found tok s e) y h l k = counted-in tok s e (ltb c 512) refl h l _ tt
+  or-in (found tok s e) y h l k = counted-in tok s e (ltb c tokenLimit) refl h l _ tt
   or-in absent y h l k = k
   or-in (refused r p) y h l k = tt
 
@@ -68,7 +69,7 @@ module _ (t : List ℕ) (at c : ℕ) where
 
   bracketed-in : (y : Parsed Lists) → ListsIn t (skip t (at + 1)) (c + 1) y → TokenIn t at c (bracketed t at c y)
   unfolding bracketed TokenIn
-  bracketed-in y k = go (eqb (getD t at 0) (code "(")) (ltb c 512)
+  bracketed-in y k = go (eqb (getD t at 0) (code "(")) (ltb c tokenLimit)
     where
       go : (a b : Bool) → TokenIn t at c (cond a (cond b (asToken y) (stopped TooManyTokens at)) missing)
       go true true = as-in (skip t (at + 1)) y (omega (arith, skip-from t (at + 1))) k
@@ -143,7 +144,7 @@ mutual
 
   pub list-in : (f : ℕ) (t : List ℕ) (l c at : ℕ) → ListIn t at c (listF f t l c at)
   list-in zero t l c at = tt
-  list-in (suc f) t l c at = deep-in t at c (ltb 8 l) _ (of-in t at c (moreF f t l c at) (more-in f t l c at))
+  list-in (suc f) t l c at = deep-in t at c (ltb levelLimit l) _ (of-in t at c (moreF f t l c at) (more-in f t l c at))
 
   pub lists-in : (f : ℕ) (t : List ℕ) (l c at miss : ℕ) → ListsIn t at c (listsF f t l c at miss)
   lists-in zero t l c at miss = tt

@@ -10,6 +10,7 @@ use lib.Dec.{eqb, ltb}
 use lib.ListN.{length, getD}
 use Rattle.base.specs.declared.Refusal.{Refusal}
 use Rattle.base.specs.declared.Refusal.the-variants.{Unexpected, HexStringTooDeep, TooManyTokens}
+use Rattle.meaning.specs.Limits.{tokenLimit, levelLimit}
 use Rattle.meaning.specs.Tokens.{Token, Tokens, Lists, nothing, _then_, neither, _or_}
 use Rattle.meaning.specs.Entries.{entriesOf, entries}
 use Rattle.reading.specs.Blanks.{skip}
@@ -31,8 +32,8 @@ bracketed-same : (t : List ℕ) (at c : ℕ) (y z : Parsed Lists) → (getD t at
 unfolding bracketed
 bracketed-same t at c y z h = go (eqb (getD t at 0) (code "(")) refl
   where
-    go : (b : Bool) → eqb (getD t at 0) (code "(") ≡ b → _≡_ {A = Parsed Token} (cond b (cond (ltb c 512) (asToken y) (stopped TooManyTokens at)) missing) (cond b (cond (ltb c 512) (asToken z) (stopped TooManyTokens at)) missing)
-    go true q = ap (λ (x : Parsed Lists). cond (ltb c 512) (asToken x) (stopped TooManyTokens at)) (h (eqb-true (getD t at 0) (code "(") q))
+    go : (b : Bool) → eqb (getD t at 0) (code "(") ≡ b → _≡_ {A = Parsed Token} (cond b (cond (ltb c tokenLimit) (asToken y) (stopped TooManyTokens at)) missing) (cond b (cond (ltb c tokenLimit) (asToken z) (stopped TooManyTokens at)) missing)
+    go true q = ap (λ (x : Parsed Lists). cond (ltb c tokenLimit) (asToken x) (stopped TooManyTokens at)) (h (eqb-true (getD t at 0) (code "(") q))
     go false q = refl
 
 then-same : (at c : ℕ) (x : Parsed Token) (m n : ℕ → ℕ → Parsed Tokens) → ((tok : Token) (e d : ℕ) → x ≡ read tok e d → m d e ≡ n d e) → thenMore at c x m ≡ thenMore at c x n
@@ -75,7 +76,7 @@ mutual
   same-list zero zero t l c at h k = refl
   same-list zero (suc g) t l c at h k = absurd (omega arith)
   same-list (suc f) zero t l c at h k = absurd (omega arith)
-  same-list (suc f) (suc g) t l c at h k = ap (λ (x : Parsed Tokens). cond (ltb 8 l) (stopped HexStringTooDeep at) (listOf at x)) (same-more f g t l c at (omega arith) (omega arith))
+  same-list (suc f) (suc g) t l c at h k = ap (λ (x : Parsed Tokens). cond (ltb levelLimit l) (stopped HexStringTooDeep at) (listOf at x)) (same-more f g t l c at (omega arith) (omega arith))
 
   same-lists : (f g : ℕ) (t : List ℕ) (l c at miss : ℕ) → 4 * (length t - at) + 3 < f → 4 * (length t - at) + 3 < g → listsF f t l c at miss ≡ listsF g t l c at miss
   same-lists zero zero t l c at miss h k = refl
@@ -129,18 +130,18 @@ module _ (t : List ℕ) (l c at : ℕ) where
   unfolding thenMore
   more-stopped q = more-step ∙ ap (λ (x : Parsed Token). thenMore at c x (λ d y. more t l d y)) q
 
-  list-step : list t l c at ≡ cond (ltb 8 l) (stopped HexStringTooDeep at) (listOf at (more t l c at))
+  list-step : list t l c at ≡ cond (ltb levelLimit l) (stopped HexStringTooDeep at) (listOf at (more t l c at))
   unfolding listF
   list-step =
       let n : enough t at ≡ suc (4 * (length t - at) + 3) = omega arith in
       ap (λ (f : ℕ). listF f t l c at) n
-      ∙ ap (λ (x : Parsed Tokens). cond (ltb 8 l) (stopped HexStringTooDeep at) (listOf at x)) (same-more (4 * (length t - at) + 3) (enough t at) t l c at (omega arith) (omega arith))
+      ∙ ap (λ (x : Parsed Tokens). cond (ltb levelLimit l) (stopped HexStringTooDeep at) (listOf at x)) (same-more (4 * (length t - at) + 3) (enough t at) t l c at (omega arith) (omega arith))
 
-  pub list-deep : 8 < l → list t l c at ≡ stopped HexStringTooDeep at
-  list-deep h = list-step ∙ ap (λ (b : Bool). cond b (stopped HexStringTooDeep at) (listOf at (more t l c at))) (lt-ltb 8 l h)
+  pub list-deep : levelLimit < l → list t l c at ≡ stopped HexStringTooDeep at
+  list-deep h = list-step ∙ ap (λ (b : Bool). cond b (stopped HexStringTooDeep at) (listOf at (more t l c at))) (lt-ltb levelLimit l h)
 
-  pub list-of : l ≤ 8 → list t l c at ≡ listOf at (more t l c at)
-  list-of h = list-step ∙ ap (λ (b : Bool). cond b (stopped HexStringTooDeep at) (listOf at (more t l c at))) (le-ltb 8 l h)
+  pub list-of : l ≤ levelLimit → list t l c at ≡ listOf at (more t l c at)
+  list-of h = list-step ∙ ap (λ (b : Bool). cond b (stopped HexStringTooDeep at) (listOf at (more t l c at))) (le-ltb levelLimit l h)
 
   module _ (miss : ℕ) where
     lists-step : lists t l c at miss ≡ thenLists t miss (list t l c at) (λ d y m. lists t l d y m)

@@ -9,6 +9,7 @@ use native.Mathlib.Omega.{arith}
 use borrow.Author.Tests.{eqb-true}
 use lib.Dec.{eqb, ltb, leb}
 use lib.ListN.{length, drop, getD, length-drop}
+use Rattle.meaning.specs.Limits.{numberLimit, innerJumpLimit}
 use Rattle.meaning.specs.Tokens.{Mask, left, right, all, Token, MaskedByte, Jump}
 use Rattle.meaning.specs.Entries.{entriesOf}
 use Rattle.reading.specs.Blanks.{skip}
@@ -97,7 +98,7 @@ pub number-in : (t : List ℕ) (at : ℕ) → Inside t at (numberAt t at)
 unfolding numberAt Inside
 number-in t at =
     by t at (decimal (getD t at 0)) _ _
-    (λ h. by t at (leb (numeral 0 (drop at t)) 4294967295) _ _
+    (λ h. by t at (leb (numeral 0 (drop at t)) numberLimit) _ _
     (λ z. let d = number-next t 0 at h in
     up-to t at (at + decimals (drop at t)) (numeral 0 (drop at t)) (omega arith)
     (omega (arith, decimals-le (drop at t), length-drop at t, here-in t at (omega (arith, within-true (code "0") (code "9") (getD t at 0) h))))) tt)
@@ -144,7 +145,7 @@ module _ (t : List ℕ) (at : ℕ) where
   jumped-in : (inside : Bool) (x : Seen Range) → Inside t at x → Inside t at (jumped inside at x)
   unfolding jumped Inside
   jumped-in inside (found (between from none) s e) h = by t at inside _ _ (λ z. tt) h
-  jumped-in inside (found (between from (some to)) s e) h = by t at (inside && ltb 200 to) _ _ (λ z. tt) h
+  jumped-in inside (found (between from (some to)) s e) h = by t at (inside && ltb innerJumpLimit to) _ _ (λ z. tt) h
   jumped-in inside absent h = tt
   jumped-in inside (refused r p) h = tt
 
@@ -201,7 +202,7 @@ flat-token from to s e = go (eqb from 1 && eqb to 1)
 flat-jumped : (inside : Bool) (at : ℕ) (x : Seen Range) → Flat (jumped inside at x)
 unfolding jumped Flat entriesOf
 flat-jumped inside at (found (between from none) s e) = flat-by inside _ _ tt refl
-flat-jumped inside at (found (between from (some to)) s e) = flat-by (inside && ltb 200 to) _ _ tt (flat-token from to s e)
+flat-jumped inside at (found (between from (some to)) s e) = flat-by (inside && ltb innerJumpLimit to) _ _ tt (flat-token from to s e)
 flat-jumped inside at absent = tt
 flat-jumped inside at (refused r p) = tt
 

@@ -9,6 +9,7 @@ use borrow.Author.Tests.{ne-eqb, lt-ltb, le-ltb, le-leb, lt-leb}
 use lib.Dec.{eqb, ltb}
 use lib.ListN.{drop, getD}
 use Rattle.base.specs.declared.Refusal.the-variants.{NumberTooBig, JumpEmpty, JumpRangeInvalid, JumpUnboundedInAlternation, JumpTooBigInAlternation}
+use Rattle.meaning.specs.Limits.{numberLimit, innerJumpLimit}
 use Rattle.meaning.specs.Tokens.{left, right, all, Token, Jump}
 use Rattle.reading.specs.Blanks.{skip}
 use Rattle.reading.specs.Pieces.{Seen, found, absent, refused, Hex, whole, masked, between, digit, twoDigits, byteAt, oneDigit, maskedAt, hexAt, negated, notAt, decimals, numeral, numberAt, checked, closedAt, upperAt, dashAt, lowerAt, rangeAt, jumpToken, jumped, plainly, plainAt, _else_, decimal}
@@ -74,13 +75,13 @@ module _ (t : List ℕ) (at : ℕ) where
   unfolding numberAt
   number-absent d = rw d
 
-  pub number-found : {v i : ℕ} → decimal (getD t at 0) ≡ true → numeral 0 (drop at t) ≡ v → at + decimals (drop at t) ≡ i → v ≤ 4294967295 → numberAt t at ≡ found v i (skip t i)
+  pub number-found : {v i : ℕ} → decimal (getD t at 0) ≡ true → numeral 0 (drop at t) ≡ v → at + decimals (drop at t) ≡ i → v ≤ numberLimit → numberAt t at ≡ found v i (skip t i)
   unfolding numberAt
-  number-found {v} d e f g = rw (d, e, f, le-leb v 4294967295 g)
+  number-found {v} d e f g = rw (d, e, f, le-leb v numberLimit g)
 
-  pub number-big : decimal (getD t at 0) ≡ true → 4294967295 < numeral 0 (drop at t) → numberAt t at ≡ refused NumberTooBig at
+  pub number-big : decimal (getD t at 0) ≡ true → numberLimit < numeral 0 (drop at t) → numberAt t at ≡ refused NumberTooBig at
   unfolding numberAt
-  number-big d e = rw (d, lt-leb (numeral 0 (drop at t)) 4294967295 e)
+  number-big d e = rw (d, lt-leb (numeral 0 (drop at t)) numberLimit e)
 
   pub checked-open : (from stop : ℕ) → checked t at from none stop ≡ found (between from none) stop (skip t stop)
   unfolding checked
@@ -146,10 +147,10 @@ module _ (at from s e : ℕ) where
   unfolding jumped
   jumped-open inside d = rw d
 
-  pub jumped-big : (inside : Bool) (to : ℕ) → inside && ltb 200 to ≡ true → jumped inside at (found (between from (some to)) s e) ≡ refused JumpTooBigInAlternation at
+  pub jumped-big : (inside : Bool) (to : ℕ) → inside && ltb innerJumpLimit to ≡ true → jumped inside at (found (between from (some to)) s e) ≡ refused JumpTooBigInAlternation at
   unfolding jumped
   jumped-big inside to d = rw d
 
-  pub jumped-found : (inside : Bool) (to : ℕ) → inside && ltb 200 to ≡ false → jumped inside at (found (between from (some to)) s e) ≡ found (jumpToken from to) s e
+  pub jumped-found : (inside : Bool) (to : ℕ) → inside && ltb innerJumpLimit to ≡ false → jumped inside at (found (between from (some to)) s e) ≡ found (jumpToken from to) s e
   unfolding jumped
   jumped-found inside to d = rw d

@@ -8,6 +8,7 @@ use lib.Dec.{eqb, leb, ltb}
 use lib.ListN.{drop}
 use Rattle.base.specs.declared.Refusal.{Refusal}
 use Rattle.base.specs.declared.Refusal.the-variants.{Unexpected, NumberTooBig, JumpEmpty, JumpRangeInvalid, JumpUnboundedInAlternation, JumpTooBigInAlternation, CannotNegateMaskAll}
+use Rattle.meaning.specs.Limits.{numberLimit, innerJumpLimit}
 use Rattle.meaning.specs.Tokens.{Mask, left, right, all, Token, Byte, NotByte, MaskedByte, NotMaskedByte, Jump}
 use Rattle.reading.specs.Blanks.{here, skip}
 
@@ -100,7 +101,7 @@ numeral n (c ∷ s) = cond (decimal c) (numeral (10 * n + (c - code "0")) s) n
 unfoldable pub numberAt : List ℕ → ℕ → Seen ℕ
 numberAt t at =
     cond (decimal (here t at))
-    (cond (leb (numeral 0 (drop at t)) 4294967295) (upTo t (numeral 0 (drop at t)) (at + decimals (drop at t))) (refused NumberTooBig at))
+    (cond (leb (numeral 0 (drop at t)) numberLimit) (upTo t (numeral 0 (drop at t)) (at + decimals (drop at t))) (refused NumberTooBig at))
     absent
 
 -- a jump's bounds, as spelled
@@ -143,7 +144,7 @@ jumpToken from to = cond (eqb from 1 && eqb to 1) (MaskedByte 0 all) (Jump from 
 -- in alternatives a jump has a bound, of at most 200
 unfoldable pub jumped : Bool → ℕ → Seen Range → Seen Token
 jumped inside at (found (between from none) s e) = cond inside (refused JumpUnboundedInAlternation at) (found (Jump from none) s e)
-jumped inside at (found (between from (some to)) s e) = cond (inside && ltb 200 to) (refused JumpTooBigInAlternation at) (found (jumpToken from to) s e)
+jumped inside at (found (between from (some to)) s e) = cond (inside && ltb innerJumpLimit to) (refused JumpTooBigInAlternation at) (found (jumpToken from to) s e)
 jumped inside at absent = absent
 jumped inside at (refused r p) = refused r p
 

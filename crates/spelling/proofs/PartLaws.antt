@@ -5,6 +5,7 @@ use Prim.Native.Nat.{ℕ, _-_, _≤_, _<_, min}
 use native.Mathlib.Omega.{arith}
 use lib.ListN.{length, take, drop, length-drop}
 use lib.Seq.{take-all}
+use Rattle.spelling.specs.Tallies.{countTop}
 
 -- a part to the end
 pub part-all : (a : ℕ) (l : List ℕ) → take (length l - a) (drop a l) ≡ drop a l
@@ -19,5 +20,5 @@ part-le a l = let e : length (take (length l - a) (drop a l)) ≡ length l - a =
 pub part-long : (a : ℕ) (l : List ℕ) → length (take (length l - a) (drop a l)) ≡ length l - a
 part-long a l = ap length (part-all a l) ∙ length-drop a l
 
-pub capped : (r c : ℕ) → r ≡ min 257 c → r ≤ 257
+pub capped : (r c : ℕ) → r ≡ min countTop c → r ≤ countTop
 capped r c e = omega arith

@@ -6,6 +6,7 @@ use native.Mathlib.Omega.{arith}
 use native.Mathlib.Nat.{mul-zero, mul-one, one-mul, mul-comm, mul-assoc, le-mul-of-pos-right, div-one, div-div-eq-div-mul, mul-div-cancel-left, mod-lt, mod-one}
 use lib.ListN.{length, getD, take, drop, replicate, length-drop, length-replicate}
 use borrow.Author.Tests.{lt-ltb, le-ltb}
+use Rattle.meaning.specs.Limits.{literalLimit}
 use Rattle.meaning.specs.Tokens.{Token, Tokens, Lists, Byte, NotByte, MaskedByte, NotMaskedByte, Jump, Alternatives, neither, _or_}
 use Rattle.picking.specs.Literals.{taken}
 use Rattle.picking.specs.Numbers.{countOf, count, countIn, prefixIn, prefixOf, prefixed, pieceOf, ending, pieceIn, literalAt}
@@ -13,7 +14,7 @@ use Rattle.picking.proofs.NumberLaws.{pos-right, spelt-numbered}
 use Rattle.spelling.specs.Words.{entryToken, firstEntry, flatIn, ends, inside, listsIn, tokenIn, width, tokensIn}
 use Rattle.spelling.proofs.StepLaws.{flat-end, flat-step, lists-end, lists-step, tokens-end, tokens-step, width-entry, by-entries}
 use Rattle.spelling.proofs.PlainLaws.{token-alternatives, token-entry}
-use Rattle.spelling.specs.Tallies.{Numerable, Past}
+use Rattle.spelling.specs.Tallies.{Numerable, Past, countTop}
 use Rattle.spelling.proofs.ClassLaws.{byte-taken}
 use Rattle.spelling.proofs.TallyLaws.{entry-cases, entry-count, token-count-entry, token-count-inside}
 
@@ -162,19 +163,19 @@ factor-le a b n e h =
     let c = mul-comm b a in
     (y, z, omega arith, omega arith)
 
-pub cap-exact : (r c : ℕ) → r ≡ min 257 c → c ≤ 256 → r ≡ c
+pub cap-exact : (r c : ℕ) → r ≡ min countTop c → c ≤ literalLimit → r ≡ c
 cap-exact r c e l = omega arith
 
 -- ---- in the words of the code
 
-module _ (ws : List ℕ) (h : 4 ≤ length ws) (n e : ℕ) (ends-at : e ≡ ends ws) (counted : n ≡ min 257 (count (flatIn (take (e - 4) (drop 4 ws))))) (few : countIn (listsIn ws) ≤ 256) where
+module _ (ws : List ℕ) (h : 4 ≤ length ws) (n e : ℕ) (ends-at : e ≡ ends ws) (counted : n ≡ min countTop (count (flatIn (take (e - 4) (drop 4 ws))))) (few : countIn (listsIn ws) ≤ literalLimit) where
   pub list-exact : n ≡ count (flatIn (inside ws))
   list-exact =
-      let l : count (flatIn (inside ws)) ≤ 256 = omega (arith, count-lists ws h) in
-      let c : n ≡ min 257 (count (flatIn (inside ws))) = counted ∙ ap (λ (x : ℕ). min 257 (count (flatIn (take (x - 4) (drop 4 ws))))) ends-at in
+      let l : count (flatIn (inside ws)) ≤ literalLimit = omega (arith, count-lists ws h) in
+      let c : n ≡ min countTop (count (flatIn (inside ws))) = counted ∙ ap (λ (x : ℕ). min countTop (count (flatIn (take (x - 4) (drop 4 ws))))) ends-at in
       omega arith
 
-  pub lists-few : countIn (listsIn (drop (ends ws) ws)) ≤ 256
+  pub lists-few : countIn (listsIn (drop (ends ws) ws)) ≤ literalLimit
   lists-few = omega (arith, count-lists ws h)
 
   pub prefix-found : (p q : ℕ) → q < p * n → prefixIn (listsIn ws) p q ≡ q / n
@@ -196,17 +197,17 @@ module _ (ws : List ℕ) (h : 4 ≤ length ws) (n e : ℕ) (ends-at : e ≡ ends
       piece-later ws h p q (subst (λ (x : ℕ). p * x ≤ q) list-exact l)
       ∙ ap (λ (x : ℕ). pieceIn (listsIn (drop (ends ws) ws)) p (q - p * x)) (sym list-exact)
 
-  pub within-list : (p q : ℕ) → q < p * n → (q % n < count (flatIn (take (e - 4) (drop 4 ws)))) × (count (flatIn (take (e - 4) (drop 4 ws))) ≤ 256)
+  pub within-list : (p q : ℕ) → q < p * n → (q % n < count (flatIn (take (e - 4) (drop 4 ws)))) × (count (flatIn (take (e - 4) (drop 4 ws))) ≤ literalLimit)
   within-list p q l =
       let z : 0 < n = pos-right q p n l in
       let m : q % n < n = mod-lt q z in
       let f : count (flatIn (take (e - 4) (drop 4 ws))) ≡ count (flatIn (inside ws)) = ap (λ (x : ℕ). count (flatIn (take (x - 4) (drop 4 ws)))) ends-at in
       let g = list-exact in
-      let k : count (flatIn (inside ws)) ≤ 256 = omega (arith, count-lists ws h) in
+      let k : count (flatIn (inside ws)) ≤ literalLimit = omega (arith, count-lists ws h) in
       (omega arith, omega arith)
 
 -- one byte of a list: c bytes are taken by the first entry, n literals are left
-module _ (ws : List ℕ) (h : 4 ≤ length ws) (c n : ℕ) (c-is : c ≡ length (taken (firstEntry ws))) (n-is : n ≡ count (flatIn ws)) (some : 0 < n) (few : n ≤ 256) where
+module _ (ws : List ℕ) (h : 4 ≤ length ws) (c n : ℕ) (c-is : c ≡ length (taken (firstEntry ws))) (n-is : n ≡ count (flatIn ws)) (some : 0 < n) (few : n ≤ literalLimit) where
   product : c * count (flatIn (drop 4 ws)) ≡ n
   product =
       ap (λ (x : ℕ). x * count (flatIn (drop 4 ws))) (c-is ∙ sym (entry-count (getD ws 0 0) (getD ws 1 0) (getD ws 2 0))) ∙ sym (flat-count ws h) ∙ sym n-is
@@ -217,7 +218,7 @@ module _ (ws : List ℕ) (h : 4 ≤ length ws) (c n : ℕ) (c-is : c ≡ length 
   pub rest-some : 0 < count (flatIn (drop 4 ws))
   rest-some = factor-le c (count (flatIn (drop 4 ws))) n product some .1
 
-  pub rest-few : count (flatIn (drop 4 ws)) ≤ 256
+  pub rest-few : count (flatIn (drop 4 ws)) ≤ literalLimit
   rest-few = let l = factor-le c (count (flatIn (drop 4 ws))) n product some .3 in omega arith
 
   pub rest-is : n / c ≡ count (flatIn (drop 4 ws))
@@ -232,18 +233,18 @@ module _ (ws : List ℕ) (h : 4 ≤ length ws) (c n : ℕ) (c-is : c ≡ length 
       ∙ ap₂ (λ (x y : ℕ). getD (taken (firstEntry ws)) (k / x % y) 0 ∷ literalAt (flatIn (drop 4 ws)) k) (sym rest-is)
       (entry-count (getD ws 0 0) (getD ws 1 0) (getD ws 2 0) ∙ sym c-is)
 
-pub inside-few : (ws : List ℕ) → getD ws 0 0 ≡ 5 → countOf (tokenIn ws) ≤ 256 → (e : ℕ) → e ≡ ends ws → countIn (listsIn (take (e - 4) (drop 4 ws))) ≤ 256
+pub inside-few : (ws : List ℕ) → getD ws 0 0 ≡ 5 → countOf (tokenIn ws) ≤ literalLimit → (e : ℕ) → e ≡ ends ws → countIn (listsIn (take (e - 4) (drop 4 ws))) ≤ literalLimit
 inside-few ws k l e g =
     let a = token-count-inside ws k in
     let b : countIn (listsIn (take (e - 4) (drop 4 ws))) ≡ countIn (listsIn (inside ws)) = ap (λ (x : ℕ). countIn (listsIn (take (x - 4) (drop 4 ws)))) g in
     omega arith
 
 -- at a token: p prefixes before it, and c literals of its own
-module _ (ws : List ℕ) (h : 4 ≤ length ws) (p : ℕ) (num : Numerable p (count (tokensIn ws))) (c : ℕ) (c-is : c ≡ min 257 (countOf (tokenIn ws))) where
+module _ (ws : List ℕ) (h : 4 ≤ length ws) (p : ℕ) (num : Numerable p (count (tokensIn ws))) (c : ℕ) (c-is : c ≡ min countTop (countOf (tokenIn ws))) where
   token-product : p * (countOf (tokenIn ws) * count (tokensIn (drop (width ws) ws))) ≡ p * count (tokensIn ws)
   token-product = ap (λ (x : ℕ). p * x) (sym (tokens-count ws h))
 
-  token-bounds : (p ≤ 256) × (countOf (tokenIn ws) ≤ 256)
+  token-bounds : (p ≤ literalLimit) × (countOf (tokenIn ws) ≤ literalLimit)
   token-bounds =
       let R = count (tokensIn (drop (width ws) ws)) in
       let f = factor-le p (countOf (tokenIn ws) * R) (p * count (tokensIn ws)) token-product (num .some) in
@@ -251,13 +252,13 @@ module _ (ws : List ℕ) (h : 4 ≤ length ws) (p : ℕ) (num : Numerable p (cou
       let a : p ≤ p * count (tokensIn ws) = f .2 in
       let b : countOf (tokenIn ws) * R ≤ p * count (tokensIn ws) = f .3 in
       let d : countOf (tokenIn ws) ≤ countOf (tokenIn ws) * R = g .2 in
-      let n : p * count (tokensIn ws) ≤ 256 = num .few in
+      let n : p * count (tokensIn ws) ≤ literalLimit = num .few in
       (omega arith, omega arith)
 
-  pub prefixes-few : p ≤ 256
+  pub prefixes-few : p ≤ literalLimit
   prefixes-few = token-bounds .0
 
-  pub token-few : countOf (tokenIn ws) ≤ 256
+  pub token-few : countOf (tokenIn ws) ≤ literalLimit
   token-few = token-bounds .1
 
   pub token-exact : c ≡ countOf (tokenIn ws)
@@ -271,13 +272,13 @@ module _ (ws : List ℕ) (h : 4 ≤ length ws) (p : ℕ) (num : Numerable p (cou
   after-numerable =
       record {
         some = subst (λ (x : ℕ). 0 < x) (sym after-product) (num .some);
-        few = subst (λ (x : ℕ). x ≤ 256) (sym after-product) (num .few);
+        few = subst (λ (x : ℕ). x ≤ literalLimit) (sym after-product) (num .few);
       }
 
   pub after-below : (k : ℕ) → k < p * count (tokensIn ws) → k < p * c * count (tokensIn (drop (width ws) ws))
   after-below k = subst (λ (x : ℕ). k < x) (sym after-product)
 
-  pub c-le : c ≤ 257
+  pub c-le : c ≤ countTop
   c-le = omega arith
 
 -- ---- a token with one literal has it at every number
@@ -324,7 +325,7 @@ single-piece t e p q r h g = go t e
     go (Jump a b) d = same (countOf (Jump a b)) d (taken (Jump a b))
     go (Alternatives ls) d = single-in ls d p q r h g
 
-pub single-any : (ws : List ℕ) → 4 ≤ length ws → (p n k : ℕ) → Numerable p (count (tokensIn ws)) → n ≡ min 257 (countOf (tokenIn ws)) → k < p * count (tokensIn ws) → n ≡ 1
+pub single-any : (ws : List ℕ) → 4 ≤ length ws → (p n k : ℕ) → Numerable p (count (tokensIn ws)) → n ≡ min countTop (countOf (tokenIn ws)) → k < p * count (tokensIn ws) → n ≡ 1
     → pieceOf (tokenIn ws) p 0 ≡ pieceOf (tokenIn ws) p (prefixed (tokensIn (drop (width ws) ws)) (p * countOf (tokenIn ws)) k)
 single-any ws h p n k num e l o =
     let R = tokensIn (drop (width ws) ws) in
@@ -353,7 +354,7 @@ entry-some ws f n e h = let a = token-count-entry ws f in omega arith
 pub one-below : (n k : ℕ) → k < n → k < 1 * n
 one-below n k h = let e : 1 * n ≡ n = one-mul n in omega arith
 
-pub one-numerable : (n k : ℕ) → k < n → n ≤ 256 → Numerable 1 n
+pub one-numerable : (n k : ℕ) → k < n → n ≤ literalLimit → Numerable 1 n
 one-numerable n k h l = let e : 1 * n ≡ n = one-mul n in record { some = (omega arith); few = (omega arith) }
 
 -- a piece of one byte

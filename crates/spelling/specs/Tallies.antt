@@ -1,22 +1,27 @@
 -- What a tally tells, and what a writer leaves. Assumes nothing: these are definitions.
 use mathlib.Core.Path.{_≡_}
 use mathlib.Core.List.{List, _++_}
-use Prim.Native.Nat.{ℕ, _*_, _≤_, _<_, min}
+use Prim.Native.Nat.{ℕ, suc, _*_, _≤_, _<_, min}
 use lib.ListN.{length, drop}
+use Rattle.meaning.specs.Limits.{literalLimit}
 use Rattle.meaning.specs.Tokens.{Token}
 use Rattle.picking.specs.Numbers.{countOf, count, prefixed, pieceOf}
 use Rattle.spelling.specs.Words.{tokensIn}
 use Rattle.spelling.specs.declared.Tally.{Tally}
 
--- so many literals and combinations, or 257 where there are more
-pub record Tallied (t : Tally) (literals combinations : ℕ) : Type 0 where
-  pub literals-are : t .literals ≡ min 257 literals
-  pub combinations-are : t .combinations ≡ min 257 combinations
+-- counts above the limit are all one to the picker, so they stop right above it
+abbrev pub countTop : ℕ
+countTop = suc literalLimit
 
--- p prefixes before n literals are some, and 256 at most
+-- so many literals and combinations, or the top where there are more
+pub record Tallied (t : Tally) (literals combinations : ℕ) : Type 0 where
+  pub literals-are : t .literals ≡ min countTop literals
+  pub combinations-are : t .combinations ≡ min countTop combinations
+
+-- p prefixes before n literals are some, and no more than the limit
 pub record Numerable (p n : ℕ) : Type 0 where
   pub some : 0 < p * n
-  pub few : p * n ≤ 256
+  pub few : p * n ≤ literalLimit
 
 -- what is left of words after bytes at their front: as many literals, with the same numbers of prefixes
 pub record Past (words rest : List ℕ) : Type 0 where
@@ -32,7 +37,7 @@ pub record Written (r : ℕ) (literal was is : List ℕ) : Type 0 where
 -- what a writer of one token's piece needs
 pub record Pieced (p : ℕ) (t : Token) (q words room : ℕ) : Type 0 where
   pub entry : 4 ≤ words
-  pub prefixes : p ≤ 256
+  pub prefixes : p ≤ literalLimit
   pub some : 0 < countOf t
-  pub few : countOf t ≤ 256
+  pub few : countOf t ≤ literalLimit
   pub fits : length (pieceOf t p q) ≤ room

@@ -3,6 +3,7 @@
 ghost use mathlib.Core.Path.{_≡_};
 ghost use Prim.Native.Nat.{_+_, _*_, _-_, _≤_, _<_, _%_, min};
 ghost use lib.ListN.{length, getD, drop};
+ghost use Rattle.meaning.specs.Limits.{literalLimit};
 ghost use Rattle.meaning.specs.Tokens.{MaskedByte, NotMaskedByte};
 ghost use Rattle.bitmap.specs.Bitmap.{Holds};
 ghost use Rattle.picking.specs.Literals.{taken, isPlain, plainList, plainLists, combinationsOf, combinations, combinationsIn, lengthOf, lengthIn, shortest};
@@ -10,7 +11,7 @@ ghost use Rattle.picking.specs.Runs.{plain};
 ghost use Rattle.picking.specs.Numbers.{countOf, count, countIn, prefixIn, prefixOf, prefixed, pieceOf, pieceIn, literalAt};
 ghost use Rattle.spelling.specs.Words.{maskIn, entryToken, flatIn, ends, listsIn, tokenIn, width, tokensIn};
 ghost use Rattle.spelling.specs.Classes.{passes, gapped};
-ghost use Rattle.spelling.specs.Tallies.{Tallied, Numerable, Past, Written, Pieced};
+ghost use Rattle.spelling.specs.Tallies.{Tallied, Numerable, Past, Written, Pieced, countTop};
 use base::LITERAL_LIMIT;
 use bitmap::Bitmap;
 
@@ -190,7 +191,7 @@ pub fn is_plain(ws: &[u32]) -> bool
 }
 
 // Counts above the limit, which combinations share with literals, are all one to the picker, so they stop right above it.
-const TOP: usize = LITERAL_LIMIT + 1;
+const COUNT_TOP: usize = LITERAL_LIMIT + 1;
 
 fn smaller(a: usize, b: usize) -> usize
     ensures { λ r. ⌜ r ≡ min a b ⌝ }
@@ -199,14 +200,14 @@ fn smaller(a: usize, b: usize) -> usize
 }
 
 fn times(a: usize, b: usize) -> usize
-    requires { ⌜ (a ≤ 257) × (b ≤ 257) ⌝ }
-    ensures { λ r. ⌜ r ≡ min 257 (a * b) ⌝ }
+    requires { ⌜ (a ≤ countTop) × (b ≤ countTop) ⌝ }
+    ensures { λ r. ⌜ r ≡ min countTop (a * b) ⌝ }
 {
-    smaller(TOP, a * b)
+    smaller(COUNT_TOP, a * b)
 }
 
 fn count_list(ws: &[u32]) -> usize
-    ensures { λ r. ⌜ r ≡ min 257 (count (flatIn (now (ws .entry)))) ⌝ }
+    ensures { λ r. ⌜ r ≡ min countTop (count (flatIn (now (ws .entry)))) ⌝ }
 {
     let mut rest = ws;
     let mut n = 1;
@@ -233,7 +234,7 @@ fn tally_lists(ws: &[u32]) -> Tally
     while 4 <= rest.len() {
         let e = end_of(rest);
         let n = count_list(&rest[4..e]);
-        literals = smaller(TOP, literals + n);
+        literals = smaller(COUNT_TOP, literals + n);
         combinations = times(combinations, n);
         rest = &rest[e..];
     }
@@ -322,7 +323,7 @@ pub fn length_of(ws: &[u32]) -> usize
 
 // With which of p prefixes literal number q of some lists begins.
 fn prefix_in(ls: &[u32], p: usize, q: usize) -> usize
-    requires { ⌜ (p ≤ 256) × (countIn (listsIn (now ls)) ≤ 256) ⌝ }
+    requires { ⌜ (p ≤ literalLimit) × (countIn (listsIn (now ls)) ≤ literalLimit) ⌝ }
     ensures { λ r. ⌜ r ≡ prefixIn (listsIn (now (ls .entry))) p q ⌝ }
 {
     let mut rest = ls;
@@ -342,7 +343,7 @@ fn prefix_in(ls: &[u32], p: usize, q: usize) -> usize
 
 // The same of the token at the front.
 fn prefix_of(ws: &[u32], p: usize, q: usize) -> usize
-    requires { ⌜ (4 ≤ length (now ws)) × (p ≤ 256) × (countOf (tokenIn (now ws)) ≤ 256) ⌝ }
+    requires { ⌜ (4 ≤ length (now ws)) × (p ≤ literalLimit) × (countOf (tokenIn (now ws)) ≤ literalLimit) ⌝ }
     ensures { λ r. ⌜ r ≡ prefixOf (tokenIn (now (ws .entry))) p q ⌝ }
 {
     if ws[0] == 5 {
@@ -388,7 +389,7 @@ fn prefixed_by(ws: &[u32], p: usize, k: usize) -> usize
 
 // Writes literal number k of a list without alternatives.
 fn write_list(ws: &[u32], k: usize, dst: &mut [u8]) -> usize
-    requires { ⌜ (k < count (flatIn (now ws))) × (count (flatIn (now ws)) ≤ 256) × (length (literalAt (flatIn (now ws)) k) ≤ length (now dst)) ⌝ }
+    requires { ⌜ (k < count (flatIn (now ws))) × (count (flatIn (now ws)) ≤ literalLimit) × (length (literalAt (flatIn (now ws)) k) ≤ length (now dst)) ⌝ }
     ensures { λ r. ⌜ Written r (literalAt (flatIn (now (ws .entry))) k) (now (dst .entry)) (now (dst .exit)) ⌝ }
 {
     let mut rest = ws;
@@ -407,7 +408,7 @@ fn write_list(ws: &[u32], k: usize, dst: &mut [u8]) -> usize
 
 // Writes what literal number q of some lists has after its prefix.
 fn write_branch(ls: &[u32], p: usize, q: usize, dst: &mut [u8]) -> usize
-    requires { ⌜ (p ≤ 256) × (countIn (listsIn (now ls)) ≤ 256) × (length (pieceIn (listsIn (now ls)) p q) ≤ length (now dst)) ⌝ }
+    requires { ⌜ (p ≤ literalLimit) × (countIn (listsIn (now ls)) ≤ literalLimit) × (length (pieceIn (listsIn (now ls)) p q) ≤ length (now dst)) ⌝ }
     ensures { λ r. ⌜ Written r (pieceIn (listsIn (now (ls .entry))) p q) (now (dst .entry)) (now (dst .exit)) ⌝ }
 {
     let mut rest = ls;
@@ -447,7 +448,7 @@ fn write_piece(ws: &[u32], p: usize, q: usize, dst: &mut [u8]) -> usize
 // The number of the prefix, token at the front and all, with which literal number k begins. A token with one literal has it at every number; among
 // 256 literals eight tokens at most have more, so that few walk through all tokens after them.
 fn number_of(ws: &[u32], p: usize, n: usize, k: usize) -> usize
-    requires { ⌜ (4 ≤ length (now ws)) × Numerable p (count (tokensIn (now ws))) × (n ≡ min 257 (countOf (tokenIn (now ws)))) × (k < p * count (tokensIn (now ws))) ⌝ }
+    requires { ⌜ (4 ≤ length (now ws)) × Numerable p (count (tokensIn (now ws))) × (n ≡ min countTop (countOf (tokenIn (now ws)))) × (k < p * count (tokensIn (now ws))) ⌝ }
     ensures { λ r. ⌜ pieceOf (tokenIn (now (ws .entry))) p r ≡ pieceOf (tokenIn (now (ws .entry))) p (prefixed (tokensIn (drop (width (now (ws .entry))) (now (ws .entry)))) (p * countOf (tokenIn (now (ws .entry)))) k) ⌝ }
 {
     if n == 1 {
@@ -459,7 +460,7 @@ fn number_of(ws: &[u32], p: usize, n: usize, k: usize) -> usize
 
 // Writes literal number k of tokens.
 pub fn write_literal(ws: &[u32], k: usize, dst: &mut [u8]) -> usize
-    requires { ⌜ (k < count (tokensIn (now ws))) × (count (tokensIn (now ws)) ≤ 256) × (length (literalAt (tokensIn (now ws)) k) ≤ length (now dst)) ⌝ }
+    requires { ⌜ (k < count (tokensIn (now ws))) × (count (tokensIn (now ws)) ≤ literalLimit) × (length (literalAt (tokensIn (now ws)) k) ≤ length (now dst)) ⌝ }
     ensures { λ r. ⌜ Written r (literalAt (tokensIn (now (ws .entry))) k) (now (dst .entry)) (now (dst .exit)) ⌝ }
 {
     let mut rest = ws;

@@ -7,6 +7,7 @@ use borrow.Author.Tests.{not-true, not-false}
 use Rattle.reading.specs.Pieces.{found, decimals, numeral, decimal}
 use Rattle.reading.proofs.PieceLaws.{here-in, within-true, number-none, number-next, numeral-from}
 use Rattle.reading.proofs.PieceSteps.{number-absent, number-found, number-big}
+use Rattle.meaning.specs.Limits.{numberLimit}
 use Rattle.meaning.specs.Tokens.{left}
 use native.Mathlib.Omega.{arith}
 use borrow.Author.Needs.{needs}
@@ -14,7 +15,7 @@ use Rattle.digits.proofs.number.Statement.{statement}
 use Rattle.digits.proofs.number.Tie as tie
 
 abbrev Inv-loop : tie.InvT-loop
-Inv-loop text at first value₀ i₀ value i = (numeral 0 (drop at text) ≡ numeral value (drop i text)) × (at + decimals (drop at text) ≡ i + decimals (drop i text)) × (value ≤ 4294967295)
+Inv-loop text at first value₀ i₀ value i = (numeral 0 (drop at text) ≡ numeral value (drop i text)) × (at + decimals (drop at text) ≡ i + decimals (drop i text)) × (value ≤ numberLimit)
 
 abbrev μ-loop : tie.MeasureT-loop
 μ-loop text at first value₀ i₀ value i = length text - i
@@ -118,7 +119,7 @@ returns-3 c =
     let m = numeral-from (10 * (at-loop .value) + (getD (at-start .args .text .now) (at-loop .i) 0 - code "0")) (drop ((at-loop .i) + 1) (at-start .args .text .now)) in
     let k = at-loop .inv .0 in
     let h = at-if3 .taken in
-    let b : 4294967295 < numeral 0 (drop (at-start .args .at) (at-start .args .text .now)) = omega arith in sym
+    let b : numberLimit < numeral 0 (drop (at-start .args .at) (at-start .args .text .now)) = omega arith in sym
     (number-big (at-start .args .text .now) (at-start .args .at) (ap decimal (sym (at-peek .ensures)) ∙ sym (at-in-range .ensures) ∙ not-false (at-in-range .result) (at-if1 .left)) b)
 
 add-i : tie.Need-add-i Inv-loop μ-loop

@@ -7,6 +7,7 @@ use native.Mathlib.Omega.{arith}
 use borrow.Author.Needs.{needs}
 use lib.ListN.{length}
 use Rattle.base.specs.declared.Refusal.the-variants.{HexStringTooDeep, TooManyTokens}
+use Rattle.meaning.specs.Limits.{tokenPool}
 use Rattle.meaning.specs.Entries.{entriesOf}
 use Rattle.reading.specs.Lists.{token, list}
 use Rattle.reading.proofs.PieceLaws.{here-at, skip-from}
@@ -178,7 +179,7 @@ module _ (t : ℕ) where
       let w = turned (at-start .args .text .now) (at-start .args .level) (at-start .args .count) (at-start .args .at) (at-start .args .n) (at-start .args .pool .now) (at-loop .pool) (at-loop .x)
       (at-loop .miss) (at-loop .m) (at-loop .c) (at-loop .k) (at-loop .inv) (at-read-list .result) (at-read-list .last .1 .1 .1 .1 .0) (at-read-list .ensures) (at-got .given .0 .0)
       (at-got .given .0 .1 .0) (at-got .given .0 .1 .1 .0) (at-got .given .0 .1 .1 .1 .0) (at-got .given .1) in
-      let z : length (at-read-list .last .1 .1 .1 .1 .0) ≡ 4096 = (at-read-list .kept .1 .1 .1 .1 .0 ∙ at-loop .inv .kept) ∙ o .pool in (w .more, omega arith, z, w .few)
+      let z : length (at-read-list .last .1 .1 .1 .1 .0) ≡ tokenPool = (at-read-list .kept .1 .1 .1 .1 .0 ∙ at-loop .inv .kept) ∙ o .pool in (w .more, omega arith, z, w .few)
 
   read-alternatives-add-k : read-alternatives-lts.Need-add-k (read-alternatives-claims t) (read-alternatives-at t) read-alternatives.Post read-alternatives-Inv-loop read-alternatives-μ-loop
   read-alternatives-add-k c =
@@ -204,7 +205,7 @@ module _ (t : ℕ) where
       let w = turned (at-start .args .text .now) (at-start .args .level) (at-start .args .count) (at-start .args .at) (at-start .args .n) (at-start .args .pool .now) (at-loop .pool) (at-loop .x)
       (at-loop .miss) (at-loop .m) (at-loop .c) (at-loop .k) (at-loop .inv) (at-read-list .result) (at-read-list .last .1 .1 .1 .1 .0) (at-read-list .ensures) (at-got .given .0 .0)
       (at-got .given .0 .1 .0) (at-got .given .0 .1 .1 .0) (at-got .given .0 .1 .1 .1 .0) (at-got .given .1) in
-      let z : length (at-put-head .last .0) ≡ 4096 = (at-put-head .kept .0 ∙ (at-read-list .kept .1 .1 .1 .1 .0 ∙ at-loop .inv .kept)) ∙ o .pool in (omega arith, omega arith, z, omega arith)
+      let z : length (at-put-head .last .0) ≡ tokenPool = (at-put-head .kept .0 ∙ (at-read-list .kept .1 .1 .1 .1 .0 ∙ at-loop .inv .kept)) ∙ o .pool in (omega arith, omega arith, z, omega arith)
 
   read-alternatives-add-skip-blanks-2 : read-alternatives-lts.Need-add-skip-blanks-2 (read-alternatives-claims t) (read-alternatives-at t) read-alternatives.Post read-alternatives-Inv-loop read-alternatives-μ-loop
   read-alternatives-add-skip-blanks-2 c =
