@@ -11,6 +11,7 @@ use lib.Seq.{length-take-le}
 use mir.Syntax.{w8}
 use mir.Val.{Fits}
 use borrow.Author.Tests.{le-leb, lt-leb, leb-true}
+use Rattle.meaning.specs.Limits.{nodeLimit}
 use Rattle.meaning.specs.Values.{Bytes}
 use Rattle.meaning.specs.Choices.{short, long}
 use Rattle.meaning.specs.Rows.{forward, backward}
@@ -43,17 +44,17 @@ module _ (ws : List ℕ) (n s e : ℕ) where
   beyond h l = rw (le-leb s e h, lt-leb e n l)
 
   module _ (h : s ≤ e) (l : e ≤ n) where
-    pub many : 512 < length ws → some 13 ≡ refusal ws n s e
+    pub many : nodeLimit < length ws → some 13 ≡ refusal ws n s e
     unfolding refusal
-    many m = rw (le-leb s e h, le-leb e n l, lt-leb (length ws) 512 m)
+    many m = rw (le-leb s e h, le-leb e n l, lt-leb (length ws) nodeLimit m)
 
-    pub unsound : length ws ≤ 512 → false ≡ sound ws → some 15 ≡ refusal ws n s e
+    pub unsound : length ws ≤ nodeLimit → false ≡ sound ws → some 15 ≡ refusal ws n s e
     unfolding refusal
-    unsound m f = rw (le-leb s e h, le-leb e n l, le-leb (length ws) 512 m, ← f)
+    unsound m f = rw (le-leb s e h, le-leb e n l, le-leb (length ws) nodeLimit m, ← f)
 
-    pub passed : length ws ≤ 512 → true ≡ sound ws → none ≡ refusal ws n s e
+    pub passed : length ws ≤ nodeLimit → true ≡ sound ws → none ≡ refusal ws n s e
     unfolding refusal
-    passed m f = rw (le-leb s e h, le-leb e n l, le-leb (length ws) 512 m, ← f)
+    passed m f = rw (le-leb s e h, le-leb e n l, le-leb (length ws) nodeLimit m, ← f)
 
 -- what is known where nothing was refused
 pub record Fine (ws : List ℕ) (n s e : ℕ) : Type 0 where
@@ -63,7 +64,7 @@ pub record Fine (ws : List ℕ) (n s e : ℕ) : Type 0 where
 
 pub fine : (ws : List ℕ) (n s e : ℕ) → none ≡ refusal ws n s e → Fine ws n s e
 unfolding refusal
-fine ws n s e h = go (leb s e) (leb e n) (leb (length ws) 512) (sound ws) (leb-true s e) (leb-true e n) refl h
+fine ws n s e h = go (leb s e) (leb e n) (leb (length ws) nodeLimit) (sound ws) (leb-true s e) (leb-true e n) refl h
   where
     go : (a b c d : Bool) → (a ≡ true → s ≤ e) → (b ≡ true → e ≤ n) → sound ws ≡ d → _≡_ {A = Option ℕ} none (cond (a && b) (cond c (cond d none (some 15)) (some 13)) (some 16)) → Fine ws n s e
     go true true true true f g t x = record { ordered = f refl; inside = g refl; tested = t }

@@ -8,6 +8,7 @@ use lib.Dec.{leb}
 use lib.ListN.{length, take, drop}
 use denote.Ref.{RefT, ptr, now}
 use Rattle.base.specs.Refusals.{numberOf}
+use Rattle.meaning.specs.Limits.{nodeLimit}
 use Rattle.meaning.specs.Values.{Bytes}
 use Rattle.meaning.specs.Rows.{forward, backward}
 use Rattle.meaning.specs.Words.{prog, sound}
@@ -34,7 +35,7 @@ window hay s e = take (e - s) (drop s hay)
 
 -- 16 for a window that is not in a haystack of n bytes, then 13 for more than 512 words, then 15 for words that are not sound
 unfoldable pub refusal : List ℕ → ℕ → ℕ → ℕ → Option ℕ
-refusal ws n s e = cond (leb s e && leb e n) (cond (leb (length ws) 512) (cond (sound ws) none (some 15)) (some 13)) (some 16)
+refusal ws n s e = cond (leb s e && leb e n) (cond (leb (length ws) nodeLimit) (cond (sound ws) none (some 15)) (some 13)) (some 16)
 
 abbrev pub whyNot : Admitted → Option ℕ
 whyNot Yes = none

@@ -1,5 +1,6 @@
 // Translated from boreal's boreal/src/matcher/validator/simple.rs (MIT OR Apache-2.0), commit 7010b5e967; see NOTICE.
 // The doors of the two checks: any words, any haystack and any window numbers are answered.
+use base::NODE_LIMIT;
 use base::Refusal;
 use sound::is_sound;
 use steps::Found;
@@ -29,7 +30,7 @@ fn admit(words: &[u32], len: usize, start: usize, end: usize) -> Admitted
     if len < end {
         return Admitted::No(Refusal::BadWindow);
     }
-    if 512 < words.len() {
+    if NODE_LIMIT < words.len() {
         return Admitted::No(Refusal::TooManyNodes);
     }
     if is_sound(words) {

@@ -5,6 +5,7 @@ use mathlib.Core.List.{List, [], _∷_}
 use Prim.Native.Nat.{ℕ, _+_, _-_, _≤_, _<_}
 use native.Mathlib.Omega.{arith}
 use lib.ListN.{length, take, drop, length-take, length-drop}
+use Rattle.meaning.specs.Limits.{tokenPool}
 use Rattle.meaning.specs.Tokens.{Tokens, nothing}
 use Rattle.picking.specs.Runs.{filledOnes}
 use Rattle.picking.specs.Choice.{Choice, chosen, beats, between, inRun, among}
@@ -63,7 +64,7 @@ module _ (ws : List ℕ) (f t m : ℕ) (next : Pick) where
         subst (λ (x : Pick). Between ws (Taken f t m) x (Taken f t m)) (sym e)
         (ap (λ (c : Bool). cond c (chosen n (tokensIn (take (b - a) (drop a ws)))) (chosen m (tokensIn (take (t - f) (drop f ws))))) h, k)
 
-pub part-few : (ws : List ℕ) (a b : ℕ) → length ws ≤ 4096 → length (take (b - a) (drop a ws)) ≤ 4096
+pub part-few : (ws : List ℕ) (a b : ℕ) → length ws ≤ tokenPool → length (take (b - a) (drop a ws)) ≤ tokenPool
 part-few ws a b h = let d = length-take (b - a) (drop a ws) in let e = length-drop a ws in omega arith
 
 -- a choice in a run keeps to the run, has few literals and is measured

@@ -5,6 +5,7 @@ use Prim.Native.Nat.{ℕ, _+_, _-_, _≤_, _<_}
 use native.Mathlib.Omega.{arith}
 use lib.ListN.{length, take, drop, length-drop}
 use lib.Seq.{drop-drop}
+use Rattle.meaning.specs.Limits.{tokenPool}
 use Rattle.meaning.specs.Tokens.{Tokens, nothing, _then_}
 use Rattle.picking.specs.Runs.{segments, filledOnes, firstLast, runs}
 use Rattle.picking.specs.Choice.{Choice, unranked, inRun, between, among, choice}
@@ -50,7 +51,7 @@ module _ (ws : List ℕ) (n : ℕ) (e : n ≡ runEnd ws) (w : Whole ws) where
   pub rest-told : AllTold (segments (tokensIn ws)) → AllTold (afterward (tokensIn (drop n ws)))
   rest-told g = split-told g .1
 
-  pub first-stretch : length ws ≤ 4096 → AllTold (segments (tokensIn ws)) → Stretch ws 0 n
+  pub first-stretch : length ws ≤ tokenPool → AllTold (segments (tokensIn ws)) → Stretch ws 0 n
   first-stretch few g =
       record {
         few = few;
@@ -100,7 +101,7 @@ asked-all ws first at top a h =
     let l = length-drop at ws in
     (sym (a .same ∙ ap (λ (ts : Tokens). among (choiceSays ws top) (filledOnes (afterward ts))) (tokens-end (drop at ws) (omega arith))), a .kept)
 
-module _ (ws : List ℕ) (first at from : ℕ) (top : Pick) (a : Asked ws first at top) (few : length ws ≤ 4096) (long : 4 ≤ length ws - at)
+module _ (ws : List ℕ) (first at from : ℕ) (top : Pick) (a : Asked ws first at top) (few : length ws ≤ tokenPool) (long : 4 ≤ length ws - at)
     (f : from ≡ at + width (take (length ws - at) (drop at ws))) where
   there : 4 ≤ length (drop at ws)
   there = rw (length-drop at ws) long

@@ -3,6 +3,7 @@ use mathlib.Core.Path.{_≡_}
 use mathlib.Core.List.{List, [], _∷_}
 use Prim.Native.Nat.{ℕ, _-_, _≤_}
 use lib.ListN.{length, take, drop}
+use Rattle.meaning.specs.Limits.{literalLimit, tokenPool}
 use Rattle.meaning.specs.Tokens.{Tokens}
 use Rattle.picking.specs.Literals.{literals, lengthIn}
 use Rattle.picking.specs.Numbers.{count}
@@ -35,12 +36,12 @@ Inside n TooMany = Unit {0}
 -- and that have at most 256 literals, and are measured
 abbrev pub Kept : List ℕ → Pick → Type 0
 Kept ws Nothing = Unit {0}
-Kept ws (Taken from to m) = (from ≤ to) × (to ≤ length ws) × (count (tokensIn (take (to - from) (drop from ws))) ≤ 256) × Measured (tokensIn (take (to - from) (drop from ws)))
+Kept ws (Taken from to m) = (from ≤ to) × (to ≤ length ws) × (count (tokensIn (take (to - from) (drop from ws))) ≤ literalLimit) × Measured (tokensIn (take (to - from) (drop from ws)))
 Kept ws TooMany = Unit {0}
 
 -- whole words of a pool, and what is chosen in them is measured
 pub record Stretch (ws : List ℕ) (from to : ℕ) : Type 0 where
-  pub few : length ws ≤ 4096
+  pub few : length ws ≤ tokenPool
   pub ordered : from ≤ to
   pub inside : to ≤ length ws
   pub stretch-whole : Whole (take (to - from) (drop from ws))

@@ -4,6 +4,7 @@ ghost use mathlib.Core.Path.{_≡_};
 ghost use mathlib.Core.List.{List, [], _∷_};
 ghost use Prim.Native.Nat.{ℕ, _+_, _-_, _≤_, min};
 ghost use lib.ListN.{length, take, drop};
+ghost use Rattle.meaning.specs.Limits.{tokenPool};
 ghost use Rattle.picking.specs.Literals.{literals};
 ghost use Rattle.picking.specs.Runs.{segments, filledOnes};
 ghost use Rattle.picking.specs.Choice.{least, beats, between, among, choice, unranked};
@@ -73,7 +74,7 @@ fn better(ws: &[u32], top: Pick, next: Pick) -> Pick
 
 // A choice in a run of n words from `from` on, as one in all words. It is cut to the run, past whose end there is nothing to choose.
 fn shifted(p: Pick, from: usize, n: usize) -> Pick
-    requires { ⌜ from + n ≤ 4096 ⌝ }
+    requires { ⌜ from + n ≤ tokenPool ⌝ }
     ensures { λ r. ⌜ ((ws : List ℕ) → from + n ≤ length ws → choiceSays ws r ≡ choiceSays (take n (drop from ws)) p) × Inside (from + n) r ⌝ }
 {
     match p {
@@ -101,7 +102,7 @@ fn with_run(ws: &[u32], from: usize, to: usize, top: Pick) -> Pick
 
 // What is chosen among the runs after the first segment, which ends at `first`.
 fn later_runs(ws: &[u32], first: usize) -> Pick
-    requires { ⌜ (length (now ws) ≤ 4096) × (first ≤ length (now ws)) × Whole (drop first (now ws)) × AllTold (afterward (tokensIn (drop first (now ws)))) ⌝ }
+    requires { ⌜ (length (now ws) ≤ tokenPool) × (first ≤ length (now ws)) × Whole (drop first (now ws)) × AllTold (afterward (tokensIn (drop first (now ws)))) ⌝ }
     ensures { λ r. ⌜ (choiceSays (now (ws .entry)) r ≡ among unranked (laterRuns (drop first (now (ws .entry))))) × Kept (now (ws .entry)) r ⌝ }
 {
     let mut at = first;
@@ -117,7 +118,7 @@ fn later_runs(ws: &[u32], first: usize) -> Pick
 
 // What is chosen in a pattern: among the second run, the third and so on, the first last.
 pub fn choose(ws: &[u32]) -> Pick
-    requires { ⌜ (length (now ws) ≤ 4096) × Whole (now ws) × AllTold (segments (tokensIn (now ws))) ⌝ }
+    requires { ⌜ (length (now ws) ≤ tokenPool) × Whole (now ws) × AllTold (segments (tokensIn (now ws))) ⌝ }
     ensures { λ r. ⌜ (choiceSays (now (ws .entry)) r ≡ choice (tokensIn (now (ws .entry)))) × Kept (now (ws .entry)) r ⌝ }
 {
     let first = runs::run_words(ws);

@@ -10,6 +10,7 @@ use borrow.Author.Tests.{le-leb, lt-leb}
 use Rattle.base.specs.declared.Refusal.{Refusal}
 use Rattle.base.specs.Refusals.{numberOf}
 use Rattle.base.specs.Pools.{cleared}
+use Rattle.meaning.specs.Limits.{tokenPool, nodePool}
 use Rattle.meaning.specs.Tokens.{Tokens, _or_}
 use Rattle.meaning.specs.Values.{Spelled}
 use Rattle.meaning.specs.Entries.{entries}
@@ -31,10 +32,10 @@ pub record Got (t q : List ℕ) (e u : ℕ) : Type 0 where
   pub outcome : reading t ≡ accepted e tokens
   pub spelled : Spelled tokens
   pub words : take (u - 0) (drop 0 q) ≡ entries tokens
-  pub fits : u ≤ 4096
+  pub fits : u ≤ tokenPool
   pub whole : Entered (take (u - 0) (drop 0 q))
 
-module _ (t p q : List ℕ) (r : ReadAnswer) (a : read.said r ≡ read.readSays t p) (b : q ≡ read.readLeaves t p) (l : 4096 ≤ length p) where
+module _ (t p q : List ℕ) (r : ReadAnswer) (a : read.said r ≡ read.readSays t p) (b : q ≡ read.readLeaves t p) (l : tokenPool ≤ length p) where
   pub got : (e u : ℕ) → r ≡ reads.Read e u → Got t q e u
   got e u f =
       let g = into.got t p q r a b l e u f in
@@ -63,7 +64,7 @@ text-compiled t e ts m s p p′ q q′ g f h =
     let k = made-text e (compile ts) m p p′ q q′ h in
     rw g (f ∙ k .0, k .1, k .2)
 
-pub text-refused : (t : List ℕ) (c : Refusal) (y : ℕ) (p p′ q q′ : List ℕ) → reading t ≡ rejected c y → p′ ≡ cleared 512 p → q′ ≡ cleared 512 q → TextMakes (reading t) (refuses (numberOf c) y) p p′ q q′
+pub text-refused : (t : List ℕ) (c : Refusal) (y : ℕ) (p p′ q q′ : List ℕ) → reading t ≡ rejected c y → p′ ≡ cleared nodePool p → q′ ≡ cleared nodePool q → TextMakes (reading t) (refuses (numberOf c) y) p p′ q q′
 unfolding outcomeSays outcomeForward outcomeReverse
 text-refused t c y p p′ q q′ g a b = rw g (refl, a, b)
 
@@ -79,11 +80,11 @@ pub door-text : (t : List ℕ) (s : Said) (p p′ q q′ : List ℕ) → room p 
 unfolding compileSays forwardLeaves reverseLeaves
 door-text t s p p′ q q′ e h = rw e h
 
-pub small-first : (p q : List ℕ) → length p < 512 → room p q ≡ false
-small-first p q h = rw (lt-leb 512 (length p) h)
+pub small-first : (p q : List ℕ) → length p < nodePool → room p q ≡ false
+small-first p q h = rw (lt-leb nodePool (length p) h)
 
-pub small-second : (p q : List ℕ) → length q < 512 → room p q ≡ false
-small-second p q h = rw (lt-leb 512 (length q) h) (and-false (leb 512 (length p)))
+pub small-second : (p q : List ℕ) → length q < nodePool → room p q ≡ false
+small-second p q h = rw (lt-leb nodePool (length q) h) (and-false (leb nodePool (length p)))
 
-pub both-fit : (p q : List ℕ) → 512 ≤ length p → 512 ≤ length q → room p q ≡ true
-both-fit p q a b = rw (le-leb 512 (length p) a, le-leb 512 (length q) b)
+pub both-fit : (p q : List ℕ) → nodePool ≤ length p → nodePool ≤ length q → room p q ≡ true
+both-fit p q a b = rw (le-leb nodePool (length p) a, le-leb nodePool (length q) b)

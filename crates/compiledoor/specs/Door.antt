@@ -5,6 +5,7 @@ use mathlib.Core.List.{List}
 use Prim.Native.Nat.{ℕ}
 use lib.Dec.{leb}
 use lib.ListN.{length}
+use Rattle.meaning.specs.Limits.{nodePool}
 use Rattle.base.specs.Refusals.{numberOf}
 use Rattle.base.specs.Pools.{filled, cleared}
 use Rattle.reading.specs.Lists.{Outcome, accepted, rejected, reading}
@@ -39,24 +40,24 @@ outcomeSays (rejected x place) = refuses (numberOf x) place
 
 -- success writes the used words and zeroes the rest of the 512; a refusal zeroes them
 unfoldable pub compiledForward : Compiled → List ℕ → List ℕ
-compiledForward (compiled f r) p = filled 512 f p
-compiledForward (refused x) p = cleared 512 p
+compiledForward (compiled f r) p = filled nodePool f p
+compiledForward (refused x) p = cleared nodePool p
 
 unfoldable pub compiledReverse : Compiled → List ℕ → List ℕ
-compiledReverse (compiled f r) q = filled 512 r q
-compiledReverse (refused x) q = cleared 512 q
+compiledReverse (compiled f r) q = filled nodePool r q
+compiledReverse (refused x) q = cleared nodePool q
 
 unfoldable pub outcomeForward : Outcome → List ℕ → List ℕ
 outcomeForward (accepted end ts) p = compiledForward (compile ts) p
-outcomeForward (rejected x place) p = cleared 512 p
+outcomeForward (rejected x place) p = cleared nodePool p
 
 unfoldable pub outcomeReverse : Outcome → List ℕ → List ℕ
 outcomeReverse (accepted end ts) q = compiledReverse (compile ts) q
-outcomeReverse (rejected x place) q = cleared 512 q
+outcomeReverse (rejected x place) q = cleared nodePool q
 
 -- pools of which either has fewer than 512 words are refused first, and then nothing changes
 abbrev pub room : List ℕ → List ℕ → Bool
-room p q = leb 512 (length p) && leb 512 (length q)
+room p q = leb nodePool (length p) && leb nodePool (length q)
 
 unfoldable pub compileSays : List ℕ → List ℕ → List ℕ → Said
 compileSays t p q = cond (room p q) (outcomeSays (reading t)) (refuses 18 0)

@@ -1,5 +1,7 @@
 // The door by which any bytes are compiled as a pattern: its programs, forwards and in reverse.
+use base::NODE_POOL;
 use base::Refusal;
+use base::TOKEN_POOL;
 use compiler::Made;
 use compiler::clear;
 use compiler::compile_tokens;
@@ -8,6 +10,7 @@ use readdoor::read;
 ghost use mathlib.Core.Path.{_≡_};
 ghost use Prim.Native.Nat.{_≤_};
 ghost use lib.ListN.{length};
+ghost use Rattle.meaning.specs.Limits.{nodePool};
 ghost use Rattle.reading.specs.Lists.{reading};
 ghost use Rattle.compiledoor.specs.Door.{said, madeSays, TextMakes, compileSays, forwardLeaves, reverseLeaves};
 
@@ -37,11 +40,11 @@ fn answer_of(reached: usize, made: Made) -> CompileAnswer
 
 // With both pools long enough. The tokens are read into 4,096 words of the stack.
 fn compile_text(text: &[u8], forward: &mut [u32], reverse: &mut [u32]) -> CompileAnswer
-    requires { ⌜ (512 ≤ length (now forward)) × (512 ≤ length (now reverse)) ⌝ }
+    requires { ⌜ (nodePool ≤ length (now forward)) × (nodePool ≤ length (now reverse)) ⌝ }
     ensures { λ r. ⌜ TextMakes (reading (now (text .entry))) (said r)
         (now (forward .entry)) (now (forward .exit)) (now (reverse .entry)) (now (reverse .exit)) ⌝ }
 {
-    let mut tokens = [0u32; 4096];
+    let mut tokens = [0u32; TOKEN_POOL];
     let r = read(text, &mut tokens);
     match r {
         ReadAnswer::Read { end, words } => {
@@ -61,10 +64,10 @@ pub fn compile(text: &[u8], forward: &mut [u32], reverse: &mut [u32]) -> Compile
         × (now (forward .exit) ≡ forwardLeaves (now (text .entry)) (now (forward .entry)) (now (reverse .entry)))
         × (now (reverse .exit) ≡ reverseLeaves (now (text .entry)) (now (forward .entry)) (now (reverse .entry))) ⌝ }
 {
-    if forward.len() < 512 {
+    if forward.len() < NODE_POOL {
         return CompileAnswer::Refused(Refusal::NoRoom, 0);
     }
-    if reverse.len() < 512 {
+    if reverse.len() < NODE_POOL {
         return CompileAnswer::Refused(Refusal::NoRoom, 0);
     }
     compile_text(text, forward, reverse)

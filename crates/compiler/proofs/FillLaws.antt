@@ -9,6 +9,7 @@ use lib.Dec.{leb}
 use lib.ListN.{length, getD, take, drop, set}
 use lib.Seq.{length-take-le, take-suc, drop-cons, set-at, drop-drop}
 use borrow.Author.Tests.{le-leb, lt-leb}
+use Rattle.meaning.specs.Limits.{nodeLimit, nodePool}
 use Rattle.base.specs.declared.Refusal.the-variants.{TooManyNodes, BranchTooLong}
 use Rattle.base.specs.Pools.{zeroed, filled, cleared}
 use Rattle.base.proofs.PoolLaws.{zeroed-filled}
@@ -25,33 +26,33 @@ copied-more w o pool i l m e =
     ∙ ap (λ (x : List ℕ). x ++ drop (suc i) o) (sym (take-suc w i 0 l))
     ∙ ap (λ (k : ℕ). take k w ++ drop k o) (sym (add-one i))
 
-pub copied-filled : (w o pool : List ℕ) (n : ℕ) → n ≤ length w → n ≤ 512 → pool ≡ take n w ++ drop n o → zeroed n 512 pool ≡ filled 512 (take n w) o
+pub copied-filled : (w o pool : List ℕ) (n : ℕ) → n ≤ length w → n ≤ nodePool → pool ≡ take n w ++ drop n o → zeroed n nodePool pool ≡ filled nodePool (take n w) o
 copied-filled w o pool n l m e =
     let k : length (take n w) ≡ n = length-take-le n w l in
-    let d : 512 - length (take n w) ≡ 512 - n = ap (λ (x : ℕ). 512 - x) k in
-    let s : n + (512 - n) ≡ 512 = omega arith in
-    ap₂ (λ (x : ℕ) (y : List ℕ). zeroed x 512 y) (sym k) e
-    ∙ zeroed-filled 512 (take n w) (drop n o) o (omega arith) (ap (λ (x : ℕ). drop x (drop n o)) d ∙ drop-drop (512 - n) n o ∙ ap (λ (x : ℕ). drop x o) s)
+    let d : nodePool - length (take n w) ≡ nodePool - n = ap (λ (x : ℕ). nodePool - x) k in
+    let s : n + (nodePool - n) ≡ nodePool = omega arith in
+    ap₂ (λ (x : ℕ) (y : List ℕ). zeroed x nodePool y) (sym k) e
+    ∙ zeroed-filled nodePool (take n w) (drop n o) o (omega arith) (ap (λ (x : ℕ). drop x (drop n o)) d ∙ drop-drop (nodePool - n) n o ∙ ap (λ (x : ℕ). drop x o) s)
 
 -- 14, 13, or both programs
 module _ (n m : ℕ) (f r p p′ q q′ : List ℕ) (long : Bool) where
   abbrev tests : Compiled
-  tests = limited (not long) (leb n 512 && leb m 512) f r
+  tests = limited (not long) (leb n nodeLimit && leb m nodeLimit) f r
 
-  pub made-long : long ≡ true → p′ ≡ cleared 512 p → q′ ≡ cleared 512 q → Makes tests (Refused BranchTooLong) p p′ q q′
+  pub made-long : long ≡ true → p′ ≡ cleared nodePool p → q′ ≡ cleared nodePool q → Makes tests (Refused BranchTooLong) p p′ q q′
   unfolding limited
   made-long e x y = rw e (refl, x, y)
 
-  pub made-many : long ≡ false → (leb n 512 && leb m 512) ≡ false → p′ ≡ cleared 512 p → q′ ≡ cleared 512 q → Makes tests (Refused TooManyNodes) p p′ q q′
+  pub made-many : long ≡ false → (leb n nodeLimit && leb m nodeLimit) ≡ false → p′ ≡ cleared nodePool p → q′ ≡ cleared nodePool q → Makes tests (Refused TooManyNodes) p p′ q q′
   unfolding limited
   made-many e g x y = rw (e, g) (refl, x, y)
 
-  pub made-both : long ≡ false → n ≤ 512 → m ≤ 512 → length f ≡ n → length r ≡ m → p′ ≡ filled 512 f p → q′ ≡ filled 512 r q → Makes tests (Programs n m) p p′ q q′
+  pub made-both : long ≡ false → n ≤ nodeLimit → m ≤ nodeLimit → length f ≡ n → length r ≡ m → p′ ≡ filled nodePool f p → q′ ≡ filled nodePool r q → Makes tests (Programs n m) p p′ q q′
   unfolding limited
-  made-both e a b k l x y = rw (e, le-leb n 512 a, le-leb m 512 b) (ap₂ Programs (sym k) (sym l), x, y)
+  made-both e a b k l x y = rw (e, le-leb n nodeLimit a, le-leb m nodeLimit b) (ap₂ Programs (sym k) (sym l), x, y)
 
-pub first-many : (n m : ℕ) → 512 < n → (leb n 512 && leb m 512) ≡ false
-first-many n m h = rw (lt-leb n 512 h)
+pub first-many : (n m : ℕ) → nodeLimit < n → (leb n nodeLimit && leb m nodeLimit) ≡ false
+first-many n m h = rw (lt-leb n nodeLimit h)
 
-pub second-many : (n m : ℕ) → 512 < m → (leb n 512 && leb m 512) ≡ false
-second-many n m h = rw (lt-leb m 512 h) (and-false (leb n 512))
+pub second-many : (n m : ℕ) → nodeLimit < m → (leb n nodeLimit && leb m nodeLimit) ≡ false
+second-many n m h = rw (lt-leb m nodeLimit h) (and-false (leb n nodeLimit))

@@ -9,6 +9,7 @@ use lib.ListN.{length, take, drop}
 use lib.Seq.{take-at}
 use Rattle.base.specs.declared.Refusal.the-variants.{NotSimple}
 use Rattle.base.specs.Pools.{cleared}
+use Rattle.meaning.specs.Limits.{nodeLimit, tokenPool, nodePool, entryLimit}
 use Rattle.meaning.specs.Tokens.{Tokens}
 use Rattle.meaning.specs.Values.{Spelled}
 use Rattle.meaning.specs.Entries.{tokenCount, entries}
@@ -25,7 +26,7 @@ use Rattle.compiler.specs.declared.Made.the-variants.{Refused}
 use Rattle.compiler.specs.Made.{Makes, limited}
 
 module _ (ws : List ℕ) (ts : Tokens) (e : ws ≡ entries ts) where
-  pub count-fits : length ws ≤ 4096 → (count : ℕ) → count ≡ tokenCount ts → count ≤ 1024
+  pub count-fits : length ws ≤ tokenPool → (count : ℕ) → count ≡ tokenCount ts → count ≤ entryLimit
   count-fits l count f = omega (arith, count-few ts, ap length e)
 
   module _ (s : Spelled ts) (y : simple ts ≡ true) (count : ℕ) (sts o : List ℕ) (c : count ≡ tokenCount ts) (g : sts ≡ offsets 0 ts ++ drop count o) where
@@ -59,22 +60,22 @@ module _ (ws : List ℕ) (ts : Tokens) (e : ws ≡ entries ts) where
     unfolding reverseProgram
     reverse-is = program-is true
 
-    compile-is : compile ts ≡ limited (short (forwardProgram ts) && short (reverseProgram ts)) (leb (nodes (forwardProgram ts)) 512 && leb (nodes (reverseProgram ts)) 512) (wordsOf (forwardProgram ts)) (wordsOf (reverseProgram ts))
+    compile-is : compile ts ≡ limited (short (forwardProgram ts) && short (reverseProgram ts)) (leb (nodes (forwardProgram ts)) nodeLimit && leb (nodes (reverseProgram ts)) nodeLimit) (wordsOf (forwardProgram ts)) (wordsOf (reverseProgram ts))
     unfolding compile limited few forwardWords reverseWords
     compile-is = rw y
 
     -- what was emitted, tested and copied
-    pub emitted : (first second o₁ o₂ : List ℕ) (n m : ℕ) (lf lr long : Bool) → n ≡ nodes (tokensProgram false ws starts) → m ≡ nodes (tokensProgram true ws starts) → lf ≡ not (short (tokensProgram false ws starts)) → lr ≡ not (short (tokensProgram true ws starts)) → long ≡ (lf || lr) → first ≡ wordsOf (tokensProgram false ws starts) ++ drop n o₁ → second ≡ wordsOf (tokensProgram true ws starts) ++ drop m o₂ → limited (not long) (leb n 512 && leb m 512) (take n first) (take m second) ≡ compile ts
+    pub emitted : (first second o₁ o₂ : List ℕ) (n m : ℕ) (lf lr long : Bool) → n ≡ nodes (tokensProgram false ws starts) → m ≡ nodes (tokensProgram true ws starts) → lf ≡ not (short (tokensProgram false ws starts)) → lr ≡ not (short (tokensProgram true ws starts)) → long ≡ (lf || lr) → first ≡ wordsOf (tokensProgram false ws starts) ++ drop n o₁ → second ≡ wordsOf (tokensProgram true ws starts) ++ drop m o₂ → limited (not long) (leb n nodeLimit && leb m nodeLimit) (take n first) (take m second) ≡ compile ts
     emitted first second o₁ o₂ n m lf lr long en em ef er el e₁ e₂ =
         let F = tokensProgram false ws starts in
         let R = tokensProgram true ws starts in
         let a : not long ≡ (short F && short R) = ap not (el ∙ ap₂ _||_ ef er) ∙ both (short F) (short R) in
-        let b : (leb n 512 && leb m 512) ≡ (leb (nodes F) 512 && leb (nodes R) 512) = ap₂ (λ (x : ℕ) (y : ℕ). leb x 512 && leb y 512) en em in
+        let b : (leb n nodeLimit && leb m nodeLimit) ≡ (leb (nodes F) nodeLimit && leb (nodes R) nodeLimit) = ap₂ (λ (x : ℕ) (y : ℕ). leb x nodeLimit && leb y nodeLimit) en em in
         let f : take n first ≡ wordsOf F = ap (take n) e₁ ∙ take-at (wordsOf F) (drop n o₁) n (sym en) in
         let r : take m second ≡ wordsOf R = ap (take m) e₂ ∙ take-at (wordsOf R) (drop m o₂) m (sym em) in
         ap₂ (λ (x : Bool) (y : Bool). limited x y (take n first) (take m second)) a b
-        ∙ ap₂ (limited (short F && short R) (leb (nodes F) 512 && leb (nodes R) 512)) f r
-        ∙ ap₂ (λ (x : Prog) (y : Prog). limited (short x && short y) (leb (nodes x) 512 && leb (nodes y) 512) (wordsOf x) (wordsOf y)) forward-is reverse-is
+        ∙ ap₂ (limited (short F && short R) (leb (nodes F) nodeLimit && leb (nodes R) nodeLimit)) f r
+        ∙ ap₂ (λ (x : Prog) (y : Prog). limited (short x && short y) (leb (nodes x) nodeLimit && leb (nodes y) nodeLimit) (wordsOf x) (wordsOf y)) forward-is reverse-is
         ∙ sym compile-is
       where
         both : (x y : Bool) → not (not x || not y) ≡ (x && y)
@@ -83,6 +84,6 @@ module _ (ws : List ℕ) (ts : Tokens) (e : ws ≡ entries ts) where
         both false y = refl
 
 -- 12
-pub not-simple-made : (ts : Tokens) (p p′ q q′ : List ℕ) → simple ts ≡ false → p′ ≡ cleared 512 p → q′ ≡ cleared 512 q → Makes (compile ts) (Refused NotSimple) p p′ q q′
+pub not-simple-made : (ts : Tokens) (p p′ q q′ : List ℕ) → simple ts ≡ false → p′ ≡ cleared nodePool p → q′ ≡ cleared nodePool q → Makes (compile ts) (Refused NotSimple) p p′ q q′
 unfolding compile
 not-simple-made ts p p′ q q′ e x y = rw e (refl, x, y)

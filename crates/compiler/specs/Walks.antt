@@ -6,6 +6,7 @@ use mathlib.Core.List.{List, [], _∷_}
 use Prim.Native.Nat.{ℕ, _+_, _*_, _≤_}
 use lib.Dec.{eqb}
 use lib.ListN.{length, getD, take, drop}
+use Rattle.meaning.specs.Limits.{tokenPool}
 use Rattle.meaning.specs.Tokens.{Token, Tokens, Byte, Jump, Alternatives, neither}
 use Rattle.meaning.specs.Values.{Spelled}
 use Rattle.meaning.specs.Entries.{entries}
@@ -38,7 +39,7 @@ pub record Entered (ws : List ℕ) : Type 0 where
   pub tokens : Tokens
   pub entered : ws ≡ entries tokens
   pub spelled : Spelled tokens
-  pub short : length ws ≤ 4096
+  pub short : length ws ≤ tokenPool
 
 -- whatever tokens the words are the entries of, they are simple
 abbrev pub Simply : List ℕ → Type 0

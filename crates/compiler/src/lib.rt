@@ -5,6 +5,7 @@ ghost use mathlib.Core.List.{_++_};
 ghost use lib.Dec.{leb};
 ghost use Prim.Native.Nat.{_+_, _*_, _≤_};
 ghost use lib.ListN.{length, take, drop};
+ghost use Rattle.meaning.specs.Limits.{nodeLimit, nodePool};
 ghost use Rattle.meaning.specs.Tokens.{Tokens, Jump};
 ghost use Rattle.meaning.specs.Entries.{tokenCount, entries};
 ghost use Rattle.meaning.specs.Values.{Spelled};
@@ -13,8 +14,11 @@ ghost use Rattle.emit.specs.Lists.{sizeAt, offsets};
 ghost use Rattle.base.specs.Pools.{filled, cleared};
 ghost use Rattle.compiler.specs.Made.{Makes, limited};
 ghost use Rattle.compiler.specs.Walks.{toOf, toldBy, plainEntries, simpleAt, Entered, Simply};
+use base::ENTRY_LIMIT;
+use base::JUMP_LIMIT;
+use base::NODE_LIMIT;
+use base::NODE_POOL;
 use base::Refusal;
-use emit::JUMP_LIMIT;
 use emit::add_tokens;
 use nodes::NodeWord;
 use nodes::zero_nodes;
@@ -135,20 +139,20 @@ fn copy_words(pool: &mut [NodeWord], words: &[NodeWord], n: usize)
 
 // A program's words in its pool, and zeros in the rest of the 512.
 fn fill(pool: &mut [NodeWord], words: &[NodeWord], n: usize)
-    requires { ⌜ (n ≤ length (now words)) × (n ≤ 512) × (512 ≤ length (now pool)) ⌝ }
-    ensures { λ _. ⌜ now (pool .exit) ≡ filled 512 (take n (now (words .entry))) (now (pool .entry)) ⌝ }
+    requires { ⌜ (n ≤ length (now words)) × (n ≤ nodePool) × (nodePool ≤ length (now pool)) ⌝ }
+    ensures { λ _. ⌜ now (pool .exit) ≡ filled nodePool (take n (now (words .entry))) (now (pool .entry)) ⌝ }
 {
     copy_words(pool, words, n);
-    zero_nodes(pool, n, 512);
+    zero_nodes(pool, n, NODE_POOL);
 }
 
 // Zeros in the first 512 words of both pools.
 pub fn clear(forward: &mut [NodeWord], reverse: &mut [NodeWord])
-    requires { ⌜ (512 ≤ length (now forward)) × (512 ≤ length (now reverse)) ⌝ }
-    ensures { λ _. ⌜ (now (forward .exit) ≡ cleared 512 (now (forward .entry))) × (now (reverse .exit) ≡ cleared 512 (now (reverse .entry))) ⌝ }
+    requires { ⌜ (nodePool ≤ length (now forward)) × (nodePool ≤ length (now reverse)) ⌝ }
+    ensures { λ _. ⌜ (now (forward .exit) ≡ cleared nodePool (now (forward .entry))) × (now (reverse .exit) ≡ cleared nodePool (now (reverse .entry))) ⌝ }
 {
-    zero_nodes(forward, 0, 512);
-    zero_nodes(reverse, 0, 512);
+    zero_nodes(forward, 0, NODE_POOL);
+    zero_nodes(reverse, 0, NODE_POOL);
 }
 
 // 14, then 13, or both programs: n words of the one, m of the other, and whether a branch is above its limit.
@@ -161,19 +165,19 @@ fn finish(
     forward: &mut [NodeWord],
     reverse: &mut [NodeWord],
 ) -> Made
-    requires { ⌜ (n ≤ length (now first)) × (m ≤ length (now second)) × (512 ≤ length (now forward)) × (512 ≤ length (now reverse)) ⌝ }
-    ensures { λ r. ⌜ Makes (limited (not long) (leb n 512 && leb m 512) (take n (now (first .entry))) (take m (now (second .entry)))) r
+    requires { ⌜ (n ≤ length (now first)) × (m ≤ length (now second)) × (nodePool ≤ length (now forward)) × (nodePool ≤ length (now reverse)) ⌝ }
+    ensures { λ r. ⌜ Makes (limited (not long) (leb n nodeLimit && leb m nodeLimit) (take n (now (first .entry))) (take m (now (second .entry)))) r
         (now (forward .entry)) (now (forward .exit)) (now (reverse .entry)) (now (reverse .exit)) ⌝ }
 {
     if long {
         clear(forward, reverse);
         return Made::Refused(Refusal::BranchTooLong);
     }
-    if 512 < n {
+    if NODE_LIMIT < n {
         clear(forward, reverse);
         return Made::Refused(Refusal::TooManyNodes);
     }
-    if 512 < m {
+    if NODE_LIMIT < m {
         clear(forward, reverse);
         return Made::Refused(Refusal::TooManyNodes);
     }
@@ -191,16 +195,16 @@ fn either(a: bool, b: bool) -> bool
     b
 }
 
-// Both programs of simple tokens. Their words are made on the stack, where all that entries can give fit, 1,024 words each.
+// Both programs of simple tokens. Their words are made on the stack, where all that entries can give fit: an entry gives a word at most.
 fn compile_simple(tokens: &[u32], forward: &mut [NodeWord], reverse: &mut [NodeWord]) -> Made
-    requires { ⌜ Entered (now tokens) × Simply (now tokens) × (512 ≤ length (now forward)) × (512 ≤ length (now reverse)) ⌝ }
+    requires { ⌜ Entered (now tokens) × Simply (now tokens) × (nodePool ≤ length (now forward)) × (nodePool ≤ length (now reverse)) ⌝ }
     ensures { λ r. ⌜ ((ts : Tokens) → now (tokens .entry) ≡ entries ts → Spelled ts → Makes (compile ts) r
         (now (forward .entry)) (now (forward .exit)) (now (reverse .entry)) (now (reverse .exit))) ⌝ }
 {
-    let mut starts = [0u16; 1024];
+    let mut starts = [0u16; ENTRY_LIMIT];
     let count = find_starts(tokens, &mut starts);
-    let mut first: [NodeWord; 1024] = [0; 1024];
-    let mut second: [NodeWord; 1024] = [0; 1024];
+    let mut first: [NodeWord; ENTRY_LIMIT] = [0; ENTRY_LIMIT];
+    let mut second: [NodeWord; ENTRY_LIMIT] = [0; ENTRY_LIMIT];
     let f = add_tokens(tokens, &starts[0..count], false, &mut first);
     let r = add_tokens(tokens, &starts[0..count], true, &mut second);
     let long = either(f.long, r.long);
@@ -209,7 +213,7 @@ fn compile_simple(tokens: &[u32], forward: &mut [NodeWord], reverse: &mut [NodeW
 
 // The programs of tokens, forwards and from every list read backwards; 12 first, then 14, then 13.
 pub fn compile_tokens(tokens: &[u32], forward: &mut [NodeWord], reverse: &mut [NodeWord]) -> Made
-    requires { ⌜ Entered (now tokens) × (512 ≤ length (now forward)) × (512 ≤ length (now reverse)) ⌝ }
+    requires { ⌜ Entered (now tokens) × (nodePool ≤ length (now forward)) × (nodePool ≤ length (now reverse)) ⌝ }
     ensures { λ r. ⌜ ((ts : Tokens) → now (tokens .entry) ≡ entries ts → Spelled ts → Makes (compile ts) r
         (now (forward .entry)) (now (forward .exit)) (now (reverse .entry)) (now (reverse .exit))) ⌝ }
 {

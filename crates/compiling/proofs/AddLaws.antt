@@ -7,8 +7,9 @@ use native.Mathlib.Omega.{arith}
 use lib.Dec.{leb}
 use lib.ListN.{length, take, drop, length-append, length-drop, take-append-drop}
 use lib.Seq.{length-take-le}
+use Rattle.meaning.specs.Limits.{jumpLimit}
 use Rattle.meaning.specs.Programs.{Item, Prog, one, jump, range, alt, end, _▹_, SpanOf, Span}
-use Rattle.compiling.specs.Compiling.{jumpLimit, jumpOf, pairBy, add}
+use Rattle.compiling.specs.Compiling.{jumpOf, pairBy, add}
 
 -- a span of p, and after it a span of i
 abbrev pub Then : Prog → Item → List ℕ → Type 0

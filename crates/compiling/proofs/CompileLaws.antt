@@ -6,13 +6,14 @@ use mathlib.Core.List.{List, reverse}
 use Prim.Native.Nat.{ℕ, _≤_}
 use native.Mathlib.Omega.{arith}
 use borrow.Author.Tests.{leb-true}
+use Rattle.meaning.specs.Limits.{nodeLimit}
 use Rattle.meaning.specs.Tokens.{Tokens, Spans}
 use Rattle.meaning.specs.Values.{Bytes, Spelled}
 use Rattle.meaning.specs.Programs.{Prog, Span}
 use Rattle.meaning.specs.Words.{prog, sound}
 use Rattle.meaning.proofs.SoundLaws.{and-left, and-right}
 use Rattle.compiling.specs.ProgramWords.{wordsOf, nodes}
-use Rattle.compiling.specs.Compiling.{nodeLimit, backwards, forwardProgram, reverseProgram, forwardWords, reverseWords}
+use Rattle.compiling.specs.Compiling.{backwards, forwardProgram, reverseProgram, forwardWords, reverseWords}
 use Rattle.compiling.specs.Compile.{simple, short, few, compiled, compile}
 use Rattle.compiling.proofs.SaidLaws.{Fit, words-sound, words-say}
 use Rattle.compiling.proofs.FitLaws.{forward-fits, simple-bounded}
@@ -20,7 +21,7 @@ use Rattle.compiling.proofs.TokenSpans.{forward-spans}
 use Rattle.compiling.proofs.BackwardsLaws.{backwards-spans, spelled-backwards, simple-backwards, bytes-reverse}
 use Rattle.compiling.proofs.GivenLaws.{programs-tests}
 
-few-nodes : (p : Prog) → few p ≡ true → nodes p ≤ 512
+few-nodes : (p : Prog) → few p ≡ true → nodes p ≤ nodeLimit
 unfolding few
 few-nodes p h = leb-true (nodes p) nodeLimit h
 
@@ -28,10 +29,10 @@ few-nodes p h = leb-true (nodes p) nodeLimit h
 module _ (p : Prog) (h : Fit p) (g : short p ≡ true) (l : few p ≡ true) where
   limits-sound : sound (wordsOf p) ≡ true
   unfolding sound few
-  limits-sound = let n : nodes p ≤ 512 = few-nodes p l in rw (l, words-sound p h g (omega arith))
+  limits-sound = let n : nodes p ≤ nodeLimit = few-nodes p l in rw (l, words-sound p h g (omega arith))
 
   limits-say : prog (wordsOf p) ≡ p
-  limits-say = let n : nodes p ≤ 512 = few-nodes p l in words-say p h g (omega arith)
+  limits-say = let n : nodes p ≤ nodeLimit = few-nodes p l in words-say p h g (omega arith)
 
 reverse-is : (ts : Tokens) → reverseProgram ts ≡ forwardProgram (backwards ts)
 unfolding forwardProgram reverseProgram

@@ -6,12 +6,13 @@ use Prim.Native.Nat.{ℕ, _+_, _≤_, _<_}
 use native.Mathlib.Omega.{arith}
 use lib.Dec.{leb, ltb}
 use borrow.Author.Tests.{leb-true, le-ltb}
+use Rattle.meaning.specs.Limits.{jumpLimit}
 use Rattle.meaning.specs.Tokens.{Mask, left, right, all, Token, Tokens, Lists, Byte, NotByte, MaskedByte, NotMaskedByte, Jump, Alternatives, nothing, _then_, neither, _or_}
 use Rattle.meaning.specs.Values.{SpelledOne, Spelled, SpelledFirst, SpelledMore}
 use Rattle.meaning.specs.Programs.{Item, Prog, one, jump, range, alt, end, _▹_}
 use Rattle.meaning.specs.Words.{plain, plainProg}
 use Rattle.meaning.proofs.SoundLaws.{and-left, and-right, false-true}
-use Rattle.compiling.specs.Compiling.{jumpLimit, jumpOf, pairBy, add, itemOf, added, branchesFor, forwardProgram}
+use Rattle.compiling.specs.Compiling.{jumpOf, pairBy, add, itemOf, added, branchesFor, forwardProgram}
 use Rattle.compiling.specs.Compile.{plainToken, plainTokens, plainBranches, simpleToken, simple}
 use Rattle.compiling.proofs.SaidLaws.{FitTest, FitOf, Fit, FitFirst, FitMore}
 use Rattle.compiling.proofs.TokenSpans.{BoundedOne, Bounded, BoundedIn}

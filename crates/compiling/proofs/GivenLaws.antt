@@ -10,11 +10,12 @@ use lib.Dec.{leb}
 use borrow.Author.Tests.{leb-false, lt-leb}
 use Rattle.base.specs.declared.Refusal.the-variants.{NotSimple, TooManyNodes, BranchTooLong}
 use Rattle.base.specs.Refusals.{numberOf}
+use Rattle.meaning.specs.Limits.{jumpLimit, branchLimit, nodeLimit}
 use Rattle.meaning.specs.Tokens.{Token, Tokens, Lists, Byte, NotByte, MaskedByte, NotMaskedByte, Jump, Alternatives, nothing, _then_, neither, _or_}
 use Rattle.meaning.specs.Programs.{Item, Prog, Branches, one, jump, range, alt, end, _▹_, stop, or as branch}
 use Rattle.meaning.proofs.SoundLaws.{false-true}
 use Rattle.compiling.specs.ProgramWords.{nodes}
-use Rattle.compiling.specs.Compiling.{jumpLimit, branchLimit, nodeLimit, forwardProgram, reverseProgram, forwardWords, reverseWords, TooFar, TooRich, Some, SomeIn, InBranch, Unsimple, LongIn, LongOf, LongBranch, ManyNodes, Either}
+use Rattle.compiling.specs.Compiling.{forwardProgram, reverseProgram, forwardWords, reverseWords, TooFar, TooRich, Some, SomeIn, InBranch, Unsimple, LongIn, LongOf, LongBranch, ManyNodes, Either}
 use Rattle.compiling.specs.Compile.{plainToken, plainTokens, plainBranches, simpleToken, simple, shortIn, shortOf, short, few, Compiled, compiled, refused, compile}
 
 -- a test that fails exactly in the case P

@@ -8,13 +8,13 @@ use lib.Dec.{leb}
 use lib.ListN.{length, take, drop, length-append}
 use lib.Seq.{take-at, drop-at}
 use borrow.Author.Tests.{leb-true, le-leb}
+use Rattle.meaning.specs.Limits.{branchLimit}
 use Rattle.meaning.specs.Programs.{Test, byte, mask, negatedMask, any, dot, Item, Prog, Branches, one, jump, range, alt, end, _▹_, stop, or}
 use Rattle.meaning.specs.Words.{fieldSize, countSize, word, item, opens, mark, shape, shapeBy, proper, properBy, plain, plainProg, prog, branchesOf, branches, plainWords, Sound, SoundBranches, soundWords, soundBranches}
 use Rattle.meaning.proofs.WordLaws.{prog-nil, prog-item, prog-opens, branches-mark}
 use Rattle.meaning.proofs.SoundLaws.{make-item, make-opens, make-branch, make-plain, plain-nil, and-left, and-right, false-true}
 use Rattle.meaning.proofs.MadeLaws.{made-shape, made-proper, count-shape, count-proper}
 use Rattle.compiling.specs.ProgramWords.{wordFor, opening, wordsFor, wordsOf, wordsIn, nodes}
-use Rattle.compiling.specs.Compiling.{branchLimit}
 use Rattle.compiling.specs.Compile.{shortIn, shortOf, short}
 
 -- every value fits its field, an alternation has a branch, and a branch is plain

@@ -6,10 +6,11 @@ use Prim.Native.Nat.{ℕ}
 use lib.Dec.{leb}
 use Rattle.base.specs.declared.Refusal.{Refusal}
 use Rattle.base.specs.declared.Refusal.the-variants.{NotSimple, TooManyNodes, BranchTooLong}
+use Rattle.meaning.specs.Limits.{jumpLimit, branchLimit, nodeLimit}
 use Rattle.meaning.specs.Tokens.{Token, Tokens, Lists, Byte, NotByte, MaskedByte, NotMaskedByte, Jump, Alternatives, nothing, _then_, neither, _or_}
 use Rattle.meaning.specs.Programs.{Item, Prog, Branches, one, jump, range, alt, end, _▹_, stop, or as branch}
 use Rattle.compiling.specs.ProgramWords.{nodes}
-use Rattle.compiling.specs.Compiling.{jumpLimit, branchLimit, nodeLimit, forwardProgram, reverseProgram, forwardWords, reverseWords}
+use Rattle.compiling.specs.Compiling.{forwardProgram, reverseProgram, forwardWords, reverseWords}
 
 -- a token that may stand in a branch
 unfoldable pub plainToken : Token → Bool

@@ -6,19 +6,10 @@ use mathlib.Core.Option.{Option, none, some}
 use mathlib.Core.List.{List}
 use Prim.Native.Nat.{ℕ, _+_, _*_, _<_}
 use lib.Dec.{leb, ltb}
+use Rattle.meaning.specs.Limits.{jumpLimit, branchLimit, nodeLimit}
 use Rattle.meaning.specs.Tokens.{left, right, all, Token, Tokens, Lists, Byte, NotByte, MaskedByte, NotMaskedByte, Jump, Alternatives, nothing, _then_, neither, _or_, _⊕_}
 use Rattle.meaning.specs.Programs.{byte, mask, negatedMask, Item, Prog, Branches, one, jump, range, alt, end, _▹_, stop, or as branch}
 use Rattle.compiling.specs.ProgramWords.{wordsOf, nodes}
-
--- the longest jump, the most nodes of a branch and the most of a program
-abbrev pub jumpLimit : ℕ
-jumpLimit = 255
-
-abbrev pub branchLimit : ℕ
-branchLimit = 255
-
-abbrev pub nodeLimit : ℕ
-nodeLimit = 512
 
 -- an item that is a jump, and its length
 unfoldable pub jumpOf : Item → Option ℕ

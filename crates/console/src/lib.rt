@@ -1,5 +1,6 @@
 // The listing program: what it reads, what it writes, and what it says where it can do neither. Descriptors are arguments, so that a program of
 // the gate can try those that fail. A program has no exit status to tell a loss by, so it tells it by a line on standard error.
+use base::TEXT_LIMIT;
 use libc::STDERR_FILENO;
 use libc::STDIN_FILENO;
 use libc::STDOUT_FILENO;
@@ -7,8 +8,11 @@ use lines::Listed;
 ghost use mathlib.Core.Path.{_≡_};
 ghost use Prim.Native.Nat.{_≤_};
 ghost use lib.ListN.{length, take};
-ghost use Rattle.lister.specs.Listings.{listingOf};
+ghost use Rattle.lister.specs.Listings.{listingOf, listingLimit};
 ghost use Rattle.console.specs.Inputs.{Within};
+
+// The most that a listing has: every text's fits.
+const LISTING_LIMIT: usize = 81920;
 
 // How many bytes stand before the end of an input, or that a read of it failed.
 enum Input {
@@ -43,10 +47,10 @@ fn write_out(to: i32, bytes: &[u8]) {
     }
 }
 
-// Lays the listing of a text at the front of the buffer: 81,920 bytes have room for every one.
+// Lays the listing of a text at the front of a buffer that has room for every one.
 fn lay(text: &[u8], out: &mut [u8]) -> usize
-    requires { ⌜ 81920 ≤ length (now out) ⌝ }
-    ensures { λ r. ⌜ (r ≤ 81920) × (take r (now (out .exit)) ≡ listingOf (now (text .entry))) ⌝ }
+    requires { ⌜ listingLimit ≤ length (now out) ⌝ }
+    ensures { λ r. ⌜ (r ≤ listingLimit) × (take r (now (out .exit)) ≡ listingOf (now (text .entry))) ⌝ }
 {
     let r = lister::list_pattern(text, out);
     let Listed::Wrote(n) = r else {
@@ -57,14 +61,14 @@ fn lay(text: &[u8], out: &mut [u8]) -> usize
 
 // The listing of a text, written.
 pub fn show(text: &[u8], to: i32) {
-    let mut out = [0u8; 81920];
+    let mut out = [0u8; LISTING_LIMIT];
     let n = lay(text, &mut out);
     write_out(to, &out[0..n]);
 }
 
 // The listing of what an input holds: one byte more than a text may have is read, so that a text that is too long shows.
 pub fn list(from: i32, to: i32) {
-    let mut text = [0u8; 4097];
+    let mut text = [0u8; TEXT_LIMIT + 1];
     let r = fill(from, &mut text);
     let Input::Bytes(n) = r else {
         os::fail(b"listing: standard input cannot be read");

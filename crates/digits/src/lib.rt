@@ -1,11 +1,14 @@
 // Translated from boreal's boreal-parser/src/hex_string.rs (MIT OR Apache-2.0), commit 7010b5e967; see NOTICE.
 // The small readers. Each one answers where it stopped, and where the blanks after that end.
+use base::INNER_JUMP_LIMIT;
+use base::NUMBER_LIMIT;
 use base::Refusal;
 ghost use mathlib.Core.Path.{_≡_};
 ghost use mathlib.Core.Bool.{_&&_};
 ghost use Prim.Native.Nat.{_+_, _<_};
 ghost use lib.ListN.{getD};
 ghost use lib.Dec.{eqb, ltb};
+ghost use Rattle.meaning.specs.Limits.{innerJumpLimit};
 ghost use Rattle.reading.specs.Blanks.{blank, skip};
 ghost use Rattle.reading.specs.Pieces.{within, digit, byteAt, maskedAt, hexAt, notAt, numberAt, checked, closedAt, dashAt, rangeAt, jumpToken, jumped, plainly, plainAt, _else_};
 ghost use Rattle.digits.specs.Answers.{valueOf, spelled, tokenOf, pieceOf, numbered, ranged, upperOf};
@@ -72,16 +75,16 @@ pub fn peek(text: &[u8], at: usize) -> u8
 pub fn is_blank(c: u8) -> bool
     ensures { λ r. ⌜ r ≡ blank c ⌝ }
 {
-    if c == 32 {
+    if c == b' ' {
         return true;
     }
-    if c == 9 {
+    if c == b'\t' {
         return true;
     }
-    if c == 13 {
+    if c == b'\r' {
         return true;
     }
-    c == 10
+    c == b'\n'
 }
 
 pub fn skip_blanks(text: &[u8], at: usize) -> usize
@@ -107,17 +110,22 @@ fn in_range(low: u8, high: u8, c: u8) -> bool
     c <= high
 }
 
+// What a letter has more than the value for which it stands.
+const UPPER: u8 = b'A' - 10;
+
+const LOWER: u8 = b'a' - 10;
+
 pub fn hex_digit(c: u8) -> Nibble
     ensures { λ r. ⌜ valueOf r ≡ digit c ⌝ }
 {
-    if in_range(48, 57, c) {
-        return Nibble::Is(c - 48);
+    if in_range(b'0', b'9', c) {
+        return Nibble::Is(c - b'0');
     }
-    if in_range(65, 70, c) {
-        return Nibble::Is(c - 55);
+    if in_range(b'A', b'F', c) {
+        return Nibble::Is(c - UPPER);
     }
-    if in_range(97, 102, c) {
-        return Nibble::Is(c - 87);
+    if in_range(b'a', b'f', c) {
+        return Nibble::Is(c - LOWER);
     }
     Nibble::Not
 }
@@ -138,9 +146,9 @@ pub fn masked_byte(text: &[u8], at: usize) -> Spelling
     ensures { λ r. ⌜ spelled r ≡ maskedAt (now (text .entry)) at ⌝ }
 {
     let first = peek(text, at);
-    if first == 63 {
+    if first == b'?' {
         let second = peek(text, at + 1);
-        if second == 63 {
+        if second == b'?' {
             return Spelling::Masked(0, Mask::All, at + 2, skip_blanks(text, at + 2));
         }
         let Nibble::Is(low) = hex_digit(second) else {
@@ -151,7 +159,7 @@ pub fn masked_byte(text: &[u8], at: usize) -> Spelling
     let Nibble::Is(high) = hex_digit(first) else {
         return Spelling::Absent;
     };
-    if peek(text, at + 1) != 63 {
+    if peek(text, at + 1) != b'?' {
         return Spelling::Absent;
     }
     Spelling::Masked(high, Mask::Right, at + 2, skip_blanks(text, at + 2))
@@ -171,7 +179,7 @@ pub fn hex_byte(text: &[u8], at: usize) -> Spelling
 pub fn not_token(text: &[u8], at: usize) -> Piece
     ensures { λ r. ⌜ pieceOf r ≡ notAt (now (text .entry)) at ⌝ }
 {
-    if peek(text, at) != 126 {
+    if peek(text, at) != b'~' {
         return Piece::Absent;
     }
     let h = hex_byte(text, at + 1);
@@ -191,18 +199,18 @@ pub fn number(text: &[u8], at: usize) -> Numeral
     ensures { λ r. ⌜ numbered at r ≡ numberAt (now (text .entry)) at ⌝ }
 {
     let first = peek(text, at);
-    if !in_range(48, 57, first) {
+    if !in_range(b'0', b'9', first) {
         return Numeral::Absent;
     }
     let mut value: u64 = 0;
     let mut i = at;
     loop {
         let c = peek(text, i);
-        if !in_range(48, 57, c) {
+        if !in_range(b'0', b'9', c) {
             return Numeral::Number(value as u32, i, skip_blanks(text, i));
         }
-        value = 10 * value + wide(c - 48);
-        if 4294967295 < value {
+        value = 10 * value + wide(c - b'0');
+        if NUMBER_LIMIT < value {
             return Numeral::TooBig;
         }
         i += 1;
@@ -224,12 +232,12 @@ fn both_are(a: u32, b: u32, v: u32) -> bool
     b == v
 }
 
-// Alternatives have no jump above 200.
+// Alternatives have no jump above their own limit.
 fn inside_too_big(inside: bool, to: u32) -> bool
-    ensures { λ r. ⌜ r ≡ inside && ltb 200 to ⌝ }
+    ensures { λ r. ⌜ r ≡ inside && ltb innerJumpLimit to ⌝ }
 {
     if inside {
-        return 200 < to;
+        return INNER_JUMP_LIMIT < to;
     }
     false
 }
@@ -253,7 +261,7 @@ fn checked_jump(text: &[u8], at: usize, from: u32, to: Upper, stop: usize) -> Bo
 fn closed_jump(text: &[u8], at: usize, from: u32, to: Upper, x: usize) -> Bounds
     ensures { λ r. ⌜ ranged r ≡ closedAt (now (text .entry)) at from (upperOf to) x ⌝ }
 {
-    if peek(text, x) != 93 {
+    if peek(text, x) != b']' {
         return Bounds::Absent;
     }
     checked_jump(text, at, from, to, x + 1)
@@ -262,7 +270,7 @@ fn closed_jump(text: &[u8], at: usize, from: u32, to: Upper, x: usize) -> Bounds
 fn dashed_jump(text: &[u8], at: usize, from: u32, x: usize) -> Bounds
     ensures { λ r. ⌜ ranged r ≡ dashAt (now (text .entry)) at from x ⌝ }
 {
-    if peek(text, x) != 45 {
+    if peek(text, x) != b'-' {
         return Bounds::Absent;
     }
     let y = skip_blanks(text, x + 1);
@@ -277,14 +285,14 @@ fn dashed_jump(text: &[u8], at: usize, from: u32, x: usize) -> Bounds
 pub fn range(text: &[u8], at: usize) -> Bounds
     ensures { λ r. ⌜ ranged r ≡ rangeAt (now (text .entry)) at ⌝ }
 {
-    if peek(text, at) != 91 {
+    if peek(text, at) != b'[' {
         return Bounds::Absent;
     }
     let x = skip_blanks(text, at + 1);
     let from = number(text, x);
     match from {
         Numeral::Number(n, _, end) => {
-            if peek(text, end) == 93 {
+            if peek(text, end) == b']' {
                 return checked_jump(text, at, n, Upper::To(n), end + 1);
             }
             dashed_jump(text, at, n, end)

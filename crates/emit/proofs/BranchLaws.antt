@@ -9,13 +9,13 @@ use lib.Dec.{leb}
 use lib.ListN.{length, getD, take, drop, set, length-append, length-drop}
 use lib.Seq.{drop-at, drop-drop, getD-drop, length-take-le}
 use borrow.Rule.Slice.PartMut.{putMid}
+use Rattle.meaning.specs.Limits.{branchLimit}
 use Rattle.meaning.specs.Tokens.{Token, Tokens, Lists, Byte, NotByte, MaskedByte, NotMaskedByte, Jump, Alternatives, nothing, _then_, neither, _or_}
 use Rattle.meaning.specs.Entries.{entry, entriesIn, tokenCount, listCount, entriesOf, entries, listEntries}
 use Rattle.meaning.specs.Programs.{Item, Prog, Branches, one, jump, range, alt, or as branch}
 use Rattle.meaning.specs.Words.{word}
 use Rattle.meaning.proofs.SoundLaws.{and-left, and-right, false-true}
 use Rattle.compiling.specs.ProgramWords.{wordsFor, wordsOf, wordsIn, nodes}
-use Rattle.compiling.specs.Compiling.{branchLimit}
 use Rattle.compiling.specs.Compile.{plainToken, plainTokens, plainBranches, shortIn}
 use Rattle.compiling.proofs.CountLaws.{add-nodes}
 use Rattle.emit.specs.Lists.{addedTo, listItem, listProgram, branchesAt, Listed}

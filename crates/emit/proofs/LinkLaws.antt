@@ -10,6 +10,7 @@ use lib.Dec.{leb}
 use lib.ListN.{length, getD, take, drop, length-append, length-drop}
 use lib.Seq.{take-at, drop-drop, getD-drop}
 use borrow.Author.Tests.{leb-true}
+use Rattle.meaning.specs.Limits.{jumpLimit}
 use Rattle.meaning.specs.Tokens.{Mask, left, right, all, Token, Tokens, Lists, Byte, NotByte, MaskedByte, NotMaskedByte, Jump, Alternatives, nothing, _then_, neither, _or_}
 use Rattle.meaning.specs.Values.{SpelledOne, Spelled, SpelledMore}
 use Rattle.meaning.specs.Entries.{maskNumber, entriesIn, tokenCount, listCount, entriesOf, entries, listEntries}
@@ -18,7 +19,7 @@ use Rattle.meaning.specs.Words.{fieldSize}
 use Rattle.meaning.proofs.TokenLaws.{fours-in}
 use Rattle.meaning.proofs.SoundLaws.{and-left, and-right, false-true}
 use Rattle.compiling.specs.ProgramWords.{nodes}
-use Rattle.compiling.specs.Compiling.{jumpLimit, itemOf, added, branchesFor, backwards}
+use Rattle.compiling.specs.Compiling.{itemOf, added, branchesFor, backwards}
 use Rattle.compiling.specs.Compile.{plainToken, plainTokens, plainBranches, simpleToken}
 use Rattle.meaning.proofs.ValueLaws.{any-spelled}
 use Rattle.compiling.proofs.CountLaws.{backwards-long-of, backwards-long}

@@ -6,15 +6,17 @@ ghost use lib.Dec.{leb};
 ghost use mathlib.Core.List.{_++_};
 ghost use Prim.Native.Nat.{_+_, _*_, _-_, _≤_, _<_};
 ghost use lib.ListN.{length, getD, drop, set};
+ghost use Rattle.meaning.specs.Limits.{branchLimit, tokenPool};
 ghost use Rattle.meaning.specs.Programs.{alt};
 ghost use Rattle.meaning.specs.Words.{word};
 ghost use Rattle.compiling.specs.ProgramWords.{wordsFor, wordsOf, wordsIn, nodes};
 ghost use Rattle.emit.specs.declared.Last.the-variants.{Grows};
 ghost use Rattle.emit.specs.declared.Piece.the-variants.{Gap};
 ghost use Rattle.emit.specs.Items.{byteIn, entryItem, maskItem, notMaskItem, jumpItem, pieceOf, Behind, putCount, putLast, putOut, placeOf};
-ghost use Rattle.compiling.specs.Compiling.{branchLimit};
 ghost use Rattle.compiling.specs.Compile.{shortIn, shortOf, short};
 ghost use Rattle.emit.specs.Lists.{listProgram, branchesAt, Listed, altAt, tokenAt, itemCount, itemLast, itemOut, sizeAt, Stands, tokensProgram, Outlined};
+use base::BRANCH_LIMIT;
+use base::JUMP_LIMIT;
 use nodes::ByteTest;
 use nodes::Count;
 use nodes::Field;
@@ -23,9 +25,6 @@ use nodes::NodeWord;
 use nodes::branch_word;
 use nodes::field;
 use nodes::node_word;
-
-// The longest jump that a program holds.
-pub const JUMP_LIMIT: u32 = 255;
 
 // What a token of one entry adds: a node's word, or a jump, which may grow the last node.
 pub enum Piece {
@@ -194,7 +193,7 @@ pub struct Branched {
 fn longer(long: bool, n: usize) -> bool
     ensures { λ r. ⌜ r ≡ (long || not (leb n branchLimit)) ⌝ }
 {
-    if 255 < n {
+    if BRANCH_LIMIT < n {
         return true;
     }
     long
@@ -202,7 +201,7 @@ fn longer(long: bool, n: usize) -> bool
 
 // Lists behind their marks: each is a branch, with its own mark before its nodes.
 pub fn add_lists(entries: &[u32], lists: usize, backwards: bool, out: &mut [NodeWord]) -> Branched
-    requires { ⌜ Listed lists (now entries) × (length (now entries) ≤ 4096) × (length (now entries) ≤ 4 * length (now out)) ⌝ }
+    requires { ⌜ Listed lists (now entries) × (length (now entries) ≤ tokenPool) × (length (now entries) ≤ 4 * length (now out)) ⌝ }
     ensures { λ r. ⌜ (r .count ≡ length (wordsIn (branchesAt backwards lists (now (entries .entry)))))
         × (r .long ≡ not (shortIn (branchesAt backwards lists (now (entries .entry)))))
         × (now (out .exit) ≡ wordsIn (branchesAt backwards lists (now (entries .entry))) ++ drop (r .count) (now (out .entry))) ⌝ }
@@ -230,7 +229,7 @@ pub fn add_lists(entries: &[u32], lists: usize, backwards: bool, out: &mut [Node
 
 // The alternatives at a place: their Alternation, and their branches behind it.
 fn add_alternation(tokens: &[u32], at: usize, backwards: bool, out: &mut [NodeWord]) -> Branched
-    requires { ⌜ Stands (now tokens) at × (getD (now tokens) at 0 ≡ 5) × (length (now tokens) ≤ 4096)
+    requires { ⌜ Stands (now tokens) at × (getD (now tokens) at 0 ≡ 5) × (length (now tokens) ≤ tokenPool)
         × (sizeAt (now tokens) at ≤ 4 * length (now out)) ⌝ }
     ensures { λ r. ⌜ (r .count ≡ length (wordsFor (alt (altAt backwards (now (tokens .entry)) at))))
         × (r .long ≡ not (shortIn (altAt backwards (now (tokens .entry)) at)))
@@ -265,7 +264,7 @@ fn add_token(
     last: Last,
     long: bool,
 ) -> Step
-    requires { ⌜ Stands (now tokens) at × (length (now tokens) ≤ 4096) × (4 * n + sizeAt (now tokens) at ≤ 4 * length (now out)) × Behind n last ⌝ }
+    requires { ⌜ Stands (now tokens) at × (length (now tokens) ≤ tokenPool) × (4 * n + sizeAt (now tokens) at ≤ 4 * length (now out)) × Behind n last ⌝ }
     ensures { λ r. ⌜ (r .count ≡ itemCount n last (tokenAt backwards (now (tokens .entry)) at))
         × (r .last ≡ itemLast last (tokenAt backwards (now (tokens .entry)) at))
         × (r .long ≡ (long || not (shortOf (tokenAt backwards (now (tokens .entry)) at))))
@@ -301,7 +300,7 @@ fn either(a: bool, b: bool) -> bool
 
 // The tokens of the outer list, which start at `starts`: their words at the front of `out`, and their number.
 pub fn add_tokens(tokens: &[u32], starts: &[u16], backwards: bool, out: &mut [NodeWord]) -> Branched
-    requires { ⌜ Outlined (now tokens) (now starts) × (length (now tokens) ≤ 4096) × (length (now tokens) ≤ 4 * length (now out)) ⌝ }
+    requires { ⌜ Outlined (now tokens) (now starts) × (length (now tokens) ≤ tokenPool) × (length (now tokens) ≤ 4 * length (now out)) ⌝ }
     ensures { λ r. ⌜ (r .count ≡ nodes (tokensProgram backwards (now (tokens .entry)) (now (starts .entry))))
         × (r .long ≡ not (short (tokensProgram backwards (now (tokens .entry)) (now (starts .entry)))))
         × (now (out .exit) ≡ wordsOf (tokensProgram backwards (now (tokens .entry)) (now (starts .entry))) ++ drop (r .count) (now (out .entry))) ⌝ }

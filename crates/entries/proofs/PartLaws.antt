@@ -19,5 +19,5 @@ part-le a l = let e : length (take (length l - a) (drop a l)) ≡ length l - a =
 pub part-long : (a : ℕ) (l : List ℕ) → length (take (length l - a) (drop a l)) ≡ length l - a
 part-long a l = ap length (part-all a l) ∙ length-drop a l
 
-pub capped : (r c : ℕ) → r ≡ min 257 c → r ≤ 257
+pub capped : {top : ℕ} (r c : ℕ) → r ≡ min top c → r ≤ top
 capped r c e = omega arith

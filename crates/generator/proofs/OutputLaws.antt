@@ -11,6 +11,8 @@ use lib.ListN.{length, take, drop, set, length-append, drop-of-length-le, length
 use lib.Seq.{drop-cons}
 use borrow.Author.Tests.{le-leb, lt-leb}
 use borrow.Rule.Slice.PartMut.{putMid}
+use Rattle.tallies.specs.Tallies.{countTop}
+use Rattle.meaning.specs.Limits.{literalLimit}
 use Rattle.meaning.specs.Tokens.{Tokens}
 use Rattle.picking.specs.Literals.{literals}
 use Rattle.picking.specs.Numbers.{count, literalAt}
@@ -116,7 +118,7 @@ module _ (ts : Tokens) (n : ℕ) (n-is : n ≡ count ts) where
 -- ---- the outcomes
 
 -- a tally of no more than 256 is the count
-pub exact : (ts : Tokens) (n : ℕ) → n ≡ min 257 (count ts) → count ts ≤ 256 → length (literals ts) ≡ n
+pub exact : (ts : Tokens) (n : ℕ) → n ≡ min countTop (count ts) → count ts ≤ literalLimit → length (literals ts) ≡ n
 exact ts n e h = let c = count-literals ts in omega arith
 
 fit : (ls : List (List ℕ)) (bytes lengths : List ℕ) → length ls ≤ length lengths → length (flatten ls) ≤ length bytes → fits ls bytes lengths ≡ true

@@ -4,10 +4,12 @@ ghost use mathlib.Core.Path.{_≡_};
 ghost use mathlib.Core.List.{map, flatten};
 ghost use Prim.Native.Nat.{_≤_, _<_};
 ghost use lib.ListN.{length};
+ghost use Rattle.meaning.specs.Limits.{literalLimit, tokenPool, entryLimit};
 ghost use Rattle.picking.specs.Literals.{literals};
 ghost use Rattle.picking.specs.Numbers.{count, literalAt};
 ghost use Rattle.entries.specs.Words.{tokensIn};
 ghost use Rattle.generator.specs.Output.{over, Generated};
+use base::ENTRY_LIMIT;
 
 // How many literals were written; or one of the buffers is too small, and nothing was.
 pub enum Wrote {
@@ -15,18 +17,18 @@ pub enum Wrote {
     NoRoom,
 }
 
-// A literal has at most as many bytes as there are entries, of which a pool holds 1,024.
+// A literal has at most as many bytes as there are entries.
 fn length_at(ws: &[u32], k: usize) -> usize
-    requires { ⌜ (length (now ws) ≤ 4096) × (k < count (tokensIn (now ws))) × (count (tokensIn (now ws)) ≤ 256) ⌝ }
-    ensures { λ r. ⌜ (r ≡ length (literalAt (tokensIn (now (ws .entry))) k)) × (r ≤ 1024) ⌝ }
+    requires { ⌜ (length (now ws) ≤ tokenPool) × (k < count (tokensIn (now ws))) × (count (tokensIn (now ws)) ≤ literalLimit) ⌝ }
+    ensures { λ r. ⌜ (r ≡ length (literalAt (tokensIn (now (ws .entry))) k)) × (r ≤ entryLimit) ⌝ }
 {
-    let mut scratch = [0u8; 1024];
-    spelling::write_literal(ws, k, &mut scratch[0..1024])
+    let mut scratch = [0u8; ENTRY_LIMIT];
+    spelling::write_literal(ws, k, &mut scratch[0..ENTRY_LIMIT])
 }
 
 // The bytes of all n literals. Known before the first is written, for a refusal leaves the buffers as they were.
 fn total_of(ws: &[u32], n: usize) -> usize
-    requires { ⌜ (length (now ws) ≤ 4096) × (n ≡ count (tokensIn (now ws))) × (n ≤ 256) ⌝ }
+    requires { ⌜ (length (now ws) ≤ tokenPool) × (n ≡ count (tokensIn (now ws))) × (n ≤ literalLimit) ⌝ }
     ensures { λ r. ⌜ r ≡ length (flatten (literals (tokensIn (now (ws .entry))))) ⌝ }
 {
     let mut total = 0;
@@ -40,7 +42,7 @@ fn total_of(ws: &[u32], n: usize) -> usize
 
 // Writes all n literals, each into what the ones before it left of the buffer.
 fn write_each(ws: &[u32], n: usize, bytes: &mut [u8], lengths: &mut [u16])
-    requires { ⌜ (length (now ws) ≤ 4096) × (n ≡ count (tokensIn (now ws))) × (n ≤ 256) × (n ≤ length (now lengths)) × (length (flatten (literals (tokensIn (now ws)))) ≤ length (now bytes)) ⌝ }
+    requires { ⌜ (length (now ws) ≤ tokenPool) × (n ≡ count (tokensIn (now ws))) × (n ≤ literalLimit) × (n ≤ length (now lengths)) × (length (flatten (literals (tokensIn (now ws)))) ≤ length (now bytes)) ⌝ }
     ensures { λ _. ⌜ (now (bytes .exit) ≡ over (flatten (literals (tokensIn (now (ws .entry))))) (now (bytes .entry))) × (now (lengths .exit) ≡ over (map length (literals (tokensIn (now (ws .entry))))) (now (lengths .entry))) ⌝ }
 {
     let mut at = 0;
@@ -55,7 +57,7 @@ fn write_each(ws: &[u32], n: usize, bytes: &mut [u8], lengths: &mut [u16])
 
 // Writes the literals one after another, and the length of each; or neither, where one of the two does not fit.
 pub fn write_all(ws: &[u32], bytes: &mut [u8], lengths: &mut [u16]) -> Wrote
-    requires { ⌜ (length (now ws) ≤ 4096) × (count (tokensIn (now ws)) ≤ 256) ⌝ }
+    requires { ⌜ (length (now ws) ≤ tokenPool) × (count (tokensIn (now ws)) ≤ literalLimit) ⌝ }
     ensures { λ r. ⌜ Generated (literals (tokensIn (now (ws .entry)))) r (now (bytes .entry)) (now (lengths .entry)) (now (bytes .exit)) (now (lengths .exit)) ⌝ }
 {
     let t = tallies::tally_tokens(ws);

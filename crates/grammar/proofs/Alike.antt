@@ -7,6 +7,7 @@ use Prim.Native.Nat.{ℕ, _≤_, _<_}
 use native.Mathlib.Omega.{arith}
 use lib.ListN.{length, take, drop, getD, take-append-drop, List·getD-append}
 use lib.Seq.{ext-getD, getD-take, length-take-le}
+use Rattle.meaning.specs.Limits.{textLimit}
 use Rattle.meaning.specs.Tokens.{Tokens}
 use Rattle.reading.specs.Blanks.{blank}
 use Rattle.reading.specs.Lists.{accepted, reading}
@@ -21,7 +22,7 @@ unfolding NoBlank Blank blank
 no-blank [] h = tt
 no-blank (c ∷ s) h = λ b. ⊎-elim (λ e. never (cc (ap blank e))) (λ b. ⊎-elim (λ e. never (cc (ap blank e))) (λ b. ⊎-elim (λ e. never (cc (ap blank e))) (λ e. never (cc (ap blank e))) b) b) b
 
-pub read-alike : (t u : List ℕ) (e : ℕ) (ts : Tokens) → reading t ≡ accepted e ts → length u ≤ 4096 → e ≤ length u → ((i : ℕ) → i < e → getD t i 0 ≡ getD u i 0) → blank (getD u e 0) ≡ false → reading u ≡ accepted e ts
+pub read-alike : (t u : List ℕ) (e : ℕ) (ts : Tokens) → reading t ≡ accepted e ts → length u ≤ textLimit → e ≤ length u → ((i : ℕ) → i < e → getD t i 0 ≡ getD u i 0) → blank (getD u e 0) ≡ false → reading u ≡ accepted e ts
 unfolding SpellsText
 read-alike t u e ts h l k same b =
     let z = accepted-spelled t e ts h in

@@ -6,6 +6,7 @@ use mathlib.Core.List.{List, _++_}
 use Prim.Native.Nat.{ℕ, _≤_}
 use lib.ListN.{length}
 use Rattle.base.specs.declared.Refusal.{Refusal}
+use Rattle.meaning.specs.Limits.{textLimit, levelLimit}
 use Rattle.meaning.specs.Tokens.{Tokens}
 use Rattle.reading.specs.Lists.{Outcome, accepted, rejected, reading}
 use Rattle.grammar.specs.Grammar as rule
@@ -18,11 +19,11 @@ use Rattle.grammar.proofs.TextRead.{reading-spells, rejected-unspelled}
 use Rattle.grammar.proofs.OneSpelling.{spelled-once}
 use Rattle.grammar.proofs.FaultLaws.{fault-exactly}
 
-pattern-spells : {ts : Tokens} {s : List ℕ} → rule.Pattern ts s → SpellsString ts s × (depth ts ≤ 8)
+pattern-spells : {ts : Tokens} {s : List ℕ} → rule.Pattern ts s → SpellsString ts s × (depth ts ≤ levelLimit)
 unfolding SpellsString _⨾_
 pattern-spells (rule.pattern {a = a} {b = b} {c = c} p q r) = let l = outer-spells q in ((a, b ++ c, refl, mark-spells p, (b, c, refl, l .0, mark-spells r)), l .1)
 
-pattern-derived : (ts : Tokens) (s : List ℕ) → SpellsString ts s → depth ts ≤ 8 → rule.Pattern ts s
+pattern-derived : (ts : Tokens) (s : List ℕ) → SpellsString ts s → depth ts ≤ levelLimit → rule.Pattern ts s
 unfolding SpellsString _⨾_
 pattern-derived ts s p d =
     let q = p .4 in
@@ -36,7 +37,7 @@ spelled-derives : (t : List ℕ) (e : ℕ) (ts : Tokens) → Spelled t e ts → 
 unfolding SpellsText
 spelled-derives t e ts p =
     let q = p .0 in
-    let d = rule.derives (pattern-derived ts (q .0) (q .3) (p .1)) (clear-derived (q .1) (q .4)) (p .2) (subst (λ (x : List ℕ). length x ≤ 4096) (q .2) (p .3)) in
+    let d = rule.derives (pattern-derived ts (q .0) (q .3) (p .1)) (clear-derived (q .1) (q .4)) (p .2) (subst (λ (x : List ℕ). length x ≤ textLimit) (q .2) (p .3)) in
     subst₂ (λ (x : List ℕ) (n : ℕ). Derives x n ts) (sym (q .2)) (sym (q .5)) d
 
 -- accepted is derivable: with these tokens and this offset, both ways

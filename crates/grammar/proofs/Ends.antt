@@ -3,12 +3,14 @@ use mathlib.Core.Path.{_≡_, refl, sym, subst}
 use mathlib.Core.Bool.{Bool, true, false, cond, _&&_}
 use mathlib.Core.Option.{Option, none, some}
 use mathlib.Core.List.{List}
+use Prim.Native.Char.{code}
 use Prim.Native.Nat.{ℕ, zero, suc, _+_, _-_, _<_}
 use native.Mathlib.Omega.{arith}
 use borrow.Author.Tests.{eqb-true, eqb-false}
 use lib.Dec.{eqb, ltb}
 use lib.ListN.{length, drop}
 use Rattle.base.specs.declared.Refusal.the-variants.{TooManyTokens}
+use Rattle.meaning.specs.Limits.{tokenLimit, innerJumpLimit}
 use Rattle.meaning.specs.Tokens.{Mask, left, right, all, Token, Tokens, Lists}
 use Rattle.reading.specs.Blanks.{here, skip}
 use Rattle.reading.specs.Pieces.{Seen, found, absent, refused, upTo, _else_, digit, Hex, whole, masked, twoDigits, byteAt, oneDigit, maskedAt, hexAt, plainly, negated, notAt, numberAt, Range, between, checked, closedAt, upperAt, dashAt, lowerAt, rangeAt, jumped, plainAt}
@@ -53,9 +55,9 @@ module _ (t : List ℕ) where
   masked-ends : (at : ℕ) → Ends t (maskedAt t at)
   unfolding Ends maskedAt
   masked-ends at =
-      cond-ends (eqb (here t at) 63) _ _
-      (cond-ends (eqb (here t (at + 1)) 63) _ _ (up-to-ends (masked 0 all) (at + 2)) (one-ends at left (digit (here t (at + 1)))))
-      (cond-ends (eqb (here t (at + 1)) 63) _ _ (one-ends at right (digit (here t at))) tt)
+      cond-ends (eqb (here t at) (code "?")) _ _
+      (cond-ends (eqb (here t (at + 1)) (code "?")) _ _ (up-to-ends (masked 0 all) (at + 2)) (one-ends at left (digit (here t (at + 1)))))
+      (cond-ends (eqb (here t (at + 1)) (code "?")) _ _ (one-ends at right (digit (here t at))) tt)
 
   hex-ends : (at : ℕ) → Ends t (hexAt t at)
   unfolding hexAt byteAt
@@ -84,7 +86,7 @@ module _ (t : List ℕ) where
 
   closed-ends : (at from : ℕ) (to : Option ℕ) (x : ℕ) → Ends t (closedAt t at from to x)
   unfolding Ends closedAt
-  closed-ends at from to x = cond-ends (eqb (here t x) 93) _ _ (checked-ends at from to (x + 1)) tt
+  closed-ends at from to x = cond-ends (eqb (here t x) (code "]")) _ _ (checked-ends at from to (x + 1)) tt
 
   upper-ends : (at from x : ℕ) (n : Seen ℕ) → Ends t (upperAt t at from x n)
   unfolding Ends upperAt
@@ -94,28 +96,28 @@ module _ (t : List ℕ) where
 
   dash-ends : (at from x : ℕ) → Ends t (dashAt t at from x)
   unfolding Ends dashAt
-  dash-ends at from x = cond-ends (eqb (here t x) 45) _ _ (upper-ends at from (skip t (x + 1)) (numberAt t (skip t (x + 1)))) tt
+  dash-ends at from x = cond-ends (eqb (here t x) (code "-")) _ _ (upper-ends at from (skip t (x + 1)) (numberAt t (skip t (x + 1)))) tt
 
   lower-ends : (at x : ℕ) (n : Seen ℕ) → Ends t (lowerAt t at x n)
   unfolding Ends lowerAt
-  lower-ends at x (found n s e) = cond-ends (eqb (here t e) 93) _ _ (checked-ends at n (some n) (e + 1)) (dash-ends at n e)
+  lower-ends at x (found n s e) = cond-ends (eqb (here t e) (code "]")) _ _ (checked-ends at n (some n) (e + 1)) (dash-ends at n e)
   lower-ends at x absent = dash-ends at 0 x
   lower-ends at x (refused r p) = tt
 
   jumped-ends : (inside : Bool) (at : ℕ) (x : Seen Range) → Ends t x → Ends t (jumped inside at x)
   unfolding Ends jumped
   jumped-ends inside at (found (between from none) s e) h = cond-ends inside _ _ tt h
-  jumped-ends inside at (found (between from (some to)) s e) h = cond-ends (inside && ltb 200 to) _ _ tt h
+  jumped-ends inside at (found (between from (some to)) s e) h = cond-ends (inside && ltb innerJumpLimit to) _ _ tt h
   jumped-ends inside at absent h = tt
   jumped-ends inside at (refused r p) h = tt
 
   plain-ends : (inside : Bool) (at : ℕ) → Ends t (plainAt t inside at)
   unfolding Ends plainAt notAt rangeAt
   plain-ends inside at =
-      else-ends (cond (eqb (here t at) 126) (negated at (hexAt t (at + 1))) absent) _ (cond-ends (eqb (here t at) 126) _ _ (negated-ends at (hexAt t (at + 1)) (hex-ends (at + 1))) tt)
+      else-ends (cond (eqb (here t at) (code "~")) (negated at (hexAt t (at + 1))) absent) _ (cond-ends (eqb (here t at) (code "~")) _ _ (negated-ends at (hexAt t (at + 1)) (hex-ends (at + 1))) tt)
       (else-ends (plainly (hexAt t at)) _ (plainly-ends (hexAt t at) (hex-ends at))
-      (jumped-ends inside at (cond (eqb (here t at) 91) (lowerAt t at (skip t (at + 1)) (numberAt t (skip t (at + 1)))) absent)
-      (cond-ends (eqb (here t at) 91) _ _ (lower-ends at (skip t (at + 1)) (numberAt t (skip t (at + 1)))) tt)))
+      (jumped-ends inside at (cond (eqb (here t at) (code "[")) (lowerAt t at (skip t (at + 1)) (numberAt t (skip t (at + 1)))) absent)
+      (cond-ends (eqb (here t at) (code "[")) _ _ (lower-ends at (skip t (at + 1)) (numberAt t (skip t (at + 1)))) tt)))
 
   pub plain-clear : (inside : Bool) (at : ℕ) (tok : Token) (s e : ℕ) → plainAt t inside at ≡ found tok s e → NoBlank (drop e t)
   unfolding Ends
@@ -140,13 +142,13 @@ module _ (t : List ℕ) where
       over : {x : Parsed Lists} → lists t level count at miss ≡ x → After x → After (lists t level count at miss)
       over q a = subst (λ (x : Parsed Lists). After x) (sym q) a
 
-      then : (ts : Tokens) (e d : ℕ) → list t level count at ≡ read ts e d → (a b : Bool) → eqb (here t e) 41 ≡ a → eqb (here t e) 124 ≡ b → After (lists t level count at miss)
-      then ts e d q true b i j = over (lists-closed t level count at miss q (eqb-true (here t e) 41 i)) (skip-clear t (e + 1))
-      then ts e d q false true i j = over (lists-barred t level count at miss q (eqb-true (here t e) 124 j)) (beside-after ts _ (later ts e d q))
-      then ts e d q false false i j = over (lists-else t level count at miss q (eqb-false (here t e) 41 i) (eqb-false (here t e) 124 j)) tt
+      then : (ts : Tokens) (e d : ℕ) → list t level count at ≡ read ts e d → (a b : Bool) → eqb (here t e) (code ")") ≡ a → eqb (here t e) (code "|") ≡ b → After (lists t level count at miss)
+      then ts e d q true b i j = over (lists-closed t level count at miss q (eqb-true (here t e) (code ")") i)) (skip-clear t (e + 1))
+      then ts e d q false true i j = over (lists-barred t level count at miss q (eqb-true (here t e) (code "|") j)) (beside-after ts _ (later ts e d q))
+      then ts e d q false false i j = over (lists-else t level count at miss q (eqb-false (here t e) (code ")") i) (eqb-false (here t e) (code "|") j)) tt
 
       go : (x : Parsed Tokens) → list t level count at ≡ x → After (lists t level count at miss)
-      go (read ts e d) q = then ts e d q (eqb (here t e) 41) (eqb (here t e) 124) refl refl
+      go (read ts e d) q = then ts e d q (eqb (here t e) (code ")")) (eqb (here t e) (code "|")) refl refl
       go missing q = over (lists-missing t level count at miss q) tt
       go (stopped r p) q = over (lists-stopped t level count at miss q) tt
 
@@ -161,7 +163,7 @@ module _ (t : List ℕ) where
   -- a token that is read has no blank after it; one that is missing is no plain token, and no `(` stands there
   unfoldable pub TokenAfter : ℕ → ℕ → Parsed Token → Type 0
   TokenAfter level at (read tok e d) = NoBlank (drop e t)
-  TokenAfter level at missing = (plainAt t (ltb 1 level) at ≡ absent) × (here t at ≡ 40 → ⊥)
+  TokenAfter level at missing = (plainAt t (ltb 1 level) at ≡ absent) × (here t at ≡ code "(" → ⊥)
   TokenAfter level at (stopped r p) = Unit {0}
 
   as-after : (level at : ℕ) (x : Parsed Lists) → After x → TokenAfter level at (asToken x)
@@ -177,16 +179,16 @@ module _ (t : List ℕ) where
       inner : Parsed Lists
       inner = lists t (level + 1) (count + 1) (skip t (at + 1)) (skip t (at + 1))
 
-      opens : plainAt t (ltb 1 level) at ≡ absent → (a b : Bool) → eqb (here t at) 40 ≡ a → TokenAfter level at (cond a (cond b (asToken inner) (stopped TooManyTokens at)) missing)
+      opens : plainAt t (ltb 1 level) at ≡ absent → (a b : Bool) → eqb (here t at) (code "(") ≡ a → TokenAfter level at (cond a (cond b (asToken inner) (stopped TooManyTokens at)) missing)
       opens q true true i = as-after level at inner (lists-after (suc (length t - skip t (at + 1))) (level + 1) (count + 1) (skip t (at + 1)) (skip t (at + 1)) (omega arith))
       opens q true false i = tt
-      opens q false b i = (q, eqb-false (here t at) 40 i)
+      opens q false b i = (q, eqb-false (here t at) (code "(") i)
 
       counts : (tok : Token) (s e : ℕ) → plainAt t (ltb 1 level) at ≡ found tok s e → (a : Bool) → TokenAfter level at (cond a (read tok e (count + 1)) (stopped TooManyTokens at))
       counts tok s e q true = plain-clear (ltb 1 level) at tok s e q
       counts tok s e q false = tt
 
       go : (x : Seen Token) → plainAt t (ltb 1 level) at ≡ x → TokenAfter level at (tokenOr at count x (bracketed t at count inner))
-      go (found tok s e) q = counts tok s e q (ltb count 512)
-      go absent q = opens q (eqb (here t at) 40) (ltb count 512) refl
+      go (found tok s e) q = counts tok s e q (ltb count tokenLimit)
+      go absent q = opens q (eqb (here t at) (code "(")) (ltb count tokenLimit) refl
       go (refused r p) q = tt

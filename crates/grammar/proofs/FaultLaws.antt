@@ -3,12 +3,14 @@ use mathlib.Core.Path.{_≡_, refl, sym, ap, ap₂, _∙_, subst, subst₂}
 use mathlib.Core.Bool.{Bool, true, false, _&&_, _||_}
 use mathlib.Core.Logic.{_⊎_, inl, inr, ⊎-elim, _↔_}
 use mathlib.Core.List.{List}
+use Prim.Native.Char.{code}
 use Prim.Native.Nat.{ℕ, suc, _+_, _-_, _≤_, _<_}
 use native.Mathlib.Omega.{arith}
 use lib.Dec.{leb, ltb}
 use lib.ListN.{length}
 use Rattle.base.specs.declared.Refusal.{Refusal}
 use Rattle.base.specs.declared.Refusal.the-variants.{Unexpected, JumpAtBound, TooManyTokens}
+use Rattle.meaning.specs.Limits.{textLimit, tokenLimit, levelLimit}
 use Rattle.meaning.specs.Entries.{tokenCount}
 use Rattle.meaning.specs.Tokens.{Token, Tokens, Byte, nothing, _then_, totalIn}
 use Rattle.reading.specs.Blanks.{here, skip}
@@ -56,22 +58,22 @@ module _ {t : List ℕ} where
   begins-move {l} {l′} {c} {c′} {at} {at′} {miss} {miss′} e f g h b =
       subst₂ (λ (x y : ℕ). fault.Begins t x y at′ miss′) e f (subst₂ (λ (x y : ℕ). fault.Begins t l c x y) g h b)
 
-  looked-next : {l start c at e d : ℕ} {tok : Token} → Level l → fault.Looked t l start c at → token t l c at ≡ read tok e d → fault.Looked t l start d e × (d ≤ 512)
+  looked-next : {l start c at e d : ℕ} {tok : Token} → Level l → fault.Looked t l start c at → token t l c at ≡ read tok e d → fault.Looked t l start d e × (d ≤ tokenLimit)
   looked-next {l} {start} {c} {at} {e} {d} {tok} h k q =
       let s = token-there t l c at tok e d h q in
       (fault.next k (s .0) (s .1) (s .2), s .2)
 
   mutual
-    begins-there : {l c at : ℕ} → given.Begins t l c at → (miss : ℕ) × fault.Begins t l c at miss × Level l × (c ≤ 512)
+    begins-there : {l c at : ℕ} → given.Begins t l c at → (miss : ℕ) × fault.Begins t l c at miss × Level l × (c ≤ tokenLimit)
     begins-there (given.outermost s o e f g) =
         (skip t 1, begins-move (sym e) (sym f) (sym g) refl (fault.outermost s (mark-there t "{" 0 o (omega arith))), (omega arith, omega arith), omega arith)
     begins-there (given.bracketed {miss = miss} a h) = let b = brackets-there a in let k = b .1 in (miss, b .0, (omega arith, h), b .2)
 
-    looked-there : {l c at : ℕ} → given.Looked t l c at → (start : ℕ) × fault.Looked t l start c at × Level l × (c ≤ 512)
+    looked-there : {l c at : ℕ} → given.Looked t l c at → (start : ℕ) × fault.Looked t l start c at × Level l × (c ≤ tokenLimit)
     looked-there {l} {c} {at} (given.first b) = let x = begins-there b in (at, fault.first (x .1) (x .2 .1), x .2, x .3)
     looked-there (given.next k h) = let x = looked-there k in let y = looked-next (x .2) (x .1) h in (x .0, y .0, x .2, y .1)
 
-    brackets-there : {l c at miss : ℕ} → given.InBrackets t l c at miss → fault.Begins t l c at miss × (1 < l) × (c ≤ 512)
+    brackets-there : {l c at miss : ℕ} → given.InBrackets t l c at miss → fault.Begins t l c at miss × (1 < l) × (c ≤ tokenLimit)
     brackets-there (given.opened {at = at} k h f e g i j) =
         let x = looked-there k in
         let y = x .2 .0 in
@@ -141,20 +143,20 @@ module _ {t : List ℕ} where
   given-fault (given.too-many {level = l} {count = c} {at = at} {s = s} {e = e} {tok = tok} k h q) =
       let x = looked-there k in
       let y = x .3 in
-      let z : c ≡ 512 = omega arith in
+      let z : c ≡ tokenLimit = omega arith in
       fault.too-many (subst (λ (n : ℕ). fault.Looked t l (x .0) n at) z (x .1)) (plain-there t l at tok s e (x .2) q)
   given-fault (given.too-many-brackets {level = l} {count = c} {at = at} k h q) =
       let x = looked-there k in
       let y = x .3 in
-      let z : c ≡ 512 = omega arith in
+      let z : c ≡ tokenLimit = omega arith in
       fault.too-many-brackets (subst (λ (n : ℕ). fault.Looked t l (x .0) n at) z (x .1)) (mark-there t "(" at q (omega arith))
 
 -- and back: from the grammar's places to the reader's; the outer list, and one in brackets
 abbrev Outer : List ℕ → ℕ → ℕ → ℕ → ℕ → Type 0
-Outer t l c at miss = (length t ≤ 4096) × (here t 0 ≡ 123) × (l ≡ 1) × (c ≡ 0) × (at ≡ skip t 1) × (miss ≡ skip t 1)
+Outer t l c at miss = (length t ≤ textLimit) × (here t 0 ≡ code "{") × (l ≡ 1) × (c ≡ 0) × (at ≡ skip t 1) × (miss ≡ skip t 1)
 
 abbrev Inner : List ℕ → ℕ → ℕ → ℕ → ℕ → Type 0
-Inner t l c at miss = given.InBrackets t l c at miss × (1 < l) × (c ≤ 512)
+Inner t l c at miss = given.InBrackets t l c at miss × (1 < l) × (c ≤ tokenLimit)
 
 -- tokens that were looked for one after another were read so
 abbrev Started : List ℕ → ℕ → ℕ → ℕ → ℕ → Tokens → Type 0
@@ -171,7 +173,7 @@ last-bound nothing n w = n (Byte 0) tt
 last-bound (tok then ts) n w = n tok (bounded tok ts w .1)
 
 module _ {t : List ℕ} where
-  starts : {l c at miss : ℕ} → Outer t l c at miss ⊎ Inner t l c at miss → l ≤ 8 → given.Begins t l c at × Level l × (c ≤ 512)
+  starts : {l c at miss : ℕ} → Outer t l c at miss ⊎ Inner t l c at miss → l ≤ levelLimit → given.Begins t l c at × Level l × (c ≤ tokenLimit)
   starts (inl o) h = let e = o .2 in let f = o .3 in (given.outermost (o .0) (o .1) (o .2) (o .3) (o .4), (omega arith, h), omega arith)
   starts (inr b) h = let k = b .1 in (given.bracketed (b .0) h, (omega arith, h), b .2)
 
@@ -196,7 +198,7 @@ module _ {t : List ℕ} where
         let g = list-gone t l c at (z .1) in
         inr (given.barred (x .0) (z .1) (y .0) (y .1), h, g .within)
 
-    looked-here : {l start c at : ℕ} → fault.Looked t l start c at → given.Looked t l c at × Level l × (c ≤ 512)
+    looked-here : {l start c at : ℕ} → fault.Looked t l start c at → given.Looked t l c at × Level l × (c ≤ tokenLimit)
     looked-here (fault.first b h) = let x = starts (begins-here b) h in (given.first (x .0), x .1, x .2)
     looked-here {l} (fault.next {count = c} {at = at} {d = d} {e = e} {tok = tok} k s i n) =
         let x = looked-here k in
@@ -263,7 +265,7 @@ module _ {t : List ℕ} where
   fault-given (fault.too-deep b h) = given.too-deep (inner (omega arith) (begins-here b) .0) h
   fault-given (fault.too-many {level = l} {at = at} {e = e} {tok = tok} k s) = let x = looked-here k in go (x .0) (seen (x .1) s)
     where
-      go : given.Looked t l 512 at → ((y : ℕ) × (plainAt t (ltb 1 l) at ≡ found tok y e)) ⊎ (here t at ≡ 40) → Given t TooManyTokens at
+      go : given.Looked t l tokenLimit at → ((y : ℕ) × (plainAt t (ltb 1 l) at ≡ found tok y e)) ⊎ (here t at ≡ code "(") → Given t TooManyTokens at
       go k (inl y) = given.too-many k (omega arith) (y .1)
       go k (inr o) = given.too-many-brackets k (omega arith) o
   fault-given (fault.too-many-brackets k m) = given.too-many-brackets (looked-here k .0) (omega arith) (mark-here m .0)

@@ -9,6 +9,7 @@ use borrow.Author.Tests.{ltb-true, ltb-false}
 use lib.Dec.{ltb}
 use lib.ListN.{length, drop}
 use Rattle.base.specs.declared.Refusal.the-variants.{JumpAtBound, HexStringTooDeep}
+use Rattle.meaning.specs.Limits.{tokenLimit, levelLimit}
 use Rattle.meaning.specs.Tokens.{Token, Tokens, nothing, _then_, total}
 use Rattle.reading.specs.Lists.{Parsed, read, missing, stopped, before, atBound, listOf, token, more, list, enough}
 use Rattle.reading.proofs.PieceLaws.{never}
@@ -67,7 +68,7 @@ module _ (t : List ℕ) (level : ℕ) where
       more-ends ts (c .1) (c .0) e d (λ z. subst (λ (x : Parsed Token). TokenAfter t level at x) (c .2) (token-after t level count at)) (c .3)
 
   -- a list is what was read of tokens, and there are some
-  list-more : (count at : ℕ) (ts : Tokens) (e d : ℕ) → level ≤ 8 → list t level count at ≡ read ts e d → (more t level count at ≡ read ts e d) × (ts ≡ nothing → ⊥)
+  list-more : (count at : ℕ) (ts : Tokens) (e d : ℕ) → level ≤ levelLimit → list t level count at ≡ read ts e d → (more t level count at ≡ read ts e d) × (ts ≡ nothing → ⊥)
   unfolding listOf
   list-more count at ts e d l q = go (more t level count at) refl
     where
@@ -86,20 +87,20 @@ module _ (t : List ℕ) (level : ℕ) where
       go (stopped r p) i = let z = of i in never (cc)
 
   -- no list has a ninth level
-  list-level : (count at : ℕ) (x : Parsed Tokens) → list t level count at ≡ x → (x ≡ stopped HexStringTooDeep at → ⊥) → level ≤ 8
-  list-level count at x q n = go (ltb 8 level) refl
+  list-level : (count at : ℕ) (x : Parsed Tokens) → list t level count at ≡ x → (x ≡ stopped HexStringTooDeep at → ⊥) → level ≤ levelLimit
+  list-level count at x q n = go (ltb levelLimit level) refl
     where
-      go : (b : Bool) → ltb 8 level ≡ b → level ≤ 8
-      go true i = absurd (n (sym q ∙ list-deep t level count at (ltb-true 8 level i)))
-      go false i = ltb-false 8 level i
+      go : (b : Bool) → ltb levelLimit level ≡ b → level ≤ levelLimit
+      go true i = absurd (n (sym q ∙ list-deep t level count at (ltb-true levelLimit level i)))
+      go false i = ltb-false levelLimit level i
 
-  pub list-there : (count at : ℕ) (ts : Tokens) (e d : ℕ) → 1 ≤ level → count ≤ 512 → list t level count at ≡ read ts e d → Listed t level count at d e
+  pub list-there : (count at : ℕ) (ts : Tokens) (e d : ℕ) → 1 ≤ level → count ≤ tokenLimit → list t level count at ≡ read ts e d → Listed t level count at d e
   unfolding Right
   list-there count at ts e d l k q =
       let h = list-level count at (read ts e d) q (λ z. never (cc)) in
       let m = list-more count at ts e d h q in
       let n = more-ends ts count at e d (λ z. absurd (m .1 z)) (m .0) in
-      let p = subst (λ (x : Parsed Tokens). Right (SpellsList (ltb 1 level)) (λ us. total us) (λ us. depth us) t (9 - level) count at x) q (list-right-all (enough t at) t level count at l k) in
+      let p = subst (λ (x : Parsed Tokens). Right (SpellsList (ltb 1 level)) (λ us. total us) (λ us. depth us) t (suc levelLimit - level) count at x) q (list-right-all (enough t at) t level count at l k) in
       let s = p .0 in
       let w = stand t (TokenList level ts) at e (s .string) (s .split) (list-derived ts level (s .string) l (p .3) (s .spelled .0) (s .spelled .1)) (n .0) (s .reach) in
       fault.listed h w (p .1) (p .2) (missing-there t level d e (l, h) (n .1))
@@ -109,12 +110,12 @@ list-here {t} {level} {count} {at} l (fault.listed {d = d} {e = e} {ts = ts} h m
     let s = stood m in
     let p = list-spells l h (s .3) in
     let z = s .5 in
-    let i : depth ts ≤ 9 - level = p .2 in
+    let i : depth ts ≤ suc levelLimit - level = p .2 in
     let o : token t level (count + total ts) (at + length (s .0)) ≡ missing = ap₂ (λ (a b : ℕ). token t level a b) (sym c) (sym z) ∙ missing-here t level d e (l, h) n in
     let q = more-is-read ts t level count at (s .0) (s .1) (s .2) (s .4) o (p .0) l (omega arith) (omega arith) in
     (ts, list-bounded t level count at ts e d h (p .1) (q ∙ ap₂ (λ (a b : ℕ). read ts a b) (sym z) (sym c)))
 
-pub list-stands : (t : List ℕ) (level count at d e : ℕ) → 1 ≤ level → count ≤ 512 → ((ts : Tokens) × (list t level count at ≡ read ts e d)) ↔ Listed t level count at d e
+pub list-stands : (t : List ℕ) (level count at d e : ℕ) → 1 ≤ level → count ≤ tokenLimit → ((ts : Tokens) × (list t level count at ≡ read ts e d)) ↔ Listed t level count at d e
 list-stands t level count at d e l k = ((λ q. list-there t level count at (q .0) e d l k (q .1)), λ m. list-here l m)
 
 -- and it is missing exactly if its first token is
@@ -134,7 +135,7 @@ more-some (suc n) t level count at h q =
     go missing i k = let z = more-none t level count at i in never (cc)
     go (stopped r p) i k = let z = more-stopped t level count at i in never (cc)
 
-token-first : (t : List ℕ) (level count at : ℕ) → level ≤ 8 → list t level count at ≡ missing → token t level count at ≡ missing
+token-first : (t : List ℕ) (level count at : ℕ) → level ≤ levelLimit → list t level count at ≡ missing → token t level count at ≡ missing
 unfolding listOf Chain
 token-first t level count at l q = go (more t level count at) refl (sym (list-of t level count at l) ∙ q)
   where
@@ -148,7 +149,7 @@ token-first t level count at l q = go (more t level count at) refl (sym (list-of
     go missing i z = absurd (more-some (suc (length t - at)) t level count at (omega arith) i)
     go (stopped r p) i z = never (cc)
 
-pub list-missing : (t : List ℕ) (level count at : ℕ) → 1 ≤ level → (list t level count at ≡ missing) ↔ ((level ≤ 8) × Missing t level at)
+pub list-missing : (t : List ℕ) (level count at : ℕ) → 1 ≤ level → (list t level count at ≡ missing) ↔ ((level ≤ levelLimit) × Missing t level at)
 unfolding listOf
 list-missing t level count at l = (
   (λ q.

@@ -8,6 +8,7 @@ use Prim.Native.Nat.{ℕ, suc, _+_, _-_, _*_, _^_, _≤_, _<_}
 use native.Mathlib.Nat.{pow-suc}
 use native.Mathlib.Omega.{arith}
 use lib.ListN.{length, drop}
+use Rattle.meaning.specs.Limits.{numberLimit}
 use Rattle.reading.specs.Blanks.{here, skip}
 use Rattle.reading.specs.Given as given
 use Rattle.reading.specs.Pieces.{Seen, found, within, numeral, numberAt}
@@ -21,7 +22,7 @@ use Rattle.grammar.proofs.Standing.{after, here-is, here-cons, skip-cle
 use Rattle.grammar.proofs.DigitLaws.{in-within, digits-split}
 use Rattle.grammar.proofs.Fronts.{cons-clear, mark-seen}
 use Rattle.grammar.proofs.PiecesSpelled.{Sound, number-sound, decimals-here}
-use Rattle.grammar.proofs.PiecesRead.{digits-front, number-seen, no-digit-45, no-digit-93}
+use Rattle.grammar.proofs.PiecesRead.{digits-front, number-seen, no-digit-dash, no-digit-closing}
 use Rattle.grammar.proofs.RulesSpell.{mark-spells, number-spells, numeral-spells}
 use Rattle.grammar.proofs.SpellingDerived.{clear-spells, clear-derived, mark-derived, number-derived, numeral-derived}
 
@@ -46,17 +47,17 @@ mark-here {t} {c} {at} m =
     (q .0, s .5 ∙ sym (q .1))
 
 -- no blank stands at a sign
-sign-clear : (t : List ℕ) (x c : ℕ) → here t x ≡ c → 33 ≤ c → NoBlank (drop x t)
+sign-clear : (t : List ℕ) (x c : ℕ) → here t x ≡ c → code " " < c → NoBlank (drop x t)
 sign-clear t x c h k = subst NoBlank (sym (here-cons t x c h (omega arith))) (cons-clear c (drop (suc x) t) k)
 
 -- a number before a sign
-pub number-there : (t : List ℕ) (x n s y c : ℕ) → numberAt t x ≡ found n s y → here t y ≡ c → 33 ≤ c → fault.Stands t (Number n) x y
+pub number-there : (t : List ℕ) (x n s y c : ℕ) → numberAt t x ≡ found n s y → here t y ≡ c → code " " < c → fault.Stands t (Number n) x y
 unfolding Sound
 number-there t x n s y c q h k =
     let m = subst (λ (v : Seen ℕ). Sound spelling.Number t x v) q (number-sound t x) in
     stand t (Number n) x y (m .string) (m .split) (number-derived n (m .string) (m .spelled)) (sign-clear t y c h k) (m .reach)
 
-pub number-here : {t : List ℕ} {x n y : ℕ} (c : ℕ) → fault.Stands t (Number n) x y → here t y ≡ c → within 48 57 c ≡ false → 33 ≤ c → (s : ℕ) × (numberAt t x ≡ found n s y)
+pub number-here : {t : List ℕ} {x n y : ℕ} (c : ℕ) → fault.Stands t (Number n) x y → here t y ≡ c → within (code "0") (code "9") c ≡ false → code " " < c → (s : ℕ) × (numberAt t x ≡ found n s y)
 number-here {t} {x} {n} {y} c m h d k =
     let s = stood m in
     let w = s .0 in
@@ -66,20 +67,20 @@ number-here {t} {x} {n} {y} c m h d k =
     (f .0, f .1 ∙ ap (λ (i : ℕ). found n (f .0) i) (sym (s .5)))
 
 -- what stands before a jump's dash
-pub from-there : {t : List ℕ} {x n y : ℕ} → given.From t x n y → here t y ≡ 45 → fault.From t x n y
-from-there {t} {x} (given.number {n = n} {s = s} {x = y} q) h = fault.number (number-there t x n s y 45 q h (omega arith))
+pub from-there : {t : List ℕ} {x n y : ℕ} → given.From t x n y → here t y ≡ code "-" → fault.From t x n y
+from-there {t} {x} (given.number {n = n} {s = s} {x = y} q) h = fault.number (number-there t x n s y (code "-") q h (omega arith))
 from-there (given.nothing q) h = fault.nothing
 
-pub from-here : {t : List ℕ} {x n y : ℕ} → fault.From t x n y → here t y ≡ 45 → given.From t x n y
-from-here (fault.number m) h = given.number (number-here 45 m h no-digit-45 (omega arith) .1)
-from-here {t} {x} fault.nothing h = given.nothing (number-absent t x (ap (within 48 57) h ∙ no-digit-45))
+pub from-here : {t : List ℕ} {x n y : ℕ} → fault.From t x n y → here t y ≡ code "-" → given.From t x n y
+from-here (fault.number m) h = given.number (number-here (code "-") m h no-digit-dash (omega arith) .1)
+from-here {t} {x} fault.nothing h = given.nothing (number-absent t x (ap (within (code "0") (code "9")) h ∙ no-digit-dash))
 
 -- jumps
 pub jumps-there : {t : List ℕ} {at m stop : ℕ} {to : Option ℕ} → given.Jumps t at m to stop → fault.Jumps t at m to
 jumps-there {t} {at} (given.single {n = n} {s = s} {x = x} h q k) =
-    fault.single (mark-there t "[" at h (omega arith)) (number-there t (skip t (at + 1)) n s x 93 q k (omega arith)) (mark-there t "]" x k (omega arith))
+    fault.single (mark-there t "[" at h (omega arith)) (number-there t (skip t (at + 1)) n s x (code "]") q k (omega arith)) (mark-there t "]" x k (omega arith))
 jumps-there {t} {at} (given.bounded {to = to} {s = s} {x = x} {y = y} h f d q k) =
-    fault.bounded (mark-there t "[" at h (omega arith)) (from-there f d) (mark-there t "-" x d (omega arith)) (number-there t (skip t (x + 1)) to s y 93 q k (omega arith)) (mark-there t "]" y k (omega arith))
+    fault.bounded (mark-there t "[" at h (omega arith)) (from-there f d) (mark-there t "-" x d (omega arith)) (number-there t (skip t (x + 1)) to s y (code "]") q k (omega arith)) (mark-there t "]" y k (omega arith))
 jumps-there {t} {at} (given.unbounded {x = x} h f d q k) =
     fault.unbounded (mark-there t "[" at h (omega arith)) (from-there f d) (mark-there t "-" x d (omega arith)) (mark-there t "]" (skip t (x + 1)) k (omega arith))
 
@@ -87,20 +88,20 @@ pub jumps-here : {t : List ℕ} {at m : ℕ} {to : Option ℕ} → fault.Jumps t
 jumps-here {t} {at} (fault.single {n = n} {x = x} {y = y} a b c) =
     let i = mark-here a in
     let k = mark-here c in
-    let q = number-here 93 b (k .0) no-digit-93 (omega arith) in
+    let q = number-here (code "]") b (k .0) no-digit-closing (omega arith) in
     (y + 1, given.single (i .0) (ap (numberAt t) (sym (i .1)) ∙ q .1) (k .0))
 jumps-here {t} {at} (fault.bounded {m = m} {n = n} {x = x} {y = y} {z = z} {u = u} a f b c d) =
     let i = mark-here a in
     let j = mark-here b in
     let k = mark-here d in
-    let q = number-here 93 c (k .0) no-digit-93 (omega arith) in
+    let q = number-here (code "]") c (k .0) no-digit-closing (omega arith) in
     (u + 1, given.bounded (i .0) (subst (λ (v : ℕ). given.From t v m y) (i .1) (from-here f (j .0))) (j .0) (ap (numberAt t) (sym (j .1)) ∙ q .1) (k .0))
 jumps-here {t} {at} (fault.unbounded {m = m} {x = x} {y = y} {z = z} a f b c) =
     let i = mark-here a in
     let j = mark-here b in
     let k = mark-here c in
-    let e : here t (skip t (y + 1)) ≡ 93 = ap (λ (v : ℕ). here t v) (sym (j .1)) ∙ k .0 in
-    (skip t (y + 1) + 1, given.unbounded (i .0) (subst (λ (v : ℕ). given.From t v m y) (i .1) (from-here f (j .0))) (j .0) (number-absent t (skip t (y + 1)) (ap (within 48 57) e ∙ no-digit-93)) e)
+    let e : here t (skip t (y + 1)) ≡ code "]" = ap (λ (v : ℕ). here t v) (sym (j .1)) ∙ k .0 in
+    (skip t (y + 1) + 1, given.unbounded (i .0) (subst (λ (v : ℕ). given.From t v m y) (i .1) (from-here f (j .0))) (j .0) (number-absent t (skip t (y + 1)) (ap (within (code "0") (code "9")) e ∙ no-digit-closing)) e)
 
 -- digits spell no less with more digits after them
 digits-least : (n : ℕ) (d r : List ℕ) → Decimals d → n * 10 ^ length d + value d ≤ numeral n (d ++ r)
@@ -108,9 +109,9 @@ unfolding numeral Decimals value
 digits-least n [] r p = let h : n ≤ numeral n r = numeral-from n r in omega arith
 digits-least n (x ∷ d) r p =
     let q : 10 ^ suc (length d) ≡ 10 ^ length d * 10 = pow-suc 10 (length d) in
-    let i : (10 * n + (x - 48)) * 10 ^ length d + value d ≤ numeral (10 * n + (x - 48)) (d ++ r) = digits-least (10 * n + (x - 48)) d r (p .2) in
-    let e : n * 10 ^ suc (length d) + ((x - 48) * 10 ^ length d + value d) ≡ (10 * n + (x - 48)) * 10 ^ length d + value d = rw q (omega arith) in
-    rw (in-within 48 57 x (p .0) (p .1)) (omega arith)
+    let i : (10 * n + (x - code "0")) * 10 ^ length d + value d ≤ numeral (10 * n + (x - code "0")) (d ++ r) = digits-least (10 * n + (x - code "0")) d r (p .2) in
+    let e : n * 10 ^ suc (length d) + ((x - code "0") * 10 ^ length d + value d) ≡ (10 * n + (x - code "0")) * 10 ^ length d + value d = rw q (omega arith) in
+    rw (in-within (code "0") (code "9") x (p .0) (p .1)) (omega arith)
 
 -- numbers that are too big
 pub big-there : (t : List ℕ) (x : ℕ) → given.Big t x → fault.Big t x
@@ -119,7 +120,7 @@ big-there t x b =
     let k = decimals-here t x (b .0) in
     let v = p .5 in
     let l = p .4 in
-    let h : 4294967295 < numeral 0 (drop x t) = b .1 in
+    let h : numberLimit < numeral 0 (drop x t) = b .1 in
     fault.big (p .1) (p .2) (numeral-derived (p .0) (p .3) (omega arith)) (omega arith)
 
 pub big-here : {t : List ℕ} {x : ℕ} → fault.Big t x → given.Big t x
@@ -130,4 +131,4 @@ big-here {t} {x} (fault.big {n = n} {s = s} r h p l) =
     let k : 0 * 10 ^ length s + value s ≤ numeral 0 (s ++ r) = digits-least 0 s r (q .0) in
     let e : numeral 0 (drop x t) ≡ numeral 0 (s ++ r) = ap (numeral 0) h in
     let v : n ≡ value s = q .2 in
-    (ap (within 48 57) i ∙ f .3, omega arith)
+    (ap (within (code "0") (code "9")) i ∙ f .3, omega arith)

@@ -3,6 +3,7 @@ use mathlib.Core.Path.{refl}
 use mathlib.Core.Option.{some}
 use mathlib.Core.Logic.{inl}
 use mathlib.Core.List.{[], _∷_}
+use Prim.Native.Char.{code}
 use Prim.Native.Nat.{ℕ, _+_, _≤_, _<_}
 use native.Mathlib.Omega.{arith}
 use Rattle.base.specs.Text.{ascii}
@@ -21,7 +22,7 @@ use Rattle.grammar.proofs.FaultPieces.{mark-here}
 use Rattle.grammar.proofs.FaultTokens.{missing-there}
 use Rattle.grammar.proofs.Samples.{none, one, ab, cd}
 
-clear : (c : ℕ) {s : Text} → 33 ≤ c → Clear (c ∷ s)
+clear : (c : ℕ) {s : Text} → code " " < c → Clear (c ∷ s)
 clear c h = rule.other (λ b. past-blanks c h (blank-spells b))
 
 -- `AB CD ` ends at 8, where no `}` stands
@@ -35,7 +36,7 @@ third = missing-there two-bytes 1 2 8 (omega arith, omega arith) refl
 pub not-closed : Fault (ascii "{ AB CD x }") Unexpected 8
 unfolding total totalIn totals
 not-closed =
-    fault.not-closed (fault.outermost (omega arith) (fault.stands {s = ascii "{ "} {r = ascii "AB CD x }"} refl (rule.mark one) (clear 65 (omega arith))))
+    fault.not-closed (fault.outermost (omega arith) (fault.stands {s = ascii "{ "} {r = ascii "AB CD x }"} refl (rule.mark one) (clear (code "A") (omega arith))))
     (fault.listed (omega arith) (fault.stands {s = ascii "AB CD "} {r = ascii "x }"} refl (rule.more {a = ascii "AB "} refl ab (rule.list (rule.only cd))) (clear 120 (omega arith))) refl (omega arith) third)
     (λ e m. let h = mark-here m .0 in omega arith)
 
@@ -43,8 +44,8 @@ not-closed =
 abbrev then-jump : Text
 then-jump = ascii "{ AB [2-3] [x }"
 
-figure : (v : ℕ) → v < 10 → rule.Number v ((48 + v) ∷ [])
-figure v h = rule.number {a = (48 + v) ∷ []} {b = []} (rule.digit {v = v} h) none (omega arith)
+figure : (v : ℕ) → v < 10 → rule.Number v ((code "0" + v) ∷ [])
+figure v h = rule.number {a = (code "0" + v) ∷ []} {b = []} (rule.digit {v = v} h) none (omega arith)
 
 jump : Gap 1 (Jump 2 (some 3)) (ascii "[2-3] ")
 jump =
@@ -59,6 +60,6 @@ pub ends-with-jump : Fault (ascii "{ AB [2-3] [x }") JumpAtBound 2
 unfolding totalIn
 ends-with-jump =
     fault.jump-last
-    (fault.next (fault.first (fault.outermost (omega arith) (fault.stands {s = ascii "{ "} {r = ascii "AB [2-3] [x }"} refl (rule.mark one) (clear 65 (omega arith)))) (omega arith))
-    (fault.stands {s = ascii "AB "} {r = ascii "[2-3] [x }"} refl (inl ab) (clear 91 (omega arith))) refl (omega arith))
-    (fault.stands {s = ascii "[2-3] "} {r = ascii "[x }"} refl jump (clear 91 (omega arith))) (omega arith) after-jump
+    (fault.next (fault.first (fault.outermost (omega arith) (fault.stands {s = ascii "{ "} {r = ascii "AB [2-3] [x }"} refl (rule.mark one) (clear (code "A") (omega arith)))) (omega arith))
+    (fault.stands {s = ascii "AB "} {r = ascii "[2-3] [x }"} refl (inl ab) (clear (code "[") (omega arith))) refl (omega arith))
+    (fault.stands {s = ascii "[2-3] "} {r = ascii "[x }"} refl jump (clear (code "[") (omega arith))) (omega arith) after-jump

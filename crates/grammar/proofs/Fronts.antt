@@ -4,6 +4,7 @@ use mathlib.Core.Bool.{Bool}
 use mathlib.Core.Logic.{_⊎_, inl, inr}
 use mathlib.Core.Option.{Option, none, some}
 use mathlib.Core.List.{List, [], _∷_, _++_}
+use Prim.Native.Char.{code}
 use Prim.Native.Nat.{ℕ, suc, _+_, _<_, _≤_}
 use native.Mathlib.Omega.{arith}
 use lib.ListN.{length, drop}
@@ -14,16 +15,16 @@ use Rattle.grammar.proofs.Standing.{after, here-is, skips}
 
 -- a string that begins with a byte past the blanks
 abbrev pub Opens : List ℕ → Type 0
-Opens w = (c : ℕ) × (u : List ℕ) × (w ≡ c ∷ u) × (33 ≤ c)
+Opens w = (c : ℕ) × (u : List ℕ) × (w ≡ c ∷ u) × (code " " < c)
 
-pub past-blanks : (c : ℕ) → 33 ≤ c → Blank c → ⊥
+pub past-blanks : (c : ℕ) → code " " < c → Blank c → ⊥
 unfolding Blank
 past-blanks c h (inl e) = omega arith
 past-blanks c h (inr (inl e)) = omega arith
 past-blanks c h (inr (inr (inl e))) = omega arith
 past-blanks c h (inr (inr (inr e))) = omega arith
 
-pub cons-clear : (c : ℕ) (r : List ℕ) → 33 ≤ c → NoBlank (c ∷ r)
+pub cons-clear : (c : ℕ) (r : List ℕ) → code " " < c → NoBlank (c ∷ r)
 unfolding NoBlank
 cons-clear c r h = λ b. past-blanks c h b
 
@@ -33,22 +34,22 @@ opens-clear w r o = subst NoBlank (ap (λ (s : List ℕ). s ++ r) (sym (o .2))) 
 pub opens-seq : (w a b : List ℕ) → w ≡ a ++ b → Opens a → Opens w
 opens-seq w a b h o = (o .0, o .1 ++ b, h ∙ ap (λ (s : List ℕ). s ++ b) (o .2), o .3)
 
-pub digit-range : (c v : ℕ) → Digit c v → (48 ≤ c) × (c ≤ 102) × (c ≡ 63 → ⊥)
+pub digit-range : (c v : ℕ) → Digit c v → (code "0" ≤ c) × (c ≤ code "f") × (c ≡ code "?" → ⊥)
 digit-range c v (decimal l e) = (omega arith, omega arith, omega arith)
 digit-range c v (upper k l e) = (omega arith, omega arith, omega arith)
 digit-range c v (lower k l e) = (omega arith, omega arith, omega arith)
 
-sign-opens : (c : ℕ) (w : List ℕ) → 33 ≤ c → Sign c w → Opens w
+sign-opens : (c : ℕ) (w : List ℕ) → code " " < c → Sign c w → Opens w
 unfolding Sign
 sign-opens c w h p = (c, [], p, h)
 
-pub mark-opens : (c : ℕ) (w : List ℕ) → 33 ≤ c → Marked c w → Opens w
+pub mark-opens : (c : ℕ) (w : List ℕ) → code " " < c → Marked c w → Opens w
 unfolding Marked Spaced _⨾_
 mark-opens c w h p = opens-seq w (p .0) (p .1) (p .2) (sign-opens c (p .0) h (p .3))
 
 -- and with none past the digits
 abbrev pub OpensLow : List ℕ → Type 0
-OpensLow w = (c : ℕ) × (u : List ℕ) × (w ≡ c ∷ u) × (33 ≤ c) × (c ≤ 102)
+OpensLow w = (c : ℕ) × (u : List ℕ) × (w ≡ c ∷ u) × (code " " < c) × (c ≤ code "f")
 
 low-opens : (w : List ℕ) → OpensLow w → Opens w
 low-opens w o = (o .0, o .1, o .2, o .3)
@@ -56,9 +57,9 @@ low-opens w o = (o .0, o .1, o .2, o .3)
 low-seq : (w a b : List ℕ) → w ≡ a ++ b → OpensLow a → OpensLow w
 low-seq w a b h o = (o .0, o .1 ++ b, h ∙ ap (λ (s : List ℕ). s ++ b) (o .2), o .3, o .4)
 
-sign-low : (w : List ℕ) → Sign 63 w → OpensLow w
+sign-low : (w : List ℕ) → Sign (code "?") w → OpensLow w
 unfolding Sign
-sign-low w p = (63, [], p, omega arith, omega arith)
+sign-low w p = (code "?", [], p, omega arith, omega arith)
 
 digit-low : (v : ℕ) (w : List ℕ) → HexDigit v w → OpensLow w
 unfolding HexDigit
@@ -67,7 +68,7 @@ digit-low v w p = let d = digit-range (p .0) v (p .2) in (p .0, [], p .1, omega 
 numeral-opens : (n : ℕ) (w : List ℕ) → Numeral n w → Opens w
 unfolding Numeral Decimals
 numeral-opens n [] p = let z : 0 < 0 = p .1 in absurd (omega arith)
-numeral-opens n (c ∷ w) p = let q : 48 ≤ c = p .0 .0 in (c, w, refl, omega arith)
+numeral-opens n (c ∷ w) p = let q : code "0" ≤ c = p .0 .0 in (c, w, refl, omega arith)
 
 pub number-opens : (n : ℕ) (w : List ℕ) → Number n w → Opens w
 unfolding Number Spaced _⨾_
@@ -93,11 +94,11 @@ masked-low v left w p = let q = p .3 in low-seq w (p .0) (p .1) (p .2) (low-seq 
 masked-low v right w p = let q = p .3 in low-seq w (p .0) (p .1) (p .2) (low-seq (p .0) (q .0) (q .1) (q .2) (digit-low v (q .0) (q .3)))
 masked-low v all w p = let q = p .3 .1 in low-seq w (p .0) (p .1) (p .2) (low-seq (p .0) (q .0) (q .1) (q .2) (sign-low (q .0) (q .3)))
 
-not-opens : (P : Language) (w : List ℕ) → (Sign 126 ⨾ P) w → Opens w
+not-opens : (P : Language) (w : List ℕ) → (Sign (code "~") ⨾ P) w → Opens w
 unfolding _⨾_
-not-opens P w p = opens-seq w (p .0) (p .1) (p .2) (sign-opens 126 (p .0) (omega arith) (p .3))
+not-opens P w p = opens-seq w (p .0) (p .1) (p .2) (sign-opens (code "~") (p .0) (omega arith) (p .3))
 
-marked-opens : (c : ℕ) (P : Language) (w : List ℕ) → 33 ≤ c → (Marked c ⨾ P) w → Opens w
+marked-opens : (c : ℕ) (P : Language) (w : List ℕ) → code " " < c → (Marked c ⨾ P) w → Opens w
 unfolding _⨾_
 marked-opens c P w h p = opens-seq w (p .0) (p .1) (p .2) (mark-opens c (p .0) h (p .3))
 
@@ -106,8 +107,8 @@ unfolding Bounds Bracketed Single Dashed
 bounds-opens from to w p = go (p .1)
   where
     go : ((to ≡ some from) × Single from w) ⊎ Dashed from to w → Opens w
-    go (inl q) = marked-opens 91 (Number from ⨾ Marked 93) w (omega arith) (q .1)
-    go (inr q) = marked-opens 91 (From from ⨾ (Marked 45 ⨾ (To to ⨾ Marked 93))) w (omega arith) q
+    go (inl q) = marked-opens (code "[") (Number from ⨾ Marked (code "]")) w (omega arith) (q .1)
+    go (inr q) = marked-opens (code "[") (From from ⨾ (Marked (code "-") ⨾ (To to ⨾ Marked (code "]")))) w (omega arith) q
 
 as-jump-opens : (v : ℕ) (m : Mask) (w : List ℕ) → AsJump v m w → Opens w
 unfolding AsJump
@@ -123,7 +124,7 @@ token-opens inside (MaskedByte v m) w (inl p) = low-opens w (masked-low v m w p)
 token-opens inside (MaskedByte v m) w (inr p) = as-jump-opens v m w p
 token-opens inside (NotMaskedByte v m) w p = not-opens (Spaced (Masked v m)) w (p .1)
 token-opens inside (Jump from to) w p = bounds-opens from to w (p .0)
-token-opens inside (Alternatives ls) w p = marked-opens 40 (λ b. SpellsLists ls b) w (omega arith) p
+token-opens inside (Alternatives ls) w p = marked-opens (code "(") (λ b. SpellsLists ls b) w (omega arith) p
 
 -- blanks end at tokens, or at what follows where there are none
 pub tokens-clear : (inside : Bool) (ts : Tokens) (w r : List ℕ) → SpellsTokens inside ts w → NoBlank r → NoBlank (w ++ r)

@@ -4,11 +4,13 @@ use mathlib.Core.Bool.{Bool, true, false}
 use mathlib.Core.Logic.{_⊎_, inl, inr}
 use mathlib.Core.Option.{none}
 use mathlib.Core.List.{List, _∷_, _++_}
+use Prim.Native.Char.{code}
 use Prim.Native.Nat.{ℕ, suc, _+_, _<_, _≤_}
 use native.Mathlib.Omega.{arith}
 use borrow.Author.Tests.{lt-ltb}
 use lib.Dec.{ltb}
 use lib.ListN.{length, drop}
+use Rattle.meaning.specs.Limits.{tokenLimit, levelLimit}
 use Rattle.meaning.specs.Tokens.{Token, Tokens, Lists, Byte, NotByte, MaskedByte, NotMaskedByte, Jump, Alternatives, nothing, _then_, neither, _or_, totalIn, total, totals}
 use Rattle.reading.specs.Blanks.{here, skip}
 use Rattle.reading.specs.Pieces.{found, absent, within, digit, plainAt}
@@ -24,21 +26,21 @@ use Rattle.grammar.proofs.BoundLaws.{is-bounded}
 
 -- what ends a list: `)`, `|`, `}`
 abbrev pub Closer : ℕ → Type 0
-Closer c = (c ≡ 41) ⊎ ((c ≡ 124) ⊎ (c ≡ 125))
+Closer c = (c ≡ code ")") ⊎ ((c ≡ code "|") ⊎ (c ≡ code "}"))
 
-pub closer-high : (c : ℕ) → Closer c → 33 ≤ c
+pub closer-high : (c : ℕ) → Closer c → code " " < c
 closer-high c (inl e) = omega arith
 closer-high c (inr (inl e)) = omega arith
 closer-high c (inr (inr e)) = omega arith
 
-pub no-digits : (digit 41 ≡ none) × (digit 124 ≡ none) × (digit 125 ≡ none) × (digit 40 ≡ none)
+pub no-digits : (digit (code ")") ≡ none) × (digit (code "|") ≡ none) × (digit (code "}") ≡ none) × (digit (code "(") ≡ none)
 unfolding digit within
 no-digits = (refl, refl, refl, refl)
 
 pub none-at : (t : List ℕ) (inside : Bool) (at c : ℕ) → here t at ≡ c → Closer c → plainAt t inside at ≡ absent
-none-at t inside at c h (inl e) = plain-absent t inside at 41 (h ∙ e) (no-digits .0) (omega arith) (omega arith) (omega arith)
-none-at t inside at c h (inr (inl e)) = plain-absent t inside at 124 (h ∙ e) (no-digits .1) (omega arith) (omega arith) (omega arith)
-none-at t inside at c h (inr (inr e)) = plain-absent t inside at 125 (h ∙ e) (no-digits .2) (omega arith) (omega arith) (omega arith)
+none-at t inside at c h (inl e) = plain-absent t inside at (code ")") (h ∙ e) (no-digits .0) (omega arith) (omega arith) (omega arith)
+none-at t inside at c h (inr (inl e)) = plain-absent t inside at (code "|") (h ∙ e) (no-digits .1) (omega arith) (omega arith) (omega arith)
+none-at t inside at c h (inr (inr e)) = plain-absent t inside at (code "}") (h ∙ e) (no-digits .2) (omega arith) (omega arith) (omega arith)
 
 no-bracket : (t : List ℕ) (at count c : ℕ) (ls : Parsed Lists) → here t at ≡ c → Closer c → bracketed t at count ls ≡ missing
 unfolding bracketed
@@ -54,20 +56,20 @@ token-missing t level count at c h k =
     ∙ rw (none-at t (ltb 1 level) at c h k) (no-bracket t at count c (lists t (level + 1) (count + 1) (skip t (at + 1)) (skip t (at + 1))) h k)
 
 -- a token other than alternatives
-pub token-found : (t : List ℕ) (level count at : ℕ) (tok : Token) (s e : ℕ) → plainAt t (ltb 1 level) at ≡ found tok s e → count < 512 → token t level count at ≡ read tok e (count + 1)
+pub token-found : (t : List ℕ) (level count at : ℕ) (tok : Token) (s e : ℕ) → plainAt t (ltb 1 level) at ≡ found tok s e → count < tokenLimit → token t level count at ≡ read tok e (count + 1)
 unfolding tokenOr
-token-found t level count at tok s e h l = token-step t level count at ∙ rw (h, lt-ltb count 512 l) refl
+token-found t level count at tok s e h l = token-step t level count at ∙ rw (h, lt-ltb count tokenLimit l) refl
 
 -- alternatives
-token-bracketed : (t : List ℕ) (level count at x : ℕ) (ls : Lists) (e c : ℕ) → here t at ≡ 40 → skip t (at + 1) ≡ x → count < 512
+token-bracketed : (t : List ℕ) (level count at x : ℕ) (ls : Lists) (e c : ℕ) → here t at ≡ code "(" → skip t (at + 1) ≡ x → count < tokenLimit
     → lists t (level + 1) (count + 1) x x ≡ read ls e c → token t level count at ≡ read (Alternatives ls) e c
 unfolding tokenOr bracketed asToken
 token-bracketed t level count at x ls e c h s l k =
     token-step t level count at
-    ∙ rw (plain-absent t (ltb 1 level) at 40 h (no-digits .3) (omega arith) (omega arith) (omega arith), h, s, lt-ltb count 512 l, k) refl
+    ∙ rw (plain-absent t (ltb 1 level) at (code "(") h (no-digits .3) (omega arith) (omega arith) (omega arith), h, s, lt-ltb count tokenLimit l, k) refl
 
 -- a list
-pub list-bounded : (t : List ℕ) (level count at : ℕ) (ts : Tokens) (e c : ℕ) → level ≤ 8 → Bounded ts → more t level count at ≡ read ts e c → list t level count at ≡ read ts e c
+pub list-bounded : (t : List ℕ) (level count at : ℕ) (ts : Tokens) (e c : ℕ) → level ≤ levelLimit → Bounded ts → more t level count at ≡ read ts e c → list t level count at ≡ read ts e c
 unfolding listOf Bounded
 list-bounded t level count at nothing e c l b h = absurd b
 list-bounded t level count at (tok then ts) e c l b h = list-of t level count at l ∙ rw (h, is-bounded tok ts b) refl
@@ -80,11 +82,11 @@ depth-some (tok then ts) = omega arith
 -- what follows a list begins with what ends it
 pub rest-form : (ls : Lists) (w : List ℕ) → SpellsRest ls w → (c : ℕ) × (u : List ℕ) × (w ≡ c ∷ u) × Closer c
 unfolding SpellsRest _⨾_
-rest-form neither w p = let f = marked-form 41 w p in (41, f .0, f .1, inl refl)
+rest-form neither w p = let f = marked-form (code ")") w p in (code ")", f .0, f .1, inl refl)
 rest-form (ts or ls) w p =
     let q = p .1 in
-    let f = marked-form 124 (q .0) (q .3) in
-    (124, f .0 ++ q .1, q .2 ∙ ap (λ (s : List ℕ). s ++ q .1) (f .1), inr (inl refl))
+    let f = marked-form (code "|") (q .0) (q .3) in
+    (code "|", f .0 ++ q .1, q .2 ∙ ap (λ (s : List ℕ). s ++ q .1) (f .1), inr (inl refl))
 
 pub rest-opens : (ls : Lists) (w : List ℕ) → SpellsRest ls w → Opens w
 rest-opens ls w p = let f = rest-form ls w p in (f .0, f .1, f .2, closer-high (f .0) (f .3))
@@ -93,23 +95,23 @@ rest-opens ls w p = let f = rest-form ls w p in (f .0, f .1, f .2, closer-high (
 -- with levels left and tokens to spare, it is read whole
 abbrev pub TokenRead : Token → Type 0
 TokenRead tok =
-    (t : List ℕ) (level count at : ℕ) (w r : List ℕ) → drop at t ≡ w ++ r → NoBlank r → SpellsToken (ltb 1 level) tok w → 1 ≤ level → level + depthIn tok ≤ 8
-    → count + totalIn tok ≤ 512 → token t level count at ≡ read tok (at + length w) (count + totalIn tok)
+    (t : List ℕ) (level count at : ℕ) (w r : List ℕ) → drop at t ≡ w ++ r → NoBlank r → SpellsToken (ltb 1 level) tok w → 1 ≤ level → level + depthIn tok ≤ levelLimit
+    → count + totalIn tok ≤ tokenLimit → token t level count at ≡ read tok (at + length w) (count + totalIn tok)
 
 abbrev pub MoreRead : Tokens → Type 0
 MoreRead ts =
     (t : List ℕ) (level count at : ℕ) (w r : List ℕ) → drop at t ≡ w ++ r → NoBlank r → token t level (count + total ts) (at + length w) ≡ missing → SpellsTokens (ltb 1 level) ts w
-    → 1 ≤ level → level + depth ts ≤ 9 → count + total ts ≤ 512 → more t level count at ≡ read ts (at + length w) (count + total ts)
+    → 1 ≤ level → level + depth ts ≤ suc levelLimit → count + total ts ≤ tokenLimit → more t level count at ≡ read ts (at + length w) (count + total ts)
 
 abbrev pub ListsRead : Lists → Type 0
 ListsRead ls =
-    (t : List ℕ) (level count at miss : ℕ) (w r : List ℕ) → drop at t ≡ w ++ r → NoBlank r → SpellsLists ls w → 2 ≤ level → level + depths ls ≤ 9
-    → count + totals ls ≤ 512 → lists t level count at miss ≡ read ls (at + length w) (count + totals ls)
+    (t : List ℕ) (level count at miss : ℕ) (w r : List ℕ) → drop at t ≡ w ++ r → NoBlank r → SpellsLists ls w → 2 ≤ level → level + depths ls ≤ suc levelLimit
+    → count + totals ls ≤ tokenLimit → lists t level count at miss ≡ read ls (at + length w) (count + totals ls)
 
 abbrev pub RestRead : Lists → Type 0
 RestRead ls =
     (t : List ℕ) (level count at miss : ℕ) (ts : Tokens) (x n : ℕ) (w r : List ℕ) → list t level count at ≡ read ts x n → drop x t ≡ w ++ r → NoBlank r → SpellsRest ls w
-    → 2 ≤ level → level + depths ls ≤ 9 → n + totals ls ≤ 512 → lists t level count at miss ≡ read (ts or ls) (x + length w) (n + totals ls)
+    → 2 ≤ level → level + depths ls ≤ suc levelLimit → n + totals ls ≤ tokenLimit → lists t level count at miss ≡ read (ts or ls) (x + length w) (n + totals ls)
 
 plain-read : (tok : Token) → Plain tok → TokenRead tok
 plain-read tok k t level count at w r h q p l d n =
@@ -133,7 +135,7 @@ alternatives-read ls k t level count at w r h q p l d n =
     let a = p .0 in
     let b = p .1 in
     let c = cut t at w a b r h (p .2) in
-    let m = mark-seen t at 40 a (b ++ r) (c .0) (p .3) (lists-clear ls b r (p .4)) in
+    let m = mark-seen t at (code "(") a (b ++ r) (c .0) (p .3) (lists-clear ls b r (p .4)) in
     let v : length w ≡ length a + length b = c .2 in
     let e : at + length a + length b ≡ at + length w = omega arith in
     let y : count + 1 + totals ls ≡ count + suc (totals ls) = omega arith in
@@ -166,7 +168,7 @@ then-read tok ts x y t level count at w r h q k p l d n =
 
 -- a list before what ends it
 list-read : (ts : Tokens) → MoreRead ts → (t : List ℕ) (level count at : ℕ) (w : List ℕ) (c : ℕ) (r : List ℕ) → drop at t ≡ w ++ (c ∷ r) → Closer c → SpellsTokens (ltb 1 level) ts w
-    → Bounded ts → 1 ≤ level → level + depth ts ≤ 9 → count + total ts ≤ 512 → list t level count at ≡ read ts (at + length w) (count + total ts)
+    → Bounded ts → 1 ≤ level → level + depth ts ≤ suc levelLimit → count + total ts ≤ tokenLimit → list t level count at ≡ read ts (at + length w) (count + total ts)
 list-read ts x t level count at w c r h k p b l d n =
     let i : 1 ≤ depth ts = depth-some ts in
     let m : token t level (count + total ts) (at + length w) ≡ missing =
@@ -175,7 +177,7 @@ list-read ts x t level count at w c r h k p b l d n =
 
 -- a list in brackets and what follows it
 both-read : (ts : Tokens) (ls : Lists) → MoreRead ts → RestRead ls → (t : List ℕ) (level count at miss : ℕ) (w r : List ℕ) → drop at t ≡ w ++ r → NoBlank r → Bounded ts
-    → ((λ a. SpellsTokens true ts a) ⨾ (λ b. SpellsRest ls b)) w → 2 ≤ level → level + depths (ts or ls) ≤ 9 → count + totals (ts or ls) ≤ 512
+    → ((λ a. SpellsTokens true ts a) ⨾ (λ b. SpellsRest ls b)) w → 2 ≤ level → level + depths (ts or ls) ≤ suc levelLimit → count + totals (ts or ls) ≤ tokenLimit
     → lists t level count at miss ≡ read (ts or ls) (at + length w) (count + totals (ts or ls))
 unfolding _⨾_ totals depths
 both-read ts ls x y t level count at miss w r h q b p l d n =
@@ -194,7 +196,7 @@ both-read ts ls x y t level count at miss w r h q b p l d n =
 last-read : RestRead neither
 unfolding SpellsRest totals
 last-read t level count at miss ts x n w r f h q p l d g =
-    let m = mark-seen t x 41 w r h p q in
+    let m = mark-seen t x (code ")") w r h p q in
     let y : n ≡ n + 0 = omega arith in
     lists-closed t level count at miss f (m .0) ∙ ap₂ (λ (e k : ℕ). read (ts or neither) e k) (m .1) y
 
@@ -207,7 +209,7 @@ next-read us ls i j t level count at miss ts x n w r f h q p l d g =
     let s = cut t x w a u r h (p .1 .2) in
     let c = cut t (x + length a) u (v .0) (v .1) r (s .1) (v .2) in
     let clear : NoBlank (v .0 ++ (v .1 ++ r)) = tokens-clear true us (v .0) (v .1 ++ r) (v .3) (opens-clear (v .1) r (rest-opens ls (v .1) (v .4))) in
-    let m = mark-seen t x 124 a (u ++ r) (s .0) (p .1 .3) (subst NoBlank (sym (c .0) ∙ s .1) clear) in
+    let m = mark-seen t x (code "|") a (u ++ r) (s .0) (p .1 .3) (subst NoBlank (sym (c .0) ∙ s .1) clear) in
     let k : length w ≡ length a + length u = s .2 in
     let e : x + length a + length u ≡ x + length w = omega arith in
     lists-barred t level count at miss f (m .0) ∙ ap (λ (z : ℕ). beside ts (lists t level n z x)) (m .1)
@@ -245,11 +247,11 @@ mutual
   rest-is-read (ts or ls) = next-read ts ls (more-is-read ts) (rest-is-read ls)
 
 -- the outer list, before its `}`
-pub outer-clear : (ts : Tokens) (w r : List ℕ) → (SpellsList false ts ⨾ Marked 125) w → NoBlank (w ++ r)
+pub outer-clear : (ts : Tokens) (w r : List ℕ) → (SpellsList false ts ⨾ Marked (code "}")) w → NoBlank (w ++ r)
 unfolding _⨾_
 outer-clear ts w r p =
-    subst NoBlank (sym (cut (w ++ r) 0 w (p .0) (p .1) r refl (p .2) .0)) (tokens-clear false ts (p .0) (p .1 ++ r) (p .3 .1) (opens-clear (p .1) r (mark-opens 125 (p .1) (omega arith) (p .4))))
+    subst NoBlank (sym (cut (w ++ r) 0 w (p .0) (p .1) r refl (p .2) .0)) (tokens-clear false ts (p .0) (p .1 ++ r) (p .3 .1) (opens-clear (p .1) r (mark-opens (code "}") (p .1) (omega arith) (p .4))))
 
-pub outer-is-read : (ts : Tokens) (t : List ℕ) (at : ℕ) (w r : List ℕ) → drop at t ≡ w ++ (125 ∷ r) → SpellsTokens false ts w → Bounded ts → depth ts ≤ 8 → total ts ≤ 512
+pub outer-is-read : (ts : Tokens) (t : List ℕ) (at : ℕ) (w r : List ℕ) → drop at t ≡ w ++ (code "}" ∷ r) → SpellsTokens false ts w → Bounded ts → depth ts ≤ levelLimit → total ts ≤ tokenLimit
     → list t 1 0 at ≡ read ts (at + length w) (0 + total ts)
-outer-is-read ts t at w r h p b d n = list-read ts (more-is-read ts) t 1 0 at w 125 r h (inr (inr refl)) p b (omega arith) (omega arith) (omega arith)
+outer-is-read ts t at w r h p b d n = list-read ts (more-is-read ts) t 1 0 at w (code "}") r h (inr (inr refl)) p b (omega arith) (omega arith) (omega arith)

@@ -3,6 +3,7 @@ use mathlib.Core.Path.{_≡_, refl, sym, ap, ap₂, _∙_, subst}
 use mathlib.Core.Bool.{Bool, true, false}
 use mathlib.Core.Logic.{_⊎_, inl, inr}
 use mathlib.Core.List.{List, _∷_, _++_}
+use Prim.Native.Char.{code}
 use Prim.Native.Nat.{ℕ, _+_}
 use native.Mathlib.Omega.{arith}
 use lib.ListN.{length, drop}
@@ -22,14 +23,14 @@ mark-front t at c w a b r h p m =
     here-is t at c (f .0 ++ (b ++ r)) (cut t at w a b r h p .0 ∙ ap (λ (s : List ℕ). s ++ (b ++ r)) (f .1))
 
 -- where alternatives stand, no other token does
-bracket-front : (ls : Lists) (inside : Bool) (t : List ℕ) (at : ℕ) (w r : List ℕ) → drop at t ≡ w ++ r → SpellsToken inside (Alternatives ls) w → here t at ≡ 40
+bracket-front : (ls : Lists) (inside : Bool) (t : List ℕ) (at : ℕ) (w r : List ℕ) → drop at t ≡ w ++ r → SpellsToken inside (Alternatives ls) w → here t at ≡ code "("
 unfolding SpellsToken _⨾_
-bracket-front ls inside t at w r h p = mark-front t at 40 w (p .0) (p .1) r h (p .2) (p .3)
+bracket-front ls inside t at w r h p = mark-front t at (code "(") w (p .0) (p .1) r h (p .2) (p .3)
 
 not-both : (ls : Lists) (inside : Bool) (t : List ℕ) (at : ℕ) (tok : Token) (w r w′ r′ : List ℕ) → drop at t ≡ w ++ r → SpellsToken inside (Alternatives ls) w
     → Plain tok → drop at t ≡ w′ ++ r′ → NoBlank r′ → SpellsToken inside tok w′ → ⊥
 not-both ls inside t at tok w r w′ r′ h p k h′ q′ p′ =
-    let a = plain-absent t inside at 40 (bracket-front ls inside t at w r h p) (no-digits .3) (omega arith) (omega arith) (omega arith) in
+    let a = plain-absent t inside at (code "(") (bracket-front ls inside t at w r h p) (no-digits .3) (omega arith) (omega arith) (omega arith) in
     let f = plain-found t inside at tok w′ r′ k h′ p′ q′ in
     never (cc (a, f .1))
 
@@ -37,14 +38,14 @@ not-both ls inside t at tok w r w′ r′ h p k h′ q′ p′ =
 no-token : (inside : Bool) (t : List ℕ) (at c : ℕ) (tok : Token) (w r : List ℕ) → here t at ≡ c → Closer c → drop at t ≡ w ++ r → NoBlank r → SpellsToken inside tok w → ⊥
 no-token inside t at c tok w r e k h q p = go (plain-or tok)
   where
-    forty : c ≡ 40 → Closer c → ⊥
-    forty z (inl y) = omega arith
-    forty z (inr (inl y)) = omega arith
-    forty z (inr (inr y)) = omega arith
+    bracket : c ≡ code "(" → Closer c → ⊥
+    bracket z (inl y) = omega arith
+    bracket z (inr (inl y)) = omega arith
+    bracket z (inr (inr y)) = omega arith
 
     go : Plain tok ⊎ ((ls : Lists) × (tok ≡ Alternatives ls)) → ⊥
     go (inl l) = let f = plain-found t inside at tok w r l h p q in never (cc (none-at t inside at c e k, f .1))
-    go (inr x) = forty (sym e ∙ bracket-front (x .0) inside t at w r h (subst (λ (y : Token). SpellsToken inside y w) (x .1) p)) k
+    go (inr x) = bracket (sym e ∙ bracket-front (x .0) inside t at w r h (subst (λ (y : Token). SpellsToken inside y w) (x .1) p)) k
 
 mark-once : (t : List ℕ) (at c : ℕ) (w r w′ r′ : List ℕ) → drop at t ≡ w ++ r → NoBlank r → Marked c w → drop at t ≡ w′ ++ r′ → NoBlank r′ → Marked c w′ → length w ≡ length w′
 mark-once t at c w r w′ r′ h q p h′ q′ p′ =
@@ -92,7 +93,7 @@ alternatives-same ls k inside t at ls′ w r w′ r′ h q p h′ q′ p′ =
     let c = cut t at w (p .0) (p .1) r h (p .2) in
     let c′ = cut t at w′ (p′ .0) (p′ .1) r′ h′ (p′ .2) in
     let e : length (p .0) ≡ length (p′ .0) =
-    mark-once t at 40 (p .0) (p .1 ++ r) (p′ .0) (p′ .1 ++ r′) (c .0) (lists-clear ls (p .1) r (p .4)) (p .3) (c′ .0) (lists-clear ls′ (p′ .1) r′ (p′ .4)) (p′ .3) in
+    mark-once t at (code "(") (p .0) (p .1 ++ r) (p′ .0) (p′ .1 ++ r′) (c .0) (lists-clear ls (p .1) r (p .4)) (p .3) (c′ .0) (lists-clear ls′ (p′ .1) r′ (p′ .4)) (p′ .3) in
     let d : drop (at + length (p .0)) t ≡ p′ .1 ++ r′ = ap (λ (n : ℕ). drop (at + n) t) e ∙ c′ .1 in
     let x = k t (at + length (p .0)) ls′ (p .1) r (p′ .1) r′ (c .1) q (p .4) d q′ (p′ .4) in
     let i : length w ≡ length (p .0) + length (p .1) = c .2 in
@@ -170,17 +171,17 @@ lists-once ts ls x y t at (ts′ or ls′) w r w′ r′ h q p h′ q′ p′ = 
 
 last-once : RestOnce neither
 unfolding SpellsRest _⨾_
-last-once t at neither w r w′ r′ h q p h′ q′ p′ = (refl, mark-once t at 41 w r w′ r′ h q p h′ q′ p′)
+last-once t at neither w r w′ r′ h q p h′ q′ p′ = (refl, mark-once t at (code ")") w r w′ r′ h q p h′ q′ p′)
 last-once t at (ts or ls) w r w′ r′ h q p h′ q′ p′ =
-    let a : here t at ≡ 41 = mark-seen t at 41 w r h p q .0 in
-    let b : here t at ≡ 124 = mark-front t at 124 w′ (p′ .1 .0) (p′ .1 .1) r′ h′ (p′ .1 .2) (p′ .1 .3) in
+    let a : here t at ≡ code ")" = mark-seen t at (code ")") w r h p q .0 in
+    let b : here t at ≡ code "|" = mark-front t at (code "|") w′ (p′ .1 .0) (p′ .1 .1) r′ h′ (p′ .1 .2) (p′ .1 .3) in
     absurd (omega arith)
 
 next-once : (ts : Tokens) (ls : Lists) → MoreOnce ts → RestOnce ls → RestOnce (ts or ls)
 unfolding SpellsRest _⨾_
 next-once ts ls x y t at neither w r w′ r′ h q p h′ q′ p′ =
-    let a : here t at ≡ 41 = mark-seen t at 41 w′ r′ h′ p′ q′ .0 in
-    let b : here t at ≡ 124 = mark-front t at 124 w (p .1 .0) (p .1 .1) r h (p .1 .2) (p .1 .3) in
+    let a : here t at ≡ code ")" = mark-seen t at (code ")") w′ r′ h′ p′ q′ .0 in
+    let b : here t at ≡ code "|" = mark-front t at (code "|") w (p .1 .0) (p .1 .1) r h (p .1 .2) (p .1 .3) in
     absurd (omega arith)
 next-once ts ls x y t at (ts′ or ls′) w r w′ r′ h q p h′ q′ p′ =
     let u = p .1 in
@@ -188,7 +189,7 @@ next-once ts ls x y t at (ts′ or ls′) w r w′ r′ h q p h′ q′ p′ =
     let d = cut t at w (u .0) (u .1) r h (u .2) in
     let d′ = cut t at w′ (u′ .0) (u′ .1) r′ h′ (u′ .2) in
     let e : length (u .0) ≡ length (u′ .0) =
-    mark-once t at 124 (u .0) (u .1 ++ r) (u′ .0) (u′ .1 ++ r′) (d .0) (both-clear ts ls (u .1) r (u .4)) (u .3) (d′ .0) (both-clear ts′ ls′ (u′ .1) r′ (u′ .4)) (u′ .3) in
+    mark-once t at (code "|") (u .0) (u .1 ++ r) (u′ .0) (u′ .1 ++ r′) (d .0) (both-clear ts ls (u .1) r (u .4)) (u .3) (d′ .0) (both-clear ts′ ls′ (u′ .1) r′ (u′ .4)) (u′ .3) in
     let g = both-once ts ls x y t (at + length (u .0)) ts′ ls′ (u .1) r (u′ .1) r′ (d .1) q (u .4) (ap (λ (n : ℕ). drop (at + n) t) e ∙ d′ .1) q′ (u′ .4) in
     let l : length (u .1) ≡ length (u′ .1) = g .1 in
     let i : length w ≡ length (u .0) + length (u .1) = d .2 in
@@ -227,17 +228,17 @@ string-once t ts ts′ w r w′ r′ h q p h′ q′ p′ =
     let c = cut t 0 w (p .0) (p .1) r h (p .2) in
     let c′ = cut t 0 w′ (p′ .0) (p′ .1) r′ h′ (p′ .2) in
     let e : length (p .0) ≡ length (p′ .0) =
-    mark-once t 0 123 (p .0) (p .1 ++ r) (p′ .0) (p′ .1 ++ r′) (c .0) (outer-clear ts (p .1) r u) (p .3) (c′ .0) (outer-clear ts′ (p′ .1) r′ u′) (p′ .3) in
+    mark-once t 0 (code "{") (p .0) (p .1 ++ r) (p′ .0) (p′ .1 ++ r′) (c .0) (outer-clear ts (p .1) r u) (p .3) (c′ .0) (outer-clear ts′ (p′ .1) r′ u′) (p′ .3) in
     let x = 0 + length (p .0) in
     let d = cut t x (p .1) (u .0) (u .1) r (c .1) (u .2) in
     let d′ = cut t x (p′ .1) (u′ .0) (u′ .1) r′ (ap (λ (n : ℕ). drop (0 + n) t) e ∙ c′ .1) (u′ .2) in
-    let f = marked-form 125 (u .1) (u .4) in
-    let f′ = marked-form 125 (u′ .1) (u′ .4) in
-    let g = more-is-one ts false t x ts′ (u .0) 125 (f .0 ++ r) (u′ .0) 125 (f′ .0 ++ r′) (d .0 ∙ ap (λ (s : List ℕ). u .0 ++ (s ++ r)) (f .1)) (inr (inr refl)) (u .3 .1)
+    let f = marked-form (code "}") (u .1) (u .4) in
+    let f′ = marked-form (code "}") (u′ .1) (u′ .4) in
+    let g = more-is-one ts false t x ts′ (u .0) (code "}") (f .0 ++ r) (u′ .0) (code "}") (f′ .0 ++ r′) (d .0 ∙ ap (λ (s : List ℕ). u .0 ++ (s ++ r)) (f .1)) (inr (inr refl)) (u .3 .1)
     (d′ .0 ∙ ap (λ (s : List ℕ). u′ .0 ++ (s ++ r′)) (f′ .1)) (inr (inr refl)) (u′ .3 .1) in
     let l : length (u .0) ≡ length (u′ .0) = g .1 in
     let k : length (u .1) ≡ length (u′ .1) =
-    mark-once t (x + length (u .0)) 125 (u .1) r (u′ .1) r′ (d .1) q (u .4) (ap (λ (n : ℕ). drop (x + n) t) l ∙ d′ .1) q′ (u′ .4) in
+    mark-once t (x + length (u .0)) (code "}") (u .1) r (u′ .1) r′ (d .1) q (u .4) (ap (λ (n : ℕ). drop (x + n) t) l ∙ d′ .1) q′ (u′ .4) in
     let i : length w ≡ length (p .0) + length (p .1) = c .2 in
     let i′ : length w′ ≡ length (p′ .0) + length (p′ .1) = c′ .2 in
     let j : length (p .1) ≡ length (u .0) + length (u .1) = d .2 in

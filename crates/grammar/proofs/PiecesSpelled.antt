@@ -4,12 +4,14 @@ use mathlib.Core.Bool.{Bool, true, false, cond, _&&_}
 use mathlib.Core.Logic.{_⊎_, inl, inr}
 use mathlib.Core.Option.{Option, none, some}
 use mathlib.Core.List.{List, [], _∷_}
+use Prim.Native.Char.{code}
 use Prim.Native.Nat.{ℕ, suc, _+_, _*_, _^_, _<_, _≤_}
 use native.Mathlib.Omega.{arith}
 use borrow.Author.Tests.{ltb-false, leb-true, eqb-true, eqb-false}
 use lib.Dec.{eqb, leb, ltb}
 use lib.ListN.{length, drop}
 use Rattle.base.specs.declared.Refusal.the-variants.{NumberTooBig, JumpEmpty, JumpRangeInvalid, JumpTooBigInAlternation}
+use Rattle.meaning.specs.Limits.{numberLimit, innerJumpLimit}
 use Rattle.meaning.specs.Tokens.{left, right, all, Token, Lists, Byte, NotByte, MaskedByte, NotMaskedByte, Jump, Alternatives}
 use Rattle.reading.specs.Blanks.{here, skip}
 use Rattle.reading.specs.Pieces.{Seen, found, absent, refused, upTo, _else_, within, digit, Hex, whole, masked, twoDigits, byteAt, oneDigit, maskedAt, hexAt, plainly, negated, notAt, decimals, numeral, numberAt, Range, between, checked, closedAt, upperAt, dashAt, lowerAt, rangeAt, jumpToken, jumped, plainAt}
@@ -62,19 +64,19 @@ byte-sound t at = go (digit (here t at)) (digit (here t (at + 1))) refl refl
 
 masked-sound : (t : List ℕ) (at : ℕ) → Sound SpellsHex t at (maskedAt t at)
 unfolding Sound maskedAt oneDigit SpellsHex Masked
-masked-sound t at = go (eqb (here t at) 63) (eqb (here t (at + 1)) 63) (digit (here t at)) (digit (here t (at + 1))) refl refl refl refl
+masked-sound t at = go (eqb (here t at) (code "?")) (eqb (here t (at + 1)) (code "?")) (digit (here t at)) (digit (here t (at + 1))) refl refl refl refl
   where
-    go : (a b : Bool) (x y : Option ℕ) → eqb (here t at) 63 ≡ a → eqb (here t (at + 1)) 63 ≡ b → digit (here t at) ≡ x → digit (here t (at + 1)) ≡ y
+    go : (a b : Bool) (x y : Option ℕ) → eqb (here t at) (code "?") ≡ a → eqb (here t (at + 1)) (code "?") ≡ b → digit (here t at) ≡ x → digit (here t (at + 1)) ≡ y
         → Sound SpellsHex t at (cond a (cond b (upTo t (masked 0 all) (at + 2)) (oneDigit t at left y)) (cond b (oneDigit t at right x) absent))
     go true true x y c d e f =
         spaced-stands (Masked 0 all) t at (at + 2)
-        (change (λ s p. (refl, p)) (two t at (sign-stands t at 63 (eqb-true (here t at) 63 c) (omega arith)) (sign-stands t (at + 1) 63 (eqb-true (here t (at + 1)) 63 d) (omega arith))))
+        (change (λ s p. (refl, p)) (two t at (sign-stands t at (code "?") (eqb-true (here t at) (code "?") c) (omega arith)) (sign-stands t (at + 1) (code "?") (eqb-true (here t (at + 1)) (code "?") d) (omega arith))))
     go true false x (some v) c d e f =
-        spaced-stands (Masked v left) t at (at + 2) (change (λ s p. p) (two t at (sign-stands t at 63 (eqb-true (here t at) 63 c) (omega arith)) (digit-stands t (at + 1) v f)))
+        spaced-stands (Masked v left) t at (at + 2) (change (λ s p. p) (two t at (sign-stands t at (code "?") (eqb-true (here t at) (code "?") c) (omega arith)) (digit-stands t (at + 1) v f)))
     go true false x none c d e f = tt
     go false true (some v) y c d e f =
         spaced-stands (Masked v right) t at (at + 2)
-        (change (λ s p. p) (two t at (digit-stands t at v e) (sign-stands t (at + 1) 63 (eqb-true (here t (at + 1)) 63 d) (omega arith))))
+        (change (λ s p. p) (two t at (digit-stands t at v e) (sign-stands t (at + 1) (code "?") (eqb-true (here t (at + 1)) (code "?") d) (omega arith))))
     go false true none y c d e f = tt
     go false false x y c d e f = tt
 
@@ -83,19 +85,19 @@ unfolding hexAt
 hex-sound t at = else-sound SpellsHex t at (byteAt t at) (maskedAt t at) (byte-sound t at) (masked-sound t at)
 
 -- numbers
-decimals-some : (c : ℕ) (s : List ℕ) → within 48 57 c ≡ true → 0 < decimals (c ∷ s)
+decimals-some : (c : ℕ) (s : List ℕ) → within (code "0") (code "9") c ≡ true → 0 < decimals (c ∷ s)
 unfolding decimals
 decimals-some c s h = rw h (omega arith)
 
-pub decimals-here : (t : List ℕ) (at : ℕ) → within 48 57 (here t at) ≡ true → 0 < decimals (drop at t)
+pub decimals-here : (t : List ℕ) (at : ℕ) → within (code "0") (code "9") (here t at) ≡ true → 0 < decimals (drop at t)
 decimals-here t at h =
-    let w = within-true 48 57 (here t at) h in
+    let w = within-true (code "0") (code "9") (here t at) h in
     let p : 0 < here t at = omega arith in
     let d : decimals (drop at t) ≡ decimals (here t at ∷ drop (suc at) t) = ap decimals (here-cons t at (here t at) refl p) in
     let q : 0 < decimals (here t at ∷ drop (suc at) t) = decimals-some (here t at) (drop (suc at) t) h in
     omega arith
 
-numeral-stands : (t : List ℕ) (at : ℕ) → within 48 57 (here t at) ≡ true → numeral 0 (drop at t) ≤ 4294967295
+numeral-stands : (t : List ℕ) (at : ℕ) → within (code "0") (code "9") (here t at) ≡ true → numeral 0 (drop at t) ≤ numberLimit
     → Stands (Numeral (numeral 0 (drop at t))) t at (at + decimals (drop at t))
 unfolding Numeral
 numeral-stands t at h l =
@@ -107,12 +109,12 @@ numeral-stands t at h l =
 
 pub number-sound : (t : List ℕ) (at : ℕ) → Sound Number t at (numberAt t at)
 unfolding Sound numberAt Number
-number-sound t at = go (within 48 57 (here t at)) (leb (numeral 0 (drop at t)) 4294967295) refl refl
+number-sound t at = go (within (code "0") (code "9") (here t at)) (leb (numeral 0 (drop at t)) numberLimit) refl refl
   where
-    go : (a b : Bool) → within 48 57 (here t at) ≡ a → leb (numeral 0 (drop at t)) 4294967295 ≡ b
+    go : (a b : Bool) → within (code "0") (code "9") (here t at) ≡ a → leb (numeral 0 (drop at t)) numberLimit ≡ b
         → Sound Number t at (cond a (cond b (upTo t (numeral 0 (drop at t)) (at + decimals (drop at t))) (refused NumberTooBig at)) absent)
     go true true d e =
-        spaced-stands (Numeral (numeral 0 (drop at t))) t at (at + decimals (drop at t)) (numeral-stands t at d (leb-true (numeral 0 (drop at t)) 4294967295 e))
+        spaced-stands (Numeral (numeral 0 (drop at t))) t at (at + decimals (drop at t)) (numeral-stands t at d (leb-true (numeral 0 (drop at t)) numberLimit e))
     go true false d e = tt
     go false b d e = tt
 
@@ -120,11 +122,11 @@ number-sound t at = go (within 48 57 (here t at)) (leb (numeral 0 (drop at t)) 4
 unfoldable pub SpellsRange : Range → Language
 SpellsRange (between from to) s = Bounds from to s
 
-checked-sound : (t : List ℕ) (at from : ℕ) (to : Option ℕ) (x : ℕ) → ((e : ℕ) → Stands (Marked 93) t x e → Stands (Bracketed from to) t at e) → here t x ≡ 93
+checked-sound : (t : List ℕ) (at from : ℕ) (to : Option ℕ) (x : ℕ) → ((e : ℕ) → Stands (Marked (code "]")) t x e → Stands (Bracketed from to) t at e) → here t x ≡ code "]"
     → Sound SpellsRange t at (checked t at from to (x + 1))
 unfolding Sound checked SpellsRange Bounds Ordered
-checked-sound t at from none x k h = change (λ s p. (tt, p)) (k (skip t (x + 1)) (mark-stands t x 93 h (omega arith)))
-checked-sound t at from (some to) x k h = go (eqb from 0) (eqb to 0) (ltb to from) refl refl refl (k (skip t (x + 1)) (mark-stands t x 93 h (omega arith)))
+checked-sound t at from none x k h = change (λ s p. (tt, p)) (k (skip t (x + 1)) (mark-stands t x (code "]") h (omega arith)))
+checked-sound t at from (some to) x k h = go (eqb from 0) (eqb to 0) (ltb to from) refl refl refl (k (skip t (x + 1)) (mark-stands t x (code "]") h (omega arith)))
   where
     go : (a b c : Bool) → eqb from 0 ≡ a → eqb to 0 ≡ b → ltb to from ≡ c → Stands (Bracketed from (some to)) t at (skip t (x + 1))
         → Sound SpellsRange t at (cond (a && b) (refused JumpEmpty at) (cond c (refused JumpRangeInvalid at) (upTo t (between from (some to)) (x + 1))))
@@ -140,50 +142,50 @@ checked-sound t at from (some to) x k h = go (eqb from 0) (eqb to 0) (ltb to fro
         let z : from ≡ 0 → ⊥ = eqb-false from 0 d in
         change (λ s q. ((l, omega arith), q)) p
 
-closed-sound : (t : List ℕ) (at from : ℕ) (to : Option ℕ) (x : ℕ) → ((e : ℕ) → Stands (Marked 93) t x e → Stands (Bracketed from to) t at e)
+closed-sound : (t : List ℕ) (at from : ℕ) (to : Option ℕ) (x : ℕ) → ((e : ℕ) → Stands (Marked (code "]")) t x e → Stands (Bracketed from to) t at e)
     → Sound SpellsRange t at (closedAt t at from to x)
 unfolding Sound closedAt
-closed-sound t at from to x k = go (eqb (here t x) 93) refl
+closed-sound t at from to x k = go (eqb (here t x) (code "]")) refl
   where
-    go : (a : Bool) → eqb (here t x) 93 ≡ a → Sound SpellsRange t at (cond a (checked t at from to (x + 1)) absent)
-    go true d = checked-sound t at from to x k (eqb-true (here t x) 93 d)
+    go : (a : Bool) → eqb (here t x) (code "]") ≡ a → Sound SpellsRange t at (cond a (checked t at from to (x + 1)) absent)
+    go true d = checked-sound t at from to x k (eqb-true (here t x) (code "]") d)
     go false d = tt
 
 upper-sound : (t : List ℕ) (at from x : ℕ) (n : Seen ℕ) → Sound Number t x n
-    → ((to : Option ℕ) (e : ℕ) → Stands (To to ⨾ Marked 93) t x e → Stands (Bracketed from to) t at e) → Sound SpellsRange t at (upperAt t at from x n)
+    → ((to : Option ℕ) (e : ℕ) → Stands (To to ⨾ Marked (code "]")) t x e → Stands (Bracketed from to) t at e) → Sound SpellsRange t at (upperAt t at from x n)
 unfolding Sound upperAt To
 upper-sound t at from x (found n s e) p k = closed-sound t at from (some n) e (λ y m. k (some n) y (seq (change (λ u q. q) p) m))
 upper-sound t at from x absent p k = closed-sound t at from none x (λ y m. k none y (seq (change (λ u q. q) (nothing-stands t x)) m))
 upper-sound t at from x (refused r z) p k = tt
 
-dash-sound : (t : List ℕ) (at from x : ℕ) → ((to : Option ℕ) (e : ℕ) → Stands (Marked 45 ⨾ (To to ⨾ Marked 93)) t x e → Stands (Bracketed from to) t at e)
+dash-sound : (t : List ℕ) (at from x : ℕ) → ((to : Option ℕ) (e : ℕ) → Stands (Marked (code "-") ⨾ (To to ⨾ Marked (code "]"))) t x e → Stands (Bracketed from to) t at e)
     → Sound SpellsRange t at (dashAt t at from x)
 unfolding Sound dashAt
-dash-sound t at from x k = go (eqb (here t x) 45) refl
+dash-sound t at from x k = go (eqb (here t x) (code "-")) refl
   where
-    go : (a : Bool) → eqb (here t x) 45 ≡ a → Sound SpellsRange t at (cond a (upperAt t at from (skip t (x + 1)) (numberAt t (skip t (x + 1)))) absent)
+    go : (a : Bool) → eqb (here t x) (code "-") ≡ a → Sound SpellsRange t at (cond a (upperAt t at from (skip t (x + 1)) (numberAt t (skip t (x + 1)))) absent)
     go true d =
         upper-sound t at from (skip t (x + 1)) (numberAt t (skip t (x + 1))) (number-sound t (skip t (x + 1)))
-        (λ to e q. k to e (seq (mark-stands t x 45 (eqb-true (here t x) 45 d) (omega arith)) q))
+        (λ to e q. k to e (seq (mark-stands t x (code "-") (eqb-true (here t x) (code "-") d) (omega arith)) q))
     go false d = tt
 
-lower-sound : (t : List ℕ) (at x : ℕ) (n : Seen ℕ) → Stands (Marked 91) t at x → Sound Number t x n → Sound SpellsRange t at (lowerAt t at x n)
+lower-sound : (t : List ℕ) (at x : ℕ) (n : Seen ℕ) → Stands (Marked (code "[")) t at x → Sound Number t x n → Sound SpellsRange t at (lowerAt t at x n)
 unfolding Sound lowerAt From Bracketed Single Dashed
-lower-sound t at x (found n s e) m p = go (eqb (here t e) 93) refl
+lower-sound t at x (found n s e) m p = go (eqb (here t e) (code "]")) refl
   where
-    go : (a : Bool) → eqb (here t e) 93 ≡ a → Sound SpellsRange t at (cond a (checked t at n (some n) (e + 1)) (dashAt t at n e))
-    go true d = checked-sound t at n (some n) e (λ y q. change (λ u z. inl (refl, z)) (seq m (seq p q))) (eqb-true (here t e) 93 d)
+    go : (a : Bool) → eqb (here t e) (code "]") ≡ a → Sound SpellsRange t at (cond a (checked t at n (some n) (e + 1)) (dashAt t at n e))
+    go true d = checked-sound t at n (some n) e (λ y q. change (λ u z. inl (refl, z)) (seq m (seq p q))) (eqb-true (here t e) (code "]") d)
     go false d = dash-sound t at n e (λ to y q. change (λ u z. inr z) (seq m (seq (change (λ u z. inl z) p) q)))
 lower-sound t at x absent m p = dash-sound t at 0 x (λ to y q. change (λ u z. inr z) (seq m (seq (change (λ u z. inr (refl, z)) (nothing-stands t x)) q)))
 lower-sound t at x (refused r z) m p = tt
 
 range-sound : (t : List ℕ) (at : ℕ) → Sound SpellsRange t at (rangeAt t at)
 unfolding Sound rangeAt
-range-sound t at = go (eqb (here t at) 91) refl
+range-sound t at = go (eqb (here t at) (code "[")) refl
   where
-    go : (a : Bool) → eqb (here t at) 91 ≡ a → Sound SpellsRange t at (cond a (lowerAt t at (skip t (at + 1)) (numberAt t (skip t (at + 1)))) absent)
+    go : (a : Bool) → eqb (here t at) (code "[") ≡ a → Sound SpellsRange t at (cond a (lowerAt t at (skip t (at + 1)) (numberAt t (skip t (at + 1)))) absent)
     go true d =
-        lower-sound t at (skip t (at + 1)) (numberAt t (skip t (at + 1))) (mark-stands t at 91 (eqb-true (here t at) 91 d) (omega arith)) (number-sound t (skip t (at + 1)))
+        lower-sound t at (skip t (at + 1)) (numberAt t (skip t (at + 1))) (mark-stands t at (code "[") (eqb-true (here t at) (code "[") d) (omega arith)) (number-sound t (skip t (at + 1)))
     go false d = tt
 
 -- a token other than alternatives
@@ -223,12 +225,12 @@ jumped-sound : (t : List ℕ) (inside : Bool) (at : ℕ) (r : Seen Range) → So
 unfolding Sound jumped SpellsRange SpellsPlain SpellsToken Plain NotOne Allowed
 jumped-sound t true at (found (between from none) s e) p = tt
 jumped-sound t false at (found (between from none) s e) p = change (λ u q. ((q, tt, tt), tt)) p
-jumped-sound t inside at (found (between from (some to)) s e) p = go inside (ltb 200 to) refl p
+jumped-sound t inside at (found (between from (some to)) s e) p = go inside (ltb innerJumpLimit to) refl p
   where
-    go : (i c : Bool) → ltb 200 to ≡ c → Stands (Bounds from (some to)) t at e
+    go : (i c : Bool) → ltb innerJumpLimit to ≡ c → Stands (Bounds from (some to)) t at e
         → Sound (SpellsPlain i) t at (cond (i && c) (refused JumpTooBigInAlternation at) (found (jumpToken from to) s e))
     go true true g p = tt
-    go true false g p = jump-spelled t true at from to e (ltb-false 200 to g) p
+    go true false g p = jump-spelled t true at from to e (ltb-false innerJumpLimit to g) p
     go false c g p = jump-spelled t false at from to e tt p
 jumped-sound t inside at absent p = tt
 jumped-sound t inside at (refused r z) p = tt
@@ -241,7 +243,7 @@ plainly-sound t inside at (found (masked v m) s e) p = change (λ u q. (inl q, t
 plainly-sound t inside at absent p = tt
 plainly-sound t inside at (refused r z) p = tt
 
-negated-sound : (t : List ℕ) (inside : Bool) (at : ℕ) (h : Seen Hex) → Stands (Sign 126) t at (at + 1) → Sound SpellsHex t (at + 1) h
+negated-sound : (t : List ℕ) (inside : Bool) (at : ℕ) (h : Seen Hex) → Stands (Sign (code "~")) t at (at + 1) → Sound SpellsHex t (at + 1) h
     → Sound (SpellsPlain inside) t at (negated at h)
 unfolding Sound negated SpellsHex SpellsPlain SpellsToken Plain Negatable
 negated-sound t inside at (found (whole v) s e) m p = change (λ u q. (q, tt)) (seq m (change {Q = Spaced (Whole v)} (λ u q. q) p))
@@ -253,10 +255,10 @@ negated-sound t inside at (refused r z) m p = tt
 
 not-sound : (t : List ℕ) (inside : Bool) (at : ℕ) → Sound (SpellsPlain inside) t at (notAt t at)
 unfolding Sound notAt
-not-sound t inside at = go (eqb (here t at) 126) refl
+not-sound t inside at = go (eqb (here t at) (code "~")) refl
   where
-    go : (a : Bool) → eqb (here t at) 126 ≡ a → Sound (SpellsPlain inside) t at (cond a (negated at (hexAt t (at + 1))) absent)
-    go true d = negated-sound t inside at (hexAt t (at + 1)) (sign-stands t at 126 (eqb-true (here t at) 126 d) (omega arith)) (hex-sound t (at + 1))
+    go : (a : Bool) → eqb (here t at) (code "~") ≡ a → Sound (SpellsPlain inside) t at (cond a (negated at (hexAt t (at + 1))) absent)
+    go true d = negated-sound t inside at (hexAt t (at + 1)) (sign-stands t at (code "~") (eqb-true (here t at) (code "~") d) (omega arith)) (hex-sound t (at + 1))
     go false d = tt
 
 pub plain-sound : (t : List ℕ) (inside : Bool) (at : ℕ) → Sound (SpellsPlain inside) t at (plainAt t inside at)

@@ -5,8 +5,10 @@ use mathlib.Core.Bool.{Bool, true, false}
 use mathlib.Core.Logic.{_⊎_}
 use mathlib.Core.Option.{Option, none, some}
 use mathlib.Core.List.{List, [], _∷_, _++_}
+use Prim.Native.Char.{code}
 use Prim.Native.Nat.{ℕ, suc, _+_, _-_, _*_, _^_, _≤_, _<_, max}
 use lib.ListN.{length}
+use Rattle.meaning.specs.Limits.{textLimit, tokenLimit, levelLimit, numberLimit, innerJumpLimit}
 use Rattle.meaning.specs.Tokens.{Mask, left, right, all, Token, Tokens, Lists, Byte, NotByte, MaskedByte, NotMaskedByte, Jump, Alternatives, nothing, _then_, neither, _or_, total}
 
 -- some of the byte strings
@@ -20,7 +22,7 @@ _⨾_ P Q s = (a : List ℕ) × (b : List ℕ) × (s ≡ a ++ b) × P a × Q b
 
 -- space, tab, CR, LF
 unfoldable pub Blank : ℕ → Type 0
-Blank c = (c ≡ 32) ⊎ ((c ≡ 9) ⊎ ((c ≡ 13) ⊎ (c ≡ 10)))
+Blank c = (c ≡ code " ") ⊎ ((c ≡ code "\t") ⊎ ((c ≡ code "\r") ⊎ (c ≡ code "\n")))
 
 -- any count of blanks, none included
 unfoldable pub Blanks : Language
@@ -41,9 +43,9 @@ Marked c = Spaced (Sign c)
 
 -- c is a hexadecimal digit of value v, in either case
 pub data Digit (c v : ℕ) : Type 0 where
-  decimal : v < 10 → c ≡ 48 + v → Digit c v
-  upper : 10 ≤ v → v < 16 → c ≡ 65 + (v - 10) → Digit c v
-  lower : 10 ≤ v → v < 16 → c ≡ 97 + (v - 10) → Digit c v
+  decimal : v < 10 → c ≡ code "0" + v → Digit c v
+  upper : 10 ≤ v → v < 16 → c ≡ code "A" + (v - 10) → Digit c v
+  lower : 10 ≤ v → v < 16 → c ≡ code "a" + (v - 10) → Digit c v
 
 -- one hexadecimal digit
 unfoldable pub HexDigit : ℕ → Language
@@ -55,23 +57,23 @@ Whole v s = (high : ℕ) × (low : ℕ) × (v ≡ 16 * high + low) × (HexDigit 
 
 -- a masked byte: `?X`, `X?`, `??`
 unfoldable pub Masked : ℕ → Mask → Language
-Masked v left s = (Sign 63 ⨾ HexDigit v) s
-Masked v right s = (HexDigit v ⨾ Sign 63) s
-Masked v all s = (v ≡ 0) × (Sign 63 ⨾ Sign 63) s
+Masked v left s = (Sign (code "?") ⨾ HexDigit v) s
+Masked v right s = (HexDigit v ⨾ Sign (code "?")) s
+Masked v all s = (v ≡ 0) × (Sign (code "?") ⨾ Sign (code "?")) s
 
 -- decimal digits
 unfoldable pub Decimals : Language
 Decimals [] = Unit {0}
-Decimals (c ∷ s) = (48 ≤ c) × (c ≤ 57) × Decimals s
+Decimals (c ∷ s) = (code "0" ≤ c) × (c ≤ code "9") × Decimals s
 
 -- the number that they spell: each digit times ten to the number of digits after it
 unfoldable pub value : List ℕ → ℕ
 value [] = 0
-value (c ∷ s) = (c - 48) * 10 ^ length s + value s
+value (c ∷ s) = (c - code "0") * 10 ^ length s + value s
 
 -- one decimal digit or more, with any count of leading zeros, for a number of at most 4,294,967,295
 unfoldable pub Numeral : ℕ → Language
-Numeral n s = Decimals s × (0 < length s) × (n ≡ value s) × (n ≤ 4294967295)
+Numeral n s = Decimals s × (0 < length s) × (n ≡ value s) × (n ≤ numberLimit)
 
 -- a number and the blanks that may follow it
 unfoldable pub Number : ℕ → Language
@@ -88,11 +90,11 @@ To (some to) s = Number to s
 
 -- `[n]`
 unfoldable pub Single : ℕ → Language
-Single n = Marked 91 ⨾ (Number n ⨾ Marked 93)
+Single n = Marked (code "[") ⨾ (Number n ⨾ Marked (code "]"))
 
 -- `[a-b]`, `[a-]`, `[-b]`, `[-]`
 unfoldable pub Dashed : ℕ → Option ℕ → Language
-Dashed from to = Marked 91 ⨾ (From from ⨾ (Marked 45 ⨾ (To to ⨾ Marked 93)))
+Dashed from to = Marked (code "[") ⨾ (From from ⨾ (Marked (code "-") ⨾ (To to ⨾ Marked (code "]"))))
 
 -- from is at most to, and to is not 0: `[0]`, `[0-0]` and `[-0]` are none
 unfoldable pub Ordered : ℕ → Option ℕ → Type 0
@@ -111,7 +113,7 @@ Bounds from to s = Ordered from to × Bracketed from to s
 unfoldable pub Allowed : Bool → Option ℕ → Type 0
 Allowed false to = Unit {0}
 Allowed true none = ⊥
-Allowed true (some to) = to ≤ 200
+Allowed true (some to) = to ≤ innerJumpLimit
 
 -- `[1]` and `[1-1]` spell no jump
 unfoldable pub NotOne : ℕ → Option ℕ → Type 0
@@ -153,11 +155,11 @@ unfoldable mutual
   -- one token with the blanks that may follow it; `inside` says whether it stands in alternatives
   pub SpellsToken : Bool → Token → List ℕ → Type 0
   SpellsToken inside (Byte v) s = Spaced (Whole v) s
-  SpellsToken inside (NotByte v) s = (Sign 126 ⨾ Spaced (Whole v)) s
+  SpellsToken inside (NotByte v) s = (Sign (code "~") ⨾ Spaced (Whole v)) s
   SpellsToken inside (MaskedByte v m) s = Spaced (Masked v m) s ⊎ AsJump v m s
-  SpellsToken inside (NotMaskedByte v m) s = Negatable m × (Sign 126 ⨾ Spaced (Masked v m)) s
+  SpellsToken inside (NotMaskedByte v m) s = Negatable m × (Sign (code "~") ⨾ Spaced (Masked v m)) s
   SpellsToken inside (Jump from to) s = Bounds from to s × NotOne from to × Allowed inside to
-  SpellsToken inside (Alternatives ls) s = (Marked 40 ⨾ (λ b. SpellsLists ls b)) s
+  SpellsToken inside (Alternatives ls) s = (Marked (code "(") ⨾ (λ b. SpellsLists ls b)) s
 
   -- tokens, one after another
   pub SpellsTokens : Bool → Tokens → List ℕ → Type 0
@@ -171,8 +173,8 @@ unfoldable mutual
 
   -- `)`; or `|`, a list, and what follows that
   pub SpellsRest : Lists → List ℕ → Type 0
-  SpellsRest neither s = Marked 41 s
-  SpellsRest (ts or ls) s = Bounded ts × (Marked 124 ⨾ ((λ a. SpellsTokens true ts a) ⨾ (λ b. SpellsRest ls b))) s
+  SpellsRest neither s = Marked (code ")") s
+  SpellsRest (ts or ls) s = Bounded ts × (Marked (code "|") ⨾ ((λ a. SpellsTokens true ts a) ⨾ (λ b. SpellsRest ls b))) s
 
 -- a list: tokens, with no jump at its bounds
 abbrev pub SpellsList : Bool → Tokens → Language
@@ -180,7 +182,7 @@ SpellsList inside ts s = Bounded ts × SpellsTokens inside ts s
 
 -- `{`, the outer list, `}`
 unfoldable pub SpellsString : Tokens → Language
-SpellsString ts = Marked 123 ⨾ (SpellsList false ts ⨾ Marked 125)
+SpellsString ts = Marked (code "{") ⨾ (SpellsList false ts ⨾ Marked (code "}"))
 
 -- a string that does not begin with a blank
 unfoldable pub NoBlank : Language
@@ -211,4 +213,4 @@ unfoldable mutual
 
 -- a text that is spelled within 01's limits: 8 list levels, 512 tokens, 4,096 bytes
 abbrev pub Spelled : List ℕ → ℕ → Tokens → Type 0
-Spelled t e ts = SpellsText t e ts × (depth ts ≤ 8) × (total ts ≤ 512) × (length t ≤ 4096)
+Spelled t e ts = SpellsText t e ts × (depth ts ≤ levelLimit) × (total ts ≤ tokenLimit) × (length t ≤ textLimit)

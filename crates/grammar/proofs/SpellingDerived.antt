@@ -11,6 +11,7 @@ use native.Mathlib.Omega.{arith}
 use borrow.Author.Tests.{ltb-false, lt-ltb, le-ltb}
 use lib.Dec.{ltb}
 use lib.ListN.{length}
+use Rattle.meaning.specs.Limits.{levelLimit}
 use Rattle.meaning.specs.Tokens.{Mask, left, right, all, Token, Tokens, Lists, Byte, NotByte, MaskedByte, NotMaskedByte, Jump, Alternatives, nothing, _then_, neither, _or_}
 use Rattle.grammar.specs.Grammar as rule
 use Rattle.grammar.proofs.Spelling.{_⨾_, Blank, Blanks, NoBlank, Spaced, Sign, Marked, Digit, decimal, upper, lower, HexDigit, Whole, Masked, Decimals, value, Numeral, Number, From, To, Single, Dashed, Ordered, Bracketed, Bounds, Allowed, NotOne, AsJump, Negatable, NoJump, EndsWell, Bounded, SpellsToken, SpellsTokens, SpellsLists, SpellsRest, SpellsList, depthIn, depth, depths}
@@ -48,11 +49,11 @@ digit-is : (v : ℕ) (c : ℕ) → Digit c v → rule.Digit v (c ∷ [])
 digit-is v c (decimal l e) = subst (λ (x : ℕ). rule.Digit v (x ∷ [])) (sym e) (rule.decimal l)
 digit-is v c (upper k l e) =
     let x : 10 + (v - 10) ≡ v = omega arith in
-    let y : 65 + (v - 10) ≡ c = sym e in
+    let y : code "A" + (v - 10) ≡ c = sym e in
     subst₂ (λ (a b : ℕ). rule.Digit a (b ∷ [])) x y (rule.upper (omega arith))
 digit-is v c (lower k l e) =
     let x : 10 + (v - 10) ≡ v = omega arith in
-    let y : 97 + (v - 10) ≡ c = sym e in
+    let y : code "a" + (v - 10) ≡ c = sym e in
     subst₂ (λ (a b : ℕ). rule.Digit a (b ∷ [])) x y (rule.lower (omega arith))
 
 digit-derived : (v : ℕ) (s : List ℕ) → HexDigit v s → rule.Digit v s
@@ -78,10 +79,10 @@ half-derived : (v : ℕ) (m : Mask) (s : List ℕ) → Negatable m → Spaced (M
 unfolding Spaced Masked _⨾_ Sign Negatable
 half-derived v left s n p =
     let q = p .3 in
-    subst (rule.Half v left) (sym (sign-first 63 s (p .0) (p .1) (q .0) (q .1) (p .2) (q .2) (q .3))) (rule.low (digit-derived v (q .1) (q .4)) (blanks-derived (p .1) (p .4)))
+    subst (rule.Half v left) (sym (sign-first (code "?") s (p .0) (p .1) (q .0) (q .1) (p .2) (q .2) (q .3))) (rule.low (digit-derived v (q .1) (q .4)) (blanks-derived (p .1) (p .4)))
 half-derived v right s n p =
     let q = p .3 in
-    subst (rule.Half v right) (sym (sign-last 63 s (p .0) (p .1) (q .0) (q .1) (p .2) (q .2) (q .4))) (rule.high (digit-derived v (q .0) (q .3)) (rule.mark (blanks-derived (p .1) (p .4))))
+    subst (rule.Half v right) (sym (sign-last (code "?") s (p .0) (p .1) (q .0) (q .1) (p .2) (q .2) (q .4))) (rule.high (digit-derived v (q .0) (q .3)) (rule.mark (blanks-derived (p .1) (p .4))))
 half-derived v all s n p = absurd n
 
 -- digits after those of a number
@@ -91,22 +92,22 @@ digits-after n a [] p q =
     let e : n ≡ n * 10 ^ 0 + 0 = omega arith in
     subst₂ rule.Numeral e (sym (append-nil a)) p
 digits-after n a (c ∷ s) p q =
-    let l : 48 ≤ c = q .0 in
-    let h : c ≤ 57 = q .1 in
-    let y : 48 + (c - 48) ≡ c = omega arith in
-    let i = digits-after (10 * n + (c - 48)) (a ++ (c ∷ [])) s (subst (λ (x : ℕ). rule.Numeral (10 * n + (c - 48)) (a ++ (x ∷ []))) y (rule.digits p (omega arith))) (q .2) in
+    let l : code "0" ≤ c = q .0 in
+    let h : c ≤ code "9" = q .1 in
+    let y : code "0" + (c - code "0") ≡ c = omega arith in
+    let i = digits-after (10 * n + (c - code "0")) (a ++ (c ∷ [])) s (subst (λ (x : ℕ). rule.Numeral (10 * n + (c - code "0")) (a ++ (x ∷ []))) y (rule.digits p (omega arith))) (q .2) in
     let k : 10 ^ suc (length s) ≡ 10 ^ length s * 10 = pow-suc 10 (length s) in
-    let e : (10 * n + (c - 48)) * 10 ^ length s + value s ≡ n * 10 ^ suc (length s) + ((c - 48) * 10 ^ length s + value s) = rw k (omega arith) in
+    let e : (10 * n + (c - code "0")) * 10 ^ length s + value s ≡ n * 10 ^ suc (length s) + ((c - code "0") * 10 ^ length s + value s) = rw k (omega arith) in
     subst₂ rule.Numeral e (append-assoc a (c ∷ []) s) i
 
 pub numeral-derived : (s : List ℕ) → Decimals s → 0 < length s → rule.Numeral (value s) s
 unfolding Decimals value
 numeral-derived [] p h = let z : 0 < 0 = h in absurd (omega arith)
 numeral-derived (c ∷ s) p h =
-    let l : 48 ≤ c = p .0 in
-    let k : c ≤ 57 = p .1 in
-    let y : 48 + (c - 48) ≡ c = omega arith in
-    digits-after (c - 48) (c ∷ []) s (subst (λ (x : ℕ). rule.Numeral (c - 48) (x ∷ [])) y (rule.digit (omega arith))) (p .2)
+    let l : code "0" ≤ c = p .0 in
+    let k : c ≤ code "9" = p .1 in
+    let y : code "0" + (c - code "0") ≡ c = omega arith in
+    digits-after (c - code "0") (c ∷ []) s (subst (λ (x : ℕ). rule.Numeral (c - code "0") (x ∷ [])) y (rule.digit (omega arith))) (p .2)
 
 pub number-derived : (n : ℕ) (s : List ℕ) → Number n s → rule.Number n s
 unfolding Number Numeral Spaced _⨾_
@@ -163,12 +164,12 @@ masked-derived level v right s (inl p) = rule.half (half-derived v right s tt p)
 masked-derived level v right s (inr p) = absurd p
 masked-derived level v all s (inl p) =
     let q = p .3 .1 in
-    let e : s ≡ 63 ∷ (63 ∷ p .1) = sign-first 63 s (p .0) (p .1) (q .0) (q .1) (p .2) (q .2) (q .3) ∙ ap (λ (x : List ℕ). 63 ∷ (x ++ p .1)) (q .4) in
+    let e : s ≡ code "?" ∷ (code "?" ∷ p .1) = sign-first (code "?") s (p .0) (p .1) (q .0) (q .1) (p .2) (q .2) (q .3) ∙ ap (λ (x : List ℕ). code "?" ∷ (x ++ p .1)) (q .4) in
     subst₂ (λ (n : ℕ) (x : List ℕ). rule.Solid level (MaskedByte n all) x) (sym (p .3 .0)) (sym e) (rule.any (rule.mark (blanks-derived (p .1) (p .4))))
 masked-derived level v all s (inr p) = subst (λ (n : ℕ). rule.Solid level (MaskedByte n all) s) (sym (p .0)) (rule.one (range-derived 1 (some 1) s (p .1)))
 
 -- `~` before a token
-tilde : (s a b : List ℕ) → s ≡ a ++ b → a ≡ 126 ∷ [] → s ≡ 126 ∷ b
+tilde : (s a b : List ℕ) → s ≡ a ++ b → a ≡ code "~" ∷ [] → s ≡ code "~" ∷ b
 tilde s a b h k = h ∙ ap (λ (x : List ℕ). x ++ b) k
 
 pub jump-derived : (level from : ℕ) (to : Option ℕ) (s : List ℕ) → 1 ≤ level → SpellsToken (ltb 1 level) (Jump from to) s → rule.Gap level (Jump from to) s
@@ -220,7 +221,7 @@ outer level ts s h = subst (λ (b : Bool). SpellsTokens b ts s) (sym (lt-ltb 1 l
 mutual
   unfolding SpellsToken SpellsTokens SpellsLists SpellsRest Bounded EndsWell NoJump depthIn depth depths _⨾_ Sign
 
-  pub solid-derived : (tok : Token) (level : ℕ) (s : List ℕ) → 1 ≤ level → NoJump tok → depthIn tok ≤ 8 - level → SpellsToken (ltb 1 level) tok s → rule.Solid level tok s
+  pub solid-derived : (tok : Token) (level : ℕ) (s : List ℕ) → 1 ≤ level → NoJump tok → depthIn tok ≤ levelLimit - level → SpellsToken (ltb 1 level) tok s → rule.Solid level tok s
   solid-derived (Byte v) level s l n d p = rule.byte (whole-derived v s p)
   solid-derived (NotByte v) level s l n d p = subst (rule.Solid level (NotByte v)) (sym (tilde s (p .0) (p .1) (p .2) (p .3))) (rule.not-byte (whole-derived v (p .1) (p .4)))
   solid-derived (MaskedByte v m) level s l n d p = masked-derived level v m s p
@@ -230,7 +231,7 @@ mutual
   solid-derived (Jump from to) level s l n d p = absurd n
   solid-derived (Alternatives ls) level s l n d p = brackets-derived ls level s (p .0) (p .1) (p .2) (mark-derived "(" (p .0) (p .3)) l d (p .4)
 
-  brackets-derived : (ls : Lists) (level : ℕ) (s a u : List ℕ) → s ≡ a ++ u → rule.Mark "(" a → 1 ≤ level → depths ls ≤ 8 - level → SpellsLists ls u → rule.Solid level (Alternatives ls) s
+  brackets-derived : (ls : Lists) (level : ℕ) (s a u : List ℕ) → s ≡ a ++ u → rule.Mark "(" a → 1 ≤ level → depths ls ≤ levelLimit - level → SpellsLists ls u → rule.Solid level (Alternatives ls) s
   brackets-derived neither level s a u e m l d p = absurd p
   brackets-derived (ts or ls) level s a u e m l d p =
       let q = p .1 in
@@ -238,19 +239,19 @@ mutual
       rule.alternatives (parts a e (q .2)) m (list-derived ts (suc level) (q .0) (omega arith) (omega arith) (p .0) (outer (suc level) ts (q .0) (omega arith) (q .3)))
       (rest-derived ls (suc level) (q .1) (omega arith) (omega arith) (q .4)) (omega arith)
 
-  pub list-derived : (ts : Tokens) (level : ℕ) (s : List ℕ) → 1 ≤ level → depth ts ≤ 9 - level → Bounded ts → SpellsTokens (ltb 1 level) ts s → rule.TokenList level ts s
+  pub list-derived : (ts : Tokens) (level : ℕ) (s : List ℕ) → 1 ≤ level → depth ts ≤ suc levelLimit - level → Bounded ts → SpellsTokens (ltb 1 level) ts s → rule.TokenList level ts s
   list-derived nothing level s l d w p = absurd w
   list-derived (tok then ts) level s l d w p =
       listed-then level tok ts s (p .0) (p .1) (p .2) (solid-derived tok level (p .0) l (w .0) (omega arith) (p .3)) (w .1) (p .4)
       (λ w. tail-derived ts level (p .1) l (omega arith) w (p .4))
 
-  tail-derived : (ts : Tokens) (level : ℕ) (s : List ℕ) → 1 ≤ level → depth ts ≤ 9 - level → ((x : Token) → EndsWell x ts) → SpellsTokens (ltb 1 level) ts s → rule.Tail level ts s
+  tail-derived : (ts : Tokens) (level : ℕ) (s : List ℕ) → 1 ≤ level → depth ts ≤ suc levelLimit - level → ((x : Token) → EndsWell x ts) → SpellsTokens (ltb 1 level) ts s → rule.Tail level ts s
   tail-derived nothing level s l d w p = absurd (w (Jump 0 none))
   tail-derived (tok then ts) level s l d w p =
       tail-then level tok ts s (p .0) (p .1) (p .2) (λ n. solid-derived tok level (p .0) l n (omega arith) (p .3)) l (p .3) (w tok) (p .4)
       (λ w. tail-derived ts level (p .1) l (omega arith) w (p .4))
 
-  rest-derived : (ls : Lists) (level : ℕ) (s : List ℕ) → 1 < level → depths ls ≤ 9 - level → SpellsRest ls s → rule.Rest level ls s
+  rest-derived : (ls : Lists) (level : ℕ) (s : List ℕ) → 1 < level → depths ls ≤ suc levelLimit - level → SpellsRest ls s → rule.Rest level ls s
   rest-derived neither level s l d p = rule.close (mark-derived ")" s p)
   rest-derived (ts or ls) level s l d p =
       let q = p .1 in
@@ -258,5 +259,5 @@ mutual
       rule.bar (parts (q .0) (q .2) (r .2)) (mark-derived "|" (q .0) (q .3)) (list-derived ts level (r .0) (omega arith) (omega arith) (p .0) (outer level ts (r .0) l (r .3)))
       (rest-derived ls level (r .1) l (omega arith) (r .4))
 
-pub outer-derived : (ts : Tokens) (s : List ℕ) → SpellsList false ts s → depth ts ≤ 8 → rule.TokenList 1 ts s
+pub outer-derived : (ts : Tokens) (s : List ℕ) → SpellsList false ts s → depth ts ≤ levelLimit → rule.TokenList 1 ts s
 outer-derived ts s p d = list-derived ts 1 s (omega arith) (omega arith) (p .0) (subst (λ (b : Bool). SpellsTokens b ts s) (sym (le-ltb 1 1 (omega arith))) (p .1))

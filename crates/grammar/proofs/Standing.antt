@@ -3,6 +3,7 @@ use mathlib.Core.Path.{_≡_, refl, sym, ap, _∙_, subst}
 use mathlib.Core.Bool.{Bool, true, false, cond, _||_}
 use mathlib.Core.Logic.{_⊎_, inl, inr}
 use mathlib.Core.List.{List, [], _∷_, _++_, append-assoc}
+use Prim.Native.Char.{code}
 use Prim.Native.Nat.{ℕ, suc, _+_, _<_}
 use native.Mathlib.Omega.{arith}
 use borrow.Author.Tests.{eqb-true}
@@ -70,13 +71,13 @@ sign-stands t at c h p = stands (Sign c) t at (at + 1) (c ∷ []) (drop (suc at)
 -- blanks
 pub blank-sound : (c : ℕ) → blank c ≡ true → Blank c
 unfolding blank Blank
-blank-sound c h = go (eqb c 32) (eqb c 9) (eqb c 13) (eqb c 10) refl refl refl refl h
+blank-sound c h = go (eqb c (code " ")) (eqb c (code "\t")) (eqb c (code "\r")) (eqb c (code "\n")) refl refl refl refl h
   where
-    go : (w x y z : Bool) → eqb c 32 ≡ w → eqb c 9 ≡ x → eqb c 13 ≡ y → eqb c 10 ≡ z → w || (x || (y || z)) ≡ true → (c ≡ 32) ⊎ ((c ≡ 9) ⊎ ((c ≡ 13) ⊎ (c ≡ 10)))
-    go true x y z d e f g h = inl (eqb-true c 32 d)
-    go false true y z d e f g h = inr (inl (eqb-true c 9 e))
-    go false false true z d e f g h = inr (inr (inl (eqb-true c 13 f)))
-    go false false false true d e f g h = inr (inr (inr (eqb-true c 10 g)))
+    go : (w x y z : Bool) → eqb c (code " ") ≡ w → eqb c (code "\t") ≡ x → eqb c (code "\r") ≡ y → eqb c (code "\n") ≡ z → w || (x || (y || z)) ≡ true → (c ≡ code " ") ⊎ ((c ≡ code "\t") ⊎ ((c ≡ code "\r") ⊎ (c ≡ code "\n")))
+    go true x y z d e f g h = inl (eqb-true c (code " ") d)
+    go false true y z d e f g h = inr (inl (eqb-true c (code "\t") e))
+    go false false true z d e f g h = inr (inr (inl (eqb-true c (code "\r") f)))
+    go false false false true d e f g h = inr (inr (inr (eqb-true c (code "\n") g)))
     go false false false false d e f g h = never (cc)
 
 pub blank-complete : (c : ℕ) → Blank c → blank c ≡ true

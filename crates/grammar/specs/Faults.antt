@@ -8,6 +8,7 @@ use Prim.Native.Nat.{ℕ, suc, _+_, _≤_, _<_}
 use lib.ListN.{length, drop}
 use Rattle.base.specs.declared.Refusal.{Refusal}
 use Rattle.base.specs.declared.Refusal.the-variants.{TextTooLong, Unexpected, NumberTooBig, JumpEmpty, JumpRangeInvalid, JumpAtBound, JumpUnboundedInAlternation, JumpTooBigInAlternation, CannotNegateMaskAll, HexStringTooDeep, TooManyTokens}
+use Rattle.meaning.specs.Limits.{textLimit, tokenLimit, levelLimit, numberLimit, innerJumpLimit}
 use Rattle.meaning.specs.Tokens.{Token, Tokens, totalIn, total}
 use Rattle.grammar.specs.Grammar.{Text, Clear, Mark, Numeral, Number, Gap, Solid, TokenList}
 
@@ -36,7 +37,7 @@ pub data Jumps (t : Text) (at : ℕ) : ℕ → Option ℕ → Type 0 where
 
 -- a number above 4,294,967,295 begins at `at`; digits that follow make it no smaller
 pub data Big (t : Text) (at : ℕ) : Type 0 where
-  big : {n : ℕ} {s : Text} (r : Text) → drop at t ≡ s ++ r → Numeral n s → 4294967295 < n → Big t at
+  big : {n : ℕ} {s : Text} (r : Text) → drop at t ≡ s ++ r → Numeral n s → numberLimit < n → Big t at
 
 -- a token looked for at `at`, in a list of this level, is refused
 pub data InToken (t : Text) (level at : ℕ) : Refusal → ℕ → Type 0 where
@@ -53,7 +54,7 @@ pub data InToken (t : Text) (level at : ℕ) : Refusal → ℕ → Type 0 where
   backwards : {m n : ℕ} → Jumps t at m (some n) → n < m → InToken t level at JumpRangeInvalid at
   -- 7 and 8: in alternatives, no to; or one above 200
   open-inside : {m : ℕ} → 1 < level → Jumps t at m none → InToken t level at JumpUnboundedInAlternation at
-  long-inside : {m n : ℕ} → 1 < level → Jumps t at m (some n) → m ≤ n → 200 < n → InToken t level at JumpTooBigInAlternation at
+  long-inside : {m n : ℕ} → 1 < level → Jumps t at m (some n) → m ≤ n → innerJumpLimit < n → InToken t level at JumpTooBigInAlternation at
 
 -- no token at `at`: none stands there, none is refused, no alternatives are opened
 abbrev pub Missing : Text → ℕ → ℕ → Type 0
@@ -61,35 +62,35 @@ Missing t level at = ((tok : Token) → Lacks t (Spells level tok) at) × ((r : 
 
 -- from `at` up to e stands a list of this level, and no token follows; with those before it, it has d tokens
 pub data Listed (t : Text) (level count at : ℕ) : ℕ → ℕ → Type 0 where
-  listed : {d e : ℕ} {ts : Tokens} → level ≤ 8 → Stands t (TokenList level ts) at e → d ≡ count + total ts → d ≤ 512 → Missing t level e → Listed t level count at d e
+  listed : {d e : ℕ} {ts : Tokens} → level ≤ levelLimit → Stands t (TokenList level ts) at e → d ≡ count + total ts → d ≤ tokenLimit → Missing t level e → Listed t level count at d e
 
 mutual
   -- a list of this level should begin at `at`, after so many tokens, and would be missed at `miss`: after `{`, after `(`, or after `|`
   pub data Begins (t : Text) : ℕ → ℕ → ℕ → ℕ → Type 0 where
-    outermost : {at : ℕ} → length t ≤ 4096 → Stands t (Mark "{") 0 at → Begins t 1 0 at at
-    opened : {level start count at x : ℕ} → Looked t level start count at → Stands t (Mark "(") at x → count < 512 → Begins t (suc level) (suc count) x x
+    outermost : {at : ℕ} → length t ≤ textLimit → Stands t (Mark "{") 0 at → Begins t 1 0 at at
+    opened : {level start count at x : ℕ} → Looked t level start count at → Stands t (Mark "(") at x → count < tokenLimit → Begins t (suc level) (suc count) x x
     barred : {level count at miss d e x : ℕ} → Begins t level count at miss → 1 < level → Listed t level count at d e → Stands t (Mark "|") e x → Begins t level d x e
 
   -- in a list of this level that begins at `start`, a token is looked for at `at`, after so many tokens
   pub data Looked (t : Text) : ℕ → ℕ → ℕ → ℕ → Type 0 where
-    first : {level count at miss : ℕ} → Begins t level count at miss → level ≤ 8 → Looked t level at count at
-    next : {level start count at d e : ℕ} {tok : Token} → Looked t level start count at → Stands t (Spells level tok) at e → d ≡ count + totalIn tok → d ≤ 512 → Looked t level start d e
+    first : {level count at miss : ℕ} → Begins t level count at miss → level ≤ levelLimit → Looked t level at count at
+    next : {level start count at d e : ℕ} {tok : Token} → Looked t level start count at → Stands t (Spells level tok) at e → d ≡ count + totalIn tok → d ≤ tokenLimit → Looked t level start d e
 
 pub data Fault (t : Text) : Refusal → ℕ → Type 0 where
   -- 1: above 4,096 bytes
-  too-long : 4096 < length t → Fault t TextTooLong 0
+  too-long : textLimit < length t → Fault t TextTooLong 0
   -- 2: no `{` at the start; no list; something else than what should close the outer list, or one in brackets
-  not-opened : length t ≤ 4096 → Lacks t (Mark "{") 0 → Fault t Unexpected 0
-  no-list : {level count at miss : ℕ} → Begins t level count at miss → level ≤ 8 → Missing t level at → Fault t Unexpected miss
+  not-opened : length t ≤ textLimit → Lacks t (Mark "{") 0 → Fault t Unexpected 0
+  no-list : {level count at miss : ℕ} → Begins t level count at miss → level ≤ levelLimit → Missing t level at → Fault t Unexpected miss
   not-closed : {at miss d e : ℕ} → Begins t 1 0 at miss → Listed t 1 0 at d e → Lacks t (Mark "}") e → Fault t Unexpected e
   not-bracketed : {level count at miss d e : ℕ} → Begins t level count at miss → 1 < level → Listed t level count at d e → Lacks t (Mark ")") e → Lacks t (Mark "|") e → Fault t Unexpected e
   -- 2 after `~`, 3, 4, 5, 7, 8, 9: within a token
   in-token : {level start count at p : ℕ} {r : Refusal} → Looked t level start count at → InToken t level at r p → Fault t r p
   -- 6: a jump at the start of a list, or at its end, once it has ended
   jump-first : {level start count at e : ℕ} {tok : Token} → Looked t level start count at → Missing t level at → Stands t (Gap level tok) start e → Fault t JumpAtBound start
-  jump-last : {level start count at e : ℕ} {tok : Token} → Looked t level start count at → Stands t (Gap level tok) at e → count < 512 → Missing t level e → Fault t JumpAtBound start
+  jump-last : {level start count at e : ℕ} {tok : Token} → Looked t level start count at → Stands t (Gap level tok) at e → count < tokenLimit → Missing t level e → Fault t JumpAtBound start
   -- 10: a ninth level
-  too-deep : {level count at miss : ℕ} → Begins t level count at miss → 8 < level → Fault t HexStringTooDeep at
+  too-deep : {level count at miss : ℕ} → Begins t level count at miss → levelLimit < level → Fault t HexStringTooDeep at
   -- 11: a token, or a `(`, after 512 tokens
-  too-many : {level start at e : ℕ} {tok : Token} → Looked t level start 512 at → Stands t (Spells level tok) at e → Fault t TooManyTokens at
-  too-many-brackets : {level start at e : ℕ} → Looked t level start 512 at → Stands t (Mark "(") at e → Fault t TooManyTokens at
+  too-many : {level start at e : ℕ} {tok : Token} → Looked t level start tokenLimit at → Stands t (Spells level tok) at e → Fault t TooManyTokens at
+  too-many-brackets : {level start at e : ℕ} → Looked t level start tokenLimit at → Stands t (Mark "(") at e → Fault t TooManyTokens at

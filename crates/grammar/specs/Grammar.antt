@@ -6,6 +6,7 @@ use mathlib.Core.List.{List, [], _∷_, _++_}
 use Prim.Native.Char.{Char, code}
 use Prim.Native.Nat.{ℕ, suc, _+_, _*_, _≤_, _<_}
 use lib.ListN.{length}
+use Rattle.meaning.specs.Limits.{textLimit, tokenLimit, levelLimit, numberLimit, innerJumpLimit}
 use Rattle.meaning.specs.Tokens.{Mask, left, right, all, Token, Tokens, Lists, Byte, NotByte, MaskedByte, NotMaskedByte, Jump, Alternatives, nothing, _then_, neither, _or_, total}
 
 -- a text is its bytes
@@ -14,10 +15,10 @@ Text = List ℕ
 
 -- space, tab, CR, LF
 pub data Blank : ℕ → Type 0 where
-  space : Blank 32
-  tab : Blank 9
-  return : Blank 13
-  feed : Blank 10
+  space : Blank (code " ")
+  tab : Blank (code "\t")
+  return : Blank (code "\r")
+  feed : Blank (code "\n")
 
 -- any number of them, also none
 pub data Blanks : Text → Type 0 where
@@ -55,7 +56,7 @@ pub data Numeral : ℕ → Text → Type 0 where
 
 -- a number, and the blanks after it
 pub data Number (n : ℕ) : Text → Type 0 where
-  number : {a b : Text} → Numeral n a → Blanks b → n ≤ 4294967295 → Number n (a ++ b)
+  number : {a b : Text} → Numeral n a → Blanks b → n ≤ numberLimit → Number n (a ++ b)
 
 -- a jump's from, and its to if it has one: `[n]`, `[m-n]`, `[m-]`, `[-n]`, `[-]`
 pub data Range : ℕ → Option ℕ → Text → Type 0 where
@@ -67,7 +68,7 @@ pub data Range : ℕ → Option ℕ → Text → Type 0 where
 
 -- a jump in a list of this level, but not `[1]`; from level 2 on, that is in alternatives, it has a to of at most 200
 pub data Gap (level : ℕ) : Token → Text → Type 0 where
-  bounded : {m n : ℕ} {s : Text} → Range m (some n) s → (m ≡ 1 → n ≡ 1 → ⊥) → (1 < level → n ≤ 200) → Gap level (Jump m (some n)) s
+  bounded : {m n : ℕ} {s : Text} → Range m (some n) s → (m ≡ 1 → n ≡ 1 → ⊥) → (1 < level → n ≤ innerJumpLimit) → Gap level (Jump m (some n)) s
   unbounded : {m : ℕ} {s : Text} → Range m none s → level ≡ 1 → Gap level (Jump m none) s
 
 mutual
@@ -79,7 +80,7 @@ mutual
     not-half : {level v : ℕ} {m : Mask} {s : Text} → Half v m s → Solid level (NotMaskedByte v m) (code "~" ∷ s)
     any : {level : ℕ} {s : Text} → Mark "?" s → Solid level (MaskedByte 0 all) (code "?" ∷ s)
     one : {level : ℕ} {s : Text} → Range 1 (some 1) s → Solid level (MaskedByte 0 all) s
-    alternatives : {level : ℕ} {ts : Tokens} {ls : Lists} {s a b c : Text} → s ≡ a ++ (b ++ c) → Mark "(" a → TokenList (suc level) ts b → Rest (suc level) ls c → level < 8 → Solid level (Alternatives (ts or ls)) s
+    alternatives : {level : ℕ} {ts : Tokens} {ls : Lists} {s a b c : Text} → s ≡ a ++ (b ++ c) → Mark "(" a → TokenList (suc level) ts b → Rest (suc level) ls c → level < levelLimit → Solid level (Alternatives (ts or ls)) s
 
   -- a list: such a token; or such a token, then jumps, if any, and a list. So it neither begins nor ends with a jump
   pub data TokenList : ℕ → Tokens → Text → Type 0 where
@@ -102,4 +103,4 @@ pub data Pattern : Tokens → Text → Type 0 where
 
 -- a text: a pattern with all its blanks, and anything after it; the offset reached is the pattern's length
 pub data Derives : Text → ℕ → Tokens → Type 0 where
-  derives : {ts : Tokens} {s r : Text} → Pattern ts s → Clear r → total ts ≤ 512 → length (s ++ r) ≤ 4096 → Derives (s ++ r) (length s) ts
+  derives : {ts : Tokens} {s r : Text} → Pattern ts s → Clear r → total ts ≤ tokenLimit → length (s ++ r) ≤ textLimit → Derives (s ++ r) (length s) ts

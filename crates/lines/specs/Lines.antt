@@ -9,10 +9,10 @@ use Rattle.printing.specs.Laid.{each}
 use Rattle.printing.specs.Numbers.{hexOf, decimalOf}
 
 abbrev pub blank : List ℕ
-blank = 32 ∷ []
+blank = ascii " "
 
 abbrev pub lineEnd : List ℕ
-lineEnd = 10 ∷ []
+lineEnd = ascii "\n"
 
 -- a line that ends with a number; with two numbers and what stands between them; with a byte; with a value and a mask
 unfoldable pub numberLine : List ℕ → ℕ → List ℕ

@@ -12,6 +12,7 @@ use Rattle.base.specs.Pools.{filled}
 use Rattle.reading.specs.Lists.{Outcome as Read, accepted, rejected, reading}
 use Rattle.compiling.specs.Compile.{Compiled, compiled as programs, refused as uncompiled, compile}
 use Rattle.picking.specs.Choice.{Picked as Choice, picked as chosen, unpicked as unchosen, pick}
+use Rattle.meaning.specs.Limits.{nodePool}
 use Rattle.meaning.proofs.SoundLaws.{and-left}
 use Rattle.printing.specs.Laid.{Put}
 use Rattle.lines.specs.Lines.{literalsLines, cut, refusedLine, literalsRefusedLine, picked, unpicked, pickedLines, compiled, refused, programsLines, listing}
@@ -25,28 +26,28 @@ use Rattle.literaldoor.specs.declared.LiteralsAnswer.the-variants.{Picked as Pi
 use Rattle.compiledoor.specs.Door as made
 use Rattle.literaldoor.specs.Door as taken
 use Rattle.generator.specs.Output as output
-use Rattle.lister.specs.Listings.{withRoom, withPrograms, pickedOf, outcome, listingOf}
+use Rattle.lister.specs.Listings.{withRoom, withPrograms, pickedOf, outcome, listingOf, lentBytes, lentLengths}
 
 -- the used words stand first in a pool that was filled
-filled-front : (ws p q : List ℕ) (n : ℕ) → n ≡ length ws → q ≡ filled 512 ws p → take n q ≡ ws
+filled-front : (ws p q : List ℕ) (n : ℕ) → n ≡ length ws → q ≡ filled nodePool ws p → take n q ≡ ws
 unfolding filled
-filled-front ws p q n h e = ap (take n) e ∙ take-at ws (replicate (512 - length ws) 0 ++ drop 512 p) n (sym h)
+filled-front ws p q n h e = ap (take n) e ∙ take-at ws (replicate (nodePool - length ws) 0 ++ drop nodePool p) n (sym h)
 
 -- and are no more than it has
-filled-few : (ws p q : List ℕ) (n : ℕ) → n ≡ length ws → q ≡ filled 512 ws p → length q ≡ 512 → n ≤ 512
+filled-few : (ws p q : List ℕ) (n : ℕ) → n ≡ length ws → q ≡ filled nodePool ws p → length q ≡ nodePool → n ≤ nodePool
 unfolding filled
 filled-few ws p q n h e l =
-    let k : length (ws ++ (replicate (512 - length ws) 0 ++ drop 512 p)) ≡ length ws + length (replicate (512 - length ws) 0 ++ drop 512 p) = length-append ws (replicate (512 - length ws) 0 ++ drop 512 p) in
-    let m : length q ≡ length (ws ++ (replicate (512 - length ws) 0 ++ drop 512 p)) = ap length e in
+    let k : length (ws ++ (replicate (nodePool - length ws) 0 ++ drop nodePool p)) ≡ length ws + length (replicate (nodePool - length ws) 0 ++ drop nodePool p) = length-append ws (replicate (nodePool - length ws) 0 ++ drop nodePool p) in
+    let m : length q ≡ length (ws ++ (replicate (nodePool - length ws) 0 ++ drop nodePool p)) = ap length e in
     omega arith
 
 -- both programs are in the pools
 pub record Made (o : Read) (n m : ℕ) (f r : List ℕ) : Type 0 where
-  pub forward-few : n ≤ 512
-  pub reverse-few : m ≤ 512
+  pub forward-few : n ≤ nodePool
+  pub reverse-few : m ≤ nodePool
   pub lists : outcome o ≡ compiled (take n f) (take m r) (pickedOf o)
 
-pub says-made : (o : Read) (f r f' r' : List ℕ) (reached n m : ℕ) → length f' ≡ 512 → length r' ≡ 512 → made.gives reached n m ≡ made.outcomeSays o → f' ≡ made.outcomeForward o f → r' ≡ made.outcomeReverse o r → Made o n m f' r'
+pub says-made : (o : Read) (f r f' r' : List ℕ) (reached n m : ℕ) → length f' ≡ nodePool → length r' ≡ nodePool → made.gives reached n m ≡ made.outcomeSays o → f' ≡ made.outcomeForward o f → r' ≡ made.outcomeReverse o r → Made o n m f' r'
 unfolding made.outcomeSays made.outcomeForward made.outcomeReverse made.compiledSays made.compiledForward made.compiledReverse outcome pickedOf withPrograms
 says-made (rejected x place) f r f' r' reached n m lf lr e ef er = let z : _≡_ {A = ℕ} 0 1 = cc in absurd (omega arith)
 says-made (accepted end ts) f r f' r' reached n m lf lr e ef er = go (compile ts) refl
@@ -55,8 +56,8 @@ says-made (accepted end ts) f r f' r' reached n m lf lr e ef er = go (compile ts
     go (uncompiled x) h = let e' : made.gives reached n m ≡ made.compiledSays end (uncompiled x) = rw h at e in let z : _≡_ {A = ℕ} 0 1 = cc in absurd (omega arith)
     go (programs fw rv) h =
         let e' : made.gives reached n m ≡ made.gives end (length fw) (length rv) = rw h at e in
-        let ef' : f' ≡ filled 512 fw f = rw h at ef in
-        let er' : r' ≡ filled 512 rv r = rw h at er in
+        let ef' : f' ≡ filled nodePool fw f = rw h at ef in
+        let er' : r' ≡ filled nodePool rv r = rw h at er in
         let hn : n ≡ length fw = cc in
         let hm : m ≡ length rv = cc in record {
           forward-few = filled-few fw f f' n hn ef' lf;
@@ -75,13 +76,13 @@ says-refused (accepted end ts) k place e = go (compile ts) refl
 
 -- the literals are in the buffers
 pub record Taken (o : Read) (n rank : ℕ) (b l : List ℕ) : Type 0 where
-  pub few : n ≤ 256
+  pub few : n ≤ lentLengths
   pub lists : pickedOf o ≡ picked rank (cut (take n l) b)
 
 -- of buffers of the lent sizes
-module _ (b l : List ℕ) (lb : length b ≡ 32768) (ll : length l ≡ 256) where
+module _ (b l : List ℕ) (lb : length b ≡ lentBytes) (ll : length l ≡ lentLengths) where
   -- room there is room here
-  same-room : (ls : List (List ℕ)) → output.fits ls b l ≡ (leb (length ls) 256 && leb (length (flatten ls)) 32768)
+  same-room : (ls : List (List ℕ)) → output.fits ls b l ≡ (leb (length ls) lentLengths && leb (length (flatten ls)) lentBytes)
   unfolding output.fits
   same-room ls =
       ap₂ (λ (x y : ℕ). leb (length ls) x && leb (length (flatten ls)) y) ll lb
@@ -106,8 +107,8 @@ module _ (b l : List ℕ) (lb : length b ≡ 32768) (ll : length l ≡ 256) wher
           let hr : rank ≡ r = cc in
           let eb' : b' ≡ output.over (flatten ls) b = rw (h, f) at eb in
           let el' : l' ≡ output.over (map length ls) l = rw (h, f) at el in
-          let g : (leb (length ls) 256 && leb (length (flatten ls)) 32768) ≡ true = sym (same-room ls) ∙ f in record {
-            few = let k : length ls ≤ 256 = leb-true (length ls) 256 (and-left (leb (length ls) 256) (leb (length (flatten ls)) 32768) g) in omega arith;
+          let g : (leb (length ls) lentLengths && leb (length (flatten ls)) lentBytes) ≡ true = sym (same-room ls) ∙ f in record {
+            few = let k : length ls ≤ lentLengths = leb-true (length ls) lentLengths (and-left (leb (length ls) lentLengths) (leb (length (flatten ls)) lentBytes) g) in omega arith;
             lists = rw (h, g) (ap₂ picked (sym hr) (sym (cut-written ls b' l' n hn eb' el')));
           }
 
@@ -125,7 +126,7 @@ module _ (b l : List ℕ) (lb : length b ≡ 32768) (ll : length l ≡ 256) wher
       fit r ls false f h =
           let e' : taken.refuses k place ≡ taken.refuses 18 0 = rw (h, f) at e in
           let hk : k ≡ 18 = cc in
-          let g : (leb (length ls) 256 && leb (length (flatten ls)) 32768) ≡ false = sym (same-room ls) ∙ f in
+          let g : (leb (length ls) lentLengths && leb (length (flatten ls)) lentBytes) ≡ false = sym (same-room ls) ∙ f in
           rw (h, g) (ap unpicked (sym hk))
 
       go : (c : Choice) → pick ts ≡ c → withRoom (pick ts) ≡ unpicked k
@@ -140,12 +141,12 @@ module _ (b l : List ℕ) (lb : length b ≡ 32768) (ll : length l ≡ 256) wher
   untaken-door t why place r h e = says-untaken (reading t) (numberOf why) place (ap taken.said (sym h) ∙ e)
 
 -- at the compiling door, for pools of the lent sizes
-pub made-door : (t f r f' r' : List ℕ) (reached n m : ℕ) (a : CompileAnswer) → length f ≡ 512 → length r ≡ 512 → length f' ≡ 512 → length r' ≡ 512 → a ≡ Compiled' reached n m → made.said a ≡ made.compileSays t f r → f' ≡ made.forwardLeaves t f r → r' ≡ made.reverseLeaves t f r → Made (reading t) n m f' r'
+pub made-door : (t f r f' r' : List ℕ) (reached n m : ℕ) (a : CompileAnswer) → length f ≡ nodePool → length r ≡ nodePool → length f' ≡ nodePool → length r' ≡ nodePool → a ≡ Compiled' reached n m → made.said a ≡ made.compileSays t f r → f' ≡ made.forwardLeaves t f r → r' ≡ made.reverseLeaves t f r → Made (reading t) n m f' r'
 unfolding made.compileSays made.forwardLeaves made.reverseLeaves
 made-door t f r f' r' reached n m a lf lr lf' lr' h e ef er =
     says-made (reading t) f r f' r' reached n m lf' lr' (ap made.said (sym h) ∙ (rw (lf, lr) at e)) (rw (lf, lr) at ef) (rw (lf, lr) at er)
 
-pub refused-door : (t f r : List ℕ) (why : Refusal) (place : ℕ) (a : CompileAnswer) → length f ≡ 512 → length r ≡ 512 → a ≡ Unmade why place → made.said a ≡ made.compileSays t f r → outcome (reading t) ≡ refused (numberOf why) place
+pub refused-door : (t f r : List ℕ) (why : Refusal) (place : ℕ) (a : CompileAnswer) → length f ≡ nodePool → length r ≡ nodePool → a ≡ Unmade why place → made.said a ≡ made.compileSays t f r → outcome (reading t) ≡ refused (numberOf why) place
 unfolding made.compileSays
 refused-door t f r why place a lf lr h e = says-refused (reading t) (numberOf why) place (ap made.said (sym h) ∙ (rw (lf, lr) at e))
 
@@ -180,18 +181,18 @@ zeros n = replicate n 0
 pub length-zeros : (n : ℕ) → length (zeros n) ≡ n
 length-zeros n = length-replicate n 0
 
-pub made-sizes : {o : Read} {n m : ℕ} {f r : List ℕ} → Made o n m f r → (length (take (n - 0) (drop 0 f)) ≤ 512) × (length (take (m - 0) (drop 0 r)) ≤ 512)
+pub made-sizes : {o : Read} {n m : ℕ} {f r : List ℕ} → Made o n m f r → (length (take (n - 0) (drop 0 f)) ≤ nodePool) × (length (take (m - 0) (drop 0 r)) ≤ nodePool)
 made-sizes {o} {n} {m} {f} {r} d =
-    let a : n ≤ 512 = d .forward-few in
-    let b : m ≤ 512 = d .reverse-few in
+    let a : n ≤ nodePool = d .forward-few in
+    let b : m ≤ nodePool = d .reverse-few in
     (rw (length-take (n - 0) f) (omega arith), rw (length-take (m - 0) r) (omega arith))
 
 -- the lines of programs that small end early
-pub programs-end : {p q : List ℕ} (f r : List ℕ) {n : ℕ} → Put p 0 (programsLines f r) n q → length f ≤ 512 → length r ≤ 512 → n ≤ 14360
+pub programs-end : {p q : List ℕ} (f r : List ℕ) {n : ℕ} → Put p 0 (programsLines f r) n q → length f ≤ nodePool → length r ≤ nodePool → n ≤ 14360
 programs-end {p} {q} f r {n} w h k =
     let l : length (programsLines f r) ≤ 14360 = programs-fit f r h k in
     let e : n ≡ 0 + length (programsLines f r) = w .next in
     omega arith
 
-pub taken-size : {o : Read} {n rank : ℕ} {b l : List ℕ} → Taken o n rank b l → length (take (n - 0) (drop 0 l)) ≤ 256
-taken-size {o} {n} {rank} {b} {l} t = let a : n ≤ 256 = t .few in rw (length-take (n - 0) l) (omega arith)
+pub taken-size : {o : Read} {n rank : ℕ} {b l : List ℕ} → Taken o n rank b l → length (take (n - 0) (drop 0 l)) ≤ lentLengths
+taken-size {o} {n} {rank} {b} {l} t = let a : n ≤ lentLengths = t .few in rw (length-take (n - 0) l) (omega arith)

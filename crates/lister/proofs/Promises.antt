@@ -7,15 +7,17 @@ use native.Mathlib.Omega.{arith}
 use lib.Dec.{leb}
 use lib.ListN.{length, drop}
 use borrow.Author.Tests.{leb-true, le-leb}
+use Rattle.lister.specs.Listings.{listingLimit, lentBytes, lentLengths}
 use Rattle.base.specs.declared.Refusal.{Refusal}
 use Rattle.base.specs.declared.Refusal.the-variants.{TextTooLong, Unexpected, NumberTooBig, JumpEmpty, JumpRangeInvalid, JumpAtBound, JumpUnboundedInAlternation, JumpTooBigInAlternation, CannotNegateMaskAll, HexStringTooDeep, TooManyTokens, NotSimple, TooManyNodes, BranchTooLong, Unsound, BadWindow, TooManyLiterals, NoRoom, NotPlain}
 use Rattle.base.specs.Refusals.{numberOf}
+use Rattle.meaning.specs.Limits.{textLimit, nodeLimit}
 use Rattle.meaning.specs.Tokens.{Tokens}
 use Rattle.meaning.proofs.SoundLaws.{and-left, and-right}
 use Rattle.reading.specs.Lists.{Outcome as Read, accepted, rejected, reading}
 use Rattle.reading.proofs.Places.{rejected-place}
 use Rattle.compiling.specs.ProgramWords.{nodes}
-use Rattle.compiling.specs.Compiling.{nodeLimit, forwardProgram, reverseProgram, forwardWords, reverseWords}
+use Rattle.compiling.specs.Compiling.{forwardProgram, reverseProgram, forwardWords, reverseWords}
 use Rattle.compiling.specs.Compile.{few, Compiled, compiled as programs, refused as uncompiled, compile}
 use Rattle.compiling.proofs.GivenLaws.{programs-tests}
 use Rattle.picking.specs.Choice.{Picked as Choice, picked as chosen, unpicked as unchosen, pick}
@@ -53,31 +55,31 @@ number-small NoRoom = omega arith
 number-small NotPlain = omega arith
 
 -- a longer text is refused at 0
-place-small : (t : List ℕ) (r : Refusal) (place : ℕ) → reading t ≡ rejected r place → place ≤ 4096
+place-small : (t : List ℕ) (r : Refusal) (place : ℕ) → reading t ≡ rejected r place → place ≤ textLimit
 unfolding reading
-place-small t r place e = go (leb (length t) 4096) refl
+place-small t r place e = go (leb (length t) textLimit) refl
   where
-    go : (b : Bool) → leb (length t) 4096 ≡ b → place ≤ 4096
-    go true h = let k : length t ≤ 4096 = leb-true (length t) 4096 h in let l : place ≤ length t = rejected-place t r place e in omega arith
+    go : (b : Bool) → leb (length t) textLimit ≡ b → place ≤ textLimit
+    go true h = let k : length t ≤ textLimit = leb-true (length t) textLimit h in let l : place ≤ length t = rejected-place t r place e in omega arith
     go false h = let f : rejected TextTooLong 0 ≡ rejected r place = rw h at e in let z : 0 ≡ place = cc in omega arith
 
 picked-small : (ts : Tokens) → Small (withRoom (pick ts))
 unfolding withRoom
 picked-small ts = go (pick ts) refl
   where
-    fit : (n : ℕ) (ls : List (List ℕ)) (b : Bool) → n ≤ 80 → (leb (length ls) 256 && leb (length (flatten ls)) 32768) ≡ b → Small (cond b (picked n ls) (unpicked (numberOf NoRoom)))
+    fit : (n : ℕ) (ls : List (List ℕ)) (b : Bool) → n ≤ 80 → (leb (length ls) lentLengths && leb (length (flatten ls)) lentBytes) ≡ b → Small (cond b (picked n ls) (unpicked (numberOf NoRoom)))
     fit n ls true h e = (
       omega arith,
-      leb-true (length ls) 256 (and-left (leb (length ls) 256) (leb (length (flatten ls)) 32768) e),
-      leb-true (length (flatten ls)) 32768 (and-right (leb (length ls) 256) (leb (length (flatten ls)) 32768) e),
+      leb-true (length ls) lentLengths (and-left (leb (length ls) lentLengths) (leb (length (flatten ls)) lentBytes) e),
+      leb-true (length (flatten ls)) lentBytes (and-right (leb (length ls) lentLengths) (leb (length (flatten ls)) lentBytes) e),
     )
     fit n ls false h e = number-small NoRoom
 
     go : (c : Choice) → pick ts ≡ c → Small (withRoom c)
-    go (chosen n ls) e = fit n ls (leb (length ls) 256 && leb (length (flatten ls)) 32768) (picked-low ts n ls e) refl
+    go (chosen n ls) e = fit n ls (leb (length ls) lentLengths && leb (length (flatten ls)) lentBytes) (picked-low ts n ls e) refl
     go (unchosen r) e = number-small r
 
-programs-small : (ts : Tokens) (f r : List ℕ) → compile ts ≡ programs f r → (length f ≤ 512) × (length r ≤ 512)
+programs-small : (ts : Tokens) (f r : List ℕ) → compile ts ≡ programs f r → (length f ≤ nodeLimit) × (length r ≤ nodeLimit)
 unfolding few forwardWords reverseWords
 programs-small ts f r e =
     let q = programs-tests ts f r e in
@@ -88,17 +90,17 @@ programs-small ts f r e =
     (omega arith, omega arith)
 
 -- so the listing program, which lends as much, never wants room
-pub listing-room : (t : List ℕ) → length (listingOf t) ≤ 81920
+pub listing-room : (t : List ℕ) → length (listingOf t) ≤ listingLimit
 unfolding listingOf outcome withPrograms
 listing-room t = go (reading t) refl
   where
-    made : (ts : Tokens) (c : Compiled) → compile ts ≡ c → length (listing (withPrograms c (withRoom (pick ts)))) ≤ 81920
+    made : (ts : Tokens) (c : Compiled) → compile ts ≡ c → length (listing (withPrograms c (withRoom (pick ts)))) ≤ listingLimit
     made ts (programs f r) e = listing-fits f r (withRoom (pick ts)) (programs-small ts f r e .0) (programs-small ts f r e .1) (picked-small ts)
     made ts (uncompiled r) e = refused-fits (numberOf r) 0 (number-small r) (omega arith)
 
-    go : (o : Read) → reading t ≡ o → length (listing (outcome o)) ≤ 81920
+    go : (o : Read) → reading t ≡ o → length (listing (outcome o)) ≤ listingLimit
     go (accepted end ts) e = made ts (compile ts) refl
-    go (rejected r place) e = refused-fits (numberOf r) place (number-small r) (let p : place ≤ 4096 = place-small t r place e in omega arith)
+    go (rejected r place) e = refused-fits (numberOf r) place (number-small r) (let p : place ≤ textLimit = place-small t r place e in omega arith)
 
 -- ---- the door
 
@@ -111,9 +113,9 @@ pub list-single : (t p : List ℕ) (a b : Listed) (u v : List ℕ) → Lists t p
 list-single t p a b u v h k = (h .0 ∙ sym (k .0), h .1 ∙ sym (k .1))
 
 -- and with 81,920 bytes lent, or more, the whole listing stands at their front
-pub list-whole : (t p : List ℕ) (r : Listed) (q : List ℕ) → 81920 ≤ length p → Lists t p r q → (r ≡ Wrote (length (listingOf t))) × (q ≡ listingOf t ++ drop (length (listingOf t)) p)
+pub list-whole : (t p : List ℕ) (r : Listed) (q : List ℕ) → listingLimit ≤ length p → Lists t p r q → (r ≡ Wrote (length (listingOf t))) × (q ≡ listingOf t ++ drop (length (listingOf t)) p)
 list-whole t p r q h (a, b) =
-    let l : length (listingOf t) ≤ 81920 = listing-room t in
+    let l : length (listingOf t) ≤ listingLimit = listing-room t in
     let k : length (listingOf t) ≤ length p = omega arith in
     (a ∙ ap (λ (x : Bool). cond x (Wrote (length (listingOf t))) (Short (length (listingOf t)))) (le-leb (length (listingOf t)) (length p) k), b ∙ laid-whole k)
   where

@@ -9,6 +9,7 @@ use native.Mathlib.Omega.{arith}
 use native.Mathlib.Nat.{min-le-left}
 use lib.Dec.{ltb}
 use lib.ListN.{length}
+use Rattle.meaning.specs.Limits.{literalLimit, combinationLimit}
 use Rattle.meaning.specs.Tokens.{Tokens, nothing}
 use Rattle.atoms.specs.Score.{literalScore}
 use Rattle.atoms.proofs.Laws.{score-le}
@@ -40,7 +41,7 @@ Low tooMany = Unit {0}
 
 rank-low : (ts : Tokens) → LowRank (rank ts)
 unfolding rank combined counted rankValue
-rank-low ts = by-combinations (ltb 256 (combinations ts))
+rank-low ts = by-combinations (ltb combinationLimit (combinations ts))
   where
     by-count : (b : Bool) → LowRank (counted b ts)
     by-count true = tt
@@ -48,7 +49,7 @@ rank-low ts = by-combinations (ltb 256 (combinations ts))
 
     by-combinations : (b : Bool) → LowRank (combined b ts)
     by-combinations true = tt
-    by-combinations false = by-count (ltb 256 (length (literals ts)))
+    by-combinations false = by-count (ltb literalLimit (length (literals ts)))
 
 slice-low : (s : Slice) → LowRank (rankOf s)
 unfolding rankOf

@@ -18,6 +18,10 @@ lentBytes = 32768
 abbrev pub lentLengths : ℕ
 lentLengths = 256
 
+-- the most bytes that a listing has (proofs/Promises.antt, `listing-room`)
+abbrev pub listingLimit : ℕ
+listingLimit = 81920
+
 -- the literals, if there is room for them
 unfoldable pub withRoom : Choice → Picked
 withRoom (chosen rank ls) = cond (leb (length ls) lentLengths && leb (length (flatten ls)) lentBytes) (picked rank ls) (unpicked (numberOf NoRoom))

@@ -1,4 +1,7 @@
 // The listing of a text, as the listing program writes it.
+use base::LENT_BYTES;
+use base::LENT_LENGTHS;
+use base::NODE_POOL;
 use compiledoor::CompileAnswer;
 use lines::Listed;
 use literaldoor::LiteralsAnswer;
@@ -16,8 +19,8 @@ fn put_picked(text: &[u8], out: &mut [u8], at: usize) -> usize
     requires { ⌜ at < 2 ^ 32 ⌝ }
     ensures { λ r. ⌜ Put (now (out .entry)) at (pickedLines (pickedOf (reading (now (text .entry))))) r (now (out .exit)) ⌝ }
 {
-    let mut bytes = [0u8; 32768];
-    let mut lens = [0u16; 256];
+    let mut bytes = [0u8; LENT_BYTES];
+    let mut lens = [0u16; LENT_LENGTHS];
     let got = literaldoor::literals(text, &mut bytes, &mut lens);
     match got {
         LiteralsAnswer::Picked {
@@ -35,8 +38,8 @@ fn put_picked(text: &[u8], out: &mut [u8], at: usize) -> usize
 fn put_listing(text: &[u8], out: &mut [u8]) -> usize
     ensures { λ r. ⌜ Put (now (out .entry)) 0 (listingOf (now (text .entry))) r (now (out .exit)) ⌝ }
 {
-    let mut forward = [0u32; 512];
-    let mut reverse = [0u32; 512];
+    let mut forward = [0u32; NODE_POOL];
+    let mut reverse = [0u32; NODE_POOL];
     let got = compiledoor::compile(text, &mut forward, &mut reverse);
     match got {
         CompileAnswer::Compiled {

@@ -9,6 +9,7 @@ use lib.ListN.{length, take, drop}
 use borrow.Author.Tests.{le-leb}
 use Rattle.base.specs.declared.Refusal.{Refusal}
 use Rattle.base.specs.Refusals.{numberOf}
+use Rattle.meaning.specs.Limits.{tokenPool}
 use Rattle.meaning.specs.Tokens.{Tokens}
 use Rattle.meaning.specs.Entries.{entries}
 use Rattle.meaning.specs.Values.{Spelled}
@@ -99,5 +100,5 @@ unfolding outcomeSays outcomeBytes outcomeLengths
 text-picked t e ts ws s b l b′ l′ g w h =
     rw g (subst (λ (x : Picked). Picks e x s b l b′ l′) (ap (λ (x : List ℕ). pick (tokensIn x)) w ∙ pick-entries ts (accepted-spelled t e ts g)) h)
 
-pub entries-whole : (ts : Tokens) (ws : List ℕ) → ws ≡ entries ts → length (entries ts) ≤ 4092 → (length ws ≤ 4096) × Whole ws
+pub entries-whole : (ts : Tokens) (ws : List ℕ) → ws ≡ entries ts → length (entries ts) ≤ 4092 → (length ws ≤ tokenPool) × Whole ws
 entries-whole ts ws w h = (let l = ap length w in omega arith, subst Whole (sym w) (whole-entries ts))

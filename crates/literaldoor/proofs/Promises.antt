@@ -11,6 +11,7 @@ use Rattle.base.specs.declared.Refusal.{Refusal}
 use Rattle.base.specs.declared.Refusal.the-variants.{TooManyLiterals, NotPlain}
 use Rattle.base.specs.Refusals.{numberOf}
 use Rattle.base.proofs.RefusalLaws.{number-one}
+use Rattle.meaning.specs.Limits.{tokenLimit, literalLimit}
 use Rattle.meaning.specs.Tokens.{Tokens, Spans}
 use Rattle.meaning.specs.Values.{Bytes}
 use Rattle.reading.specs.Lists.{Outcome, accepted, reading}
@@ -88,8 +89,8 @@ pub record Handed (t : List ℕ) (e : ℕ) (ts : Tokens) (b l : List ℕ) (reach
   pub texts : List (List ℕ)
   pub picks : pick ts ≡ picked rank texts
   pub number : n ≡ length texts
-  pub few : n ≤ 256
-  pub sized : (s : List ℕ) → List·Memᴰ s texts → (1 ≤ length s) × (length s ≤ 512)
+  pub few : n ≤ literalLimit
+  pub sized : (s : List ℕ) → List·Memᴰ s texts → (1 ≤ length s) × (length s ≤ tokenLimit)
   pub bytes-are : bytesLeft t b l ≡ output.over (flatten texts) b
   pub lengths-are : lengthsLeft t b l ≡ output.over (map length texts) l
 

@@ -6,6 +6,7 @@ use mathlib.Core.List.{List, List·Memᴰ}
 use Prim.Native.Nat.{ℕ, _≤_, min}
 use native.Mathlib.Omega.{arith}
 use lib.ListN.{length}
+use Rattle.meaning.specs.Limits.{tokenLimit}
 use Rattle.meaning.specs.Tokens.{Token, Tokens, Lists, Byte, NotByte, MaskedByte, NotMaskedByte, Jump, Alternatives, nothing, _then_, neither, _or_, total}
 use Rattle.reading.specs.Lists.{accepted, reading}
 use Rattle.grammar.proofs.Spelling.{_⨾_, Bounded, SpellsToken, SpellsTokens, SpellsLists, SpellsRest, SpellsString, SpellsText}
@@ -61,10 +62,10 @@ accepted-listed t e ts h =
 
 -- ---- at most 512 tokens
 
-pub accepted-size : (t : List ℕ) (e : ℕ) (ts : Tokens) → reading t ≡ accepted e ts → total ts ≤ 512
+pub accepted-size : (t : List ℕ) (e : ℕ) (ts : Tokens) → reading t ≡ accepted e ts → total ts ≤ tokenLimit
 accepted-size t e ts h = accepted-spelled t e ts h .2
 
 -- the literals picked for an accepted text have 1 to 512 bytes
 pub read-literal-bounds : (t : List ℕ) (e : ℕ) (ts : Tokens) → reading t ≡ accepted e ts → (n : ℕ) (ls : List (List ℕ)) → pick ts ≡ picked n ls → (l : List ℕ) → List·Memᴰ l ls
-    → (1 ≤ length l) × (length l ≤ 512)
+    → (1 ≤ length l) × (length l ≤ tokenLimit)
 read-literal-bounds t e ts h n ls q l m = literal-bounds ts (accepted-listed t e ts h) (accepted-size t e ts h) n ls q l m

@@ -4,6 +4,7 @@ use mathlib.Core.Bool.{true}
 use mathlib.Core.List.{List, [], _∷_}
 use Prim.Native.Nat.{ℕ, _≤_}
 use lib.ListN.{length}
+use Rattle.meaning.specs.Limits.{tokenPool}
 use Rattle.meaning.specs.Tokens.{Tokens}
 use Rattle.meaning.specs.Entries.{entries}
 use Rattle.reading.specs.Lists.{accepted, reading}
@@ -28,7 +29,7 @@ module _ (t : List ℕ) (e : ℕ) (ts : Tokens) (r : reading t ≡ accepted e ts
       subst AllTold (sym (ap (λ (x : List ℕ). segments (tokensIn x)) w ∙ segments-entries ts p (accepted-spelled t e ts r)))
       (every-told (segments ts) (segments-told ts p (accepted-spelled t e ts r)))
 
-  pub entries-asked : length (entries ts) ≤ 4092 → (length ws ≤ 4096) × Whole ws × (plain (tokensIn ws) ≡ true → AllTold (segments (tokensIn ws)))
+  pub entries-asked : length (entries ts) ≤ 4092 → (length ws ≤ tokenPool) × Whole ws × (plain (tokensIn ws) ≡ true → AllTold (segments (tokensIn ws)))
   entries-asked h =
       let (few, whole) = entries-whole ts ws w h in
       (few, whole, λ p. plain-told (sym (ap (λ (x : List ℕ). plain (tokensIn x)) w ∙ plain-entries ts) ∙ p))

@@ -1,6 +1,7 @@
 // Translated from boreal's boreal/src/matcher/literals.rs (MIT OR Apache-2.0), commit 7010b5e967; see NOTICE.
 // The door by which the search literals of any bytes, read as a pattern, are picked.
 use base::Refusal;
+use base::TOKEN_POOL;
 use generator::Wrote;
 use picks::Pick;
 use readdoor::ReadAnswer;
@@ -8,6 +9,7 @@ ghost use mathlib.Core.Path.{_≡_};
 ghost use mathlib.Core.Bool.{true};
 ghost use Prim.Native.Nat.{_≤_};
 ghost use lib.ListN.{length};
+ghost use Rattle.meaning.specs.Limits.{literalLimit, tokenPool};
 ghost use Rattle.picking.specs.Literals.{literals as literalsOf};
 ghost use Rattle.picking.specs.Numbers.{count};
 ghost use Rattle.picking.specs.Runs.{plain, segments};
@@ -36,7 +38,7 @@ fn write_taken(
     bytes: &mut [u8],
     lengths: &mut [u16],
 ) -> LiteralsAnswer
-    requires { ⌜ (length (now ws) ≤ 4096) × (count (tokensIn (now ws)) ≤ 256) ⌝ }
+    requires { ⌜ (length (now ws) ≤ tokenPool) × (count (tokensIn (now ws)) ≤ literalLimit) ⌝ }
     ensures { λ r. ⌜ Picks reached (picked rank (literalsOf (tokensIn (now (ws .entry))))) (said r) (now (bytes .entry)) (now (lengths .entry)) (now (bytes .exit)) (now (lengths .exit)) ⌝ }
 {
     let w = generator::write_all(ws, bytes, lengths);
@@ -58,7 +60,7 @@ fn write_choice(
     bytes: &mut [u8],
     lengths: &mut [u16],
 ) -> LiteralsAnswer
-    requires { ⌜ (length (now ws) ≤ 4096) × Kept (now ws) choice ⌝ }
+    requires { ⌜ (length (now ws) ≤ tokenPool) × Kept (now ws) choice ⌝ }
     ensures { λ r. ⌜ Picks reached (taking (choiceSays (now (ws .entry)) choice)) (said r) (now (bytes .entry)) (now (lengths .entry)) (now (bytes .exit)) (now (lengths .exit)) ⌝ }
 {
     match choice {
@@ -74,7 +76,7 @@ fn write_choice(
 
 // 19, then 17, then 18.
 fn pick_tokens(ws: &[u32], reached: usize, bytes: &mut [u8], lengths: &mut [u16]) -> LiteralsAnswer
-    requires { ⌜ (length (now ws) ≤ 4096) × Whole (now ws) × (plain (tokensIn (now ws)) ≡ true → AllTold (segments (tokensIn (now ws)))) ⌝ }
+    requires { ⌜ (length (now ws) ≤ tokenPool) × Whole (now ws) × (plain (tokensIn (now ws)) ≡ true → AllTold (segments (tokensIn (now ws)))) ⌝ }
     ensures { λ r. ⌜ Picks reached (pick (tokensIn (now (ws .entry)))) (said r) (now (bytes .entry)) (now (lengths .entry)) (now (bytes .exit)) (now (lengths .exit)) ⌝ }
 {
     if !entries::is_plain(ws) {
@@ -84,13 +86,13 @@ fn pick_tokens(ws: &[u32], reached: usize, bytes: &mut [u8], lengths: &mut [u16]
     write_choice(ws, reached, choice, bytes, lengths)
 }
 
-// Picks the literals of a text. The tokens are read into 4,096 words of the stack.
+// Picks the literals of a text. The tokens are read into words of the stack.
 pub fn literals(text: &[u8], bytes: &mut [u8], lengths: &mut [u16]) -> LiteralsAnswer
     ensures { λ r. ⌜ (said r ≡ literalsSays (now (text .entry)) (now (bytes .entry)) (now (lengths .entry)))
         × (now (bytes .exit) ≡ bytesLeft (now (text .entry)) (now (bytes .entry)) (now (lengths .entry)))
         × (now (lengths .exit) ≡ lengthsLeft (now (text .entry)) (now (bytes .entry)) (now (lengths .entry))) ⌝ }
 {
-    let mut tokens = [0u32; 4096];
+    let mut tokens = [0u32; TOKEN_POOL];
     let r = readdoor::read(text, &mut tokens);
     match r {
         ReadAnswer::Read { end, words } => pick_tokens(&tokens[0..words], end, bytes, lengths),

@@ -5,6 +5,7 @@ use Prim.Native.Nat.{ℕ, _+_, _-_, _≤_, _<_}
 use native.Mathlib.Omega.{arith}
 use lib.Dec.{eqb}
 use lib.ListN.{length, getD, take, drop, length-drop}
+use Rattle.meaning.specs.Limits.{tokenPool}
 use Rattle.meaning.specs.Tokens.{Tokens, _⊕_}
 use Rattle.picking.specs.Literals.{lengthIn}
 use Rattle.picking.specs.Runs.{parts, slice, longer}
@@ -73,7 +74,7 @@ module _ (run : List ℕ) (prior at to len : ℕ) (c : Choice) (top : Pick) (p :
   at-le : at ≤ to
   at-le = let h = g .ahead in omega arith
 
-  pub slice-few : length (take (to - at) (drop at run)) ≤ 4096
+  pub slice-few : length (take (to - at) (drop at run)) ≤ tokenPool
   slice-few =
       let a = lib.ListN.length-take (to - at) (drop at run) in
       let b = length-drop at run in

@@ -9,6 +9,7 @@ use native.Mathlib.Nat.{one-mul, mod-one}
 use lib.Dec.{eqb, leb}
 use lib.ListN.{length, getD, take, drop, length-drop}
 use borrow.Author.Tests.{eq-eqb, ne-eqb, le-leb, lt-leb}
+use Rattle.meaning.specs.Limits.{literalLimit, tokenPool}
 use Rattle.meaning.specs.Tokens.{Tokens, Byte, NotByte, MaskedByte, NotMaskedByte, Jump, Alternatives, nothing, _then_}
 use Rattle.atoms.specs.Score.{literalScore}
 use Rattle.meaning.proofs.SoundLaws.{and-left, and-right}
@@ -51,7 +52,7 @@ rest-long run at h = let e = part-long at run in omega arith
 part-there : (run : List ℕ) (at : ℕ) → Whole (drop at run) → 4 ≤ length run - at → Part (drop at run) (partEnd (drop at run)) (eqb (getD (drop at run) 0 0) 0)
 part-there run at w h = first-part (drop at run) w (let d = length-drop at run in omega arith)
 
-module _ (run : List ℕ) (few : length run ≤ 4096) where
+module _ (run : List ℕ) (few : length run ≤ tokenPool) where
   pub weighed-start : Whole run → Weighed run 0 0 Nothing
   weighed-start w =
       record {
@@ -181,7 +182,7 @@ pub record Passed (run : List ℕ) (at : ℕ) : Type 0 where
   pub rest-whole : Whole (drop at run)
   pub same : strong (parts (tokensIn run)) ≡ strong (parts (tokensIn (drop at run)))
 
-module _ (run : List ℕ) (few : length run ≤ 4096) where
+module _ (run : List ℕ) (few : length run ≤ tokenPool) where
   pub passed-start : Whole run → Passed run 0
   passed-start w = record { inside = (omega arith); rest-whole = w; same = refl }
 
@@ -227,10 +228,10 @@ module _ (run : List ℕ) (few : length run ≤ 4096) where
       pub front-bytes : getD run at 0 ≡ 0 → AllBytes (words run at (at + n))
       front-bytes k = subst AllBytes own-is (literal-bytes (tokensIn (drop at run)) _ _ ((part-there run at (g .rest-whole) h) .part-is) (ap isLiteral own-is ∙ kind-at ∙ eq-eqb (getD run at 0) 0 k))
 
-      pub front-few : length (take ((at + n) - at) (drop at run)) ≤ 4096
+      pub front-few : length (take ((at + n) - at) (drop at run)) ≤ tokenPool
       front-few = let a = lib.ListN.length-take ((at + n) - at) (drop at run) in let b = length-drop at run in omega arith
 
-      pub front-count : getD run at 0 ≡ 0 → (0 < count (words run at (at + n))) × (count (words run at (at + n)) ≤ 256)
+      pub front-count : getD run at 0 ≡ 0 → (0 < count (words run at (at + n))) × (count (words run at (at + n)) ≤ literalLimit)
       front-count k = let e = bytes-count (words run at (at + n)) (front-bytes k) in (omega arith, omega arith)
 
       score-is : getD run at 0 ≡ 0 → (s : ℕ) → s ≡ literalScore (literalAt (words run at (at + n)) 0) → s ≡ literalScore (bytesOf (words run at (at + n)))

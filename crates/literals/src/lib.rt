@@ -4,6 +4,7 @@ ghost use mathlib.Core.Path.{_≡_};
 ghost use mathlib.Core.List.{List, _∷_};
 ghost use Prim.Native.Nat.{_≤_, _-_};
 ghost use lib.ListN.{length, take, drop};
+ghost use Rattle.meaning.specs.Limits.{tokenPool};
 ghost use Rattle.meaning.specs.Tokens.{Tokens, nothing};
 ghost use Rattle.picking.specs.Runs.{parts, longer, slices};
 ghost use Rattle.picking.specs.Choice.{best as bestOf, unranked, strong, aloneOr, inRun};
@@ -40,7 +41,7 @@ fn longer_slices(run: &[u32], prior: usize, at: usize, best: Pick) -> Pick
 
 // The first highest slice of a run, with the literal parts on either side.
 fn best_slice(run: &[u32]) -> Pick
-    requires { ⌜ (length (now run) ≤ 4096) × Whole (now run) ⌝ }
+    requires { ⌜ (length (now run) ≤ tokenPool) × Whole (now run) ⌝ }
     ensures { λ r. ⌜ choiceSays (now (run .entry)) r ≡ bestOf unranked (slices (parts (tokensIn (now (run .entry)))) nothing) ⌝ }
 {
     let mut prior = 0;
@@ -61,7 +62,7 @@ fn best_slice(run: &[u32]) -> Pick
 
 // The first literal part that scores at least 80.
 fn strong_part(run: &[u32]) -> Pick
-    requires { ⌜ (length (now run) ≤ 4096) × Whole (now run) ⌝ }
+    requires { ⌜ (length (now run) ≤ tokenPool) × Whole (now run) ⌝ }
     ensures { λ r. ⌜ choiceSays (now (run .entry)) r ≡ aloneOr (strong (parts (tokensIn (now (run .entry))))) unranked ⌝ }
 {
     let mut at = 0;
@@ -81,7 +82,7 @@ fn strong_part(run: &[u32]) -> Pick
 
 // What is chosen in a run: such a part alone, or else the best slice.
 pub fn in_run(run: &[u32]) -> Pick
-    requires { ⌜ (length (now run) ≤ 4096) × Whole (now run) ⌝ }
+    requires { ⌜ (length (now run) ≤ tokenPool) × Whole (now run) ⌝ }
     ensures { λ r. ⌜ choiceSays (now (run .entry)) r ≡ inRun (tokensIn (now (run .entry))) ⌝ }
 {
     let s = strong_part(run);

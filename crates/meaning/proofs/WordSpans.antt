@@ -7,6 +7,7 @@ use native.Mathlib.Omega.{arith}
 use lib.Dec.{leb}
 use borrow.Author.Tests.{leb-true, le-leb}
 use lib.ListN.{length, length-append}
+use Rattle.meaning.specs.Limits.{nodeLimit}
 use Rattle.meaning.specs.Programs.{Prog, Span}
 use Rattle.meaning.specs.Words.{prog, sound, soundWords, Sound, mirrorWords}
 use Rattle.meaning.proofs.SoundLaws.{and-left, and-right, and-both}
@@ -15,19 +16,19 @@ use Rattle.meaning.proofs.MirrorWords.{mirror-size, mirror-sound, mirro
 use Rattle.meaning.proofs.SpanLaws.{mirror-span, span-mirror}
 
 -- what the soundness test says, in its two parts
-pub sound-length : (ws : List ℕ) → sound ws ≡ true → length ws ≤ 512
+pub sound-length : (ws : List ℕ) → sound ws ≡ true → length ws ≤ nodeLimit
 unfolding sound
-sound-length ws h = leb-true (length ws) 512 (and-left (leb (length ws) 512) (soundWords (length ws) ws) h)
+sound-length ws h = leb-true (length ws) nodeLimit (and-left (leb (length ws) nodeLimit) (soundWords (length ws) ws) h)
 
 pub sound-words : (ws : List ℕ) → sound ws ≡ true → Sound ws
 unfolding sound
-sound-words ws h = and-right (leb (length ws) 512) (soundWords (length ws) ws) h
+sound-words ws h = and-right (leb (length ws) nodeLimit) (soundWords (length ws) ws) h
 
-pub words-sound : (ws : List ℕ) → length ws ≤ 512 → Sound ws → sound ws ≡ true
+pub words-sound : (ws : List ℕ) → length ws ≤ nodeLimit → Sound ws → sound ws ≡ true
 unfolding sound
-words-sound ws l h = and-both (le-leb (length ws) 512 l) h
+words-sound ws l h = and-both (le-leb (length ws) nodeLimit l) h
 
-module _ (ws vs : List ℕ) (h : sound ws ≡ true) (g : sound vs ≡ true) (room : length ws + length vs ≤ 512) where
+module _ (ws vs : List ℕ) (h : sound ws ≡ true) (g : sound vs ≡ true) (room : length ws + length vs ≤ nodeLimit) where
   -- laid one after another, within the node limit, sound programs are sound
   pub join-sound : sound (ws ++ vs) ≡ true
   join-sound = words-sound (ws ++ vs) (omega (arith, length-append ws vs)) (sound-append ws vs (sound-words ws h) (sound-words vs g))

@@ -1,5 +1,6 @@
 -- What patterns and programs mean. A reader who doubts the rest reads these files, in this order.
 pub mod Tokens
+pub mod Limits
 pub mod Programs
 pub mod Choices
 pub mod Words

@@ -6,6 +6,7 @@ use mathlib.Core.List.{List, [], _∷_, _++_}
 use Prim.Native.Nat.{ℕ, zero, suc, _+_, _*_, _/_, _%_}
 use lib.Dec.{eqb, leb, ltb}
 use lib.ListN.{length, take, drop}
+use Rattle.meaning.specs.Limits.{nodeLimit}
 use Rattle.meaning.specs.Programs.{byte, mask, negatedMask, dot, Item, Prog, Branches, one, jump, range, alt, end, _▹_, stop, or}
 
 -- how many values a field has
@@ -185,7 +186,7 @@ unfoldable pub branchesOf : List ℕ → Branches
 branchesOf ws = branches (length ws) ws
 
 unfoldable pub sound : List ℕ → Bool
-sound ws = leb (length ws) 512 && soundWords (length ws) ws
+sound ws = leb (length ws) nodeLimit && soundWords (length ws) ws
 
 -- what the parts that are handed down keep
 abbrev pub Sound : List ℕ → Type 0

@@ -4,6 +4,7 @@ use mathlib.Core.List.{List}
 use Prim.Native.Nat.{ℕ}
 use lib.Dec.{ltb}
 use lib.ListN.{length}
+use Rattle.meaning.specs.Limits.{nodeLimit, nodePool}
 use Rattle.meaning.specs.Words.{sound, mirrorWords}
 use Rattle.base.specs.Refusals.{numberOf}
 use Rattle.base.specs.Pools.{filled, cleared}
@@ -20,20 +21,16 @@ abbrev pub said : MirrorAnswer → Said
 said (Mirrored n) = mirrored n
 said (Refused r) = refused (numberOf r) 0
 
--- the words of the pool that are lent
-abbrev pub poolSize : ℕ
-poolSize = 512
-
 -- 18, then 13, then 15, then the mirror
 unfoldable pub mirrorSays : List ℕ → List ℕ → Said
 mirrorSays words pool =
-    cond (ltb (length pool) poolSize) (refused 18 0)
-    (cond (ltb 512 (length words)) (refused 13 0)
+    cond (ltb (length pool) nodePool) (refused 18 0)
+    (cond (ltb nodeLimit (length words)) (refused 13 0)
     (cond (sound words) (mirrored (length (mirrorWords words))) (refused 15 0)))
 
 -- 18 changes nothing, 13 and 15 zero the lent words, and success writes the mirror and zeroes the rest of them
 unfoldable pub mirrorLeaves : List ℕ → List ℕ → List ℕ
 mirrorLeaves words pool =
-    cond (ltb (length pool) poolSize) pool
-    (cond (ltb 512 (length words)) (cleared poolSize pool)
-    (cond (sound words) (filled poolSize (mirrorWords words) pool) (cleared poolSize pool)))
+    cond (ltb (length pool) nodePool) pool
+    (cond (ltb nodeLimit (length words)) (cleared nodePool pool)
+    (cond (sound words) (filled nodePool (mirrorWords words) pool) (cleared nodePool pool)))

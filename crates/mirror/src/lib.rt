@@ -1,4 +1,6 @@
 // The mirror of a sound program: its items and each branch's contents in reverse, its branches in their order.
+use base::NODE_LIMIT;
+use base::NODE_POOL;
 use base::Refusal;
 use nodes::NextWord;
 use nodes::NodeWord;
@@ -12,6 +14,7 @@ ghost use mathlib.Core.Path.{_≡_};
 ghost use mathlib.Core.List.{reverse};
 ghost use Prim.Native.Nat.{_≤_};
 ghost use lib.ListN.{length};
+ghost use Rattle.meaning.specs.Limits.{nodeLimit};
 ghost use Rattle.meaning.specs.Words.{Sound, SoundBranches, mirrorBranches, mirrorWords};
 ghost use Rattle.mirror.specs.MirrorDoor.{said, mirrorSays, mirrorLeaves};
 
@@ -36,7 +39,7 @@ fn reverse_into(src: &[NodeWord], dst: &mut [NodeWord])
 
 // Branches go to their own places, from the front on.
 fn mirror_branches(alts: &[NodeWord], out: &mut [NodeWord])
-    requires { ⌜ SoundBranches (now alts) × (length (now out) ≡ length (now alts)) × (length (now alts) ≤ 512) ⌝ }
+    requires { ⌜ SoundBranches (now alts) × (length (now out) ≡ length (now alts)) × (length (now alts) ≤ nodeLimit) ⌝ }
     ensures { λ _. ⌜ now (out .exit) ≡ mirrorBranches (length (now (alts .entry))) (now (alts .entry)) ⌝ }
 {
     let n = alts.len();
@@ -61,7 +64,7 @@ fn mirror_branches(alts: &[NodeWord], out: &mut [NodeWord])
 
 // Items go to the opposite places, from the back on.
 fn mirror_words(words: &[NodeWord], out: &mut [NodeWord])
-    requires { ⌜ Sound (now words) × (length (now out) ≡ length (now words)) × (length (now words) ≤ 512) ⌝ }
+    requires { ⌜ Sound (now words) × (length (now out) ≡ length (now words)) × (length (now words) ≤ nodeLimit) ⌝ }
     ensures { λ _. ⌜ now (out .exit) ≡ mirrorWords (now (words .entry)) ⌝ }
 {
     let mut ns = words;
@@ -86,19 +89,19 @@ fn mirror_words(words: &[NodeWord], out: &mut [NodeWord])
 pub fn mirror(words: &[NodeWord], pool: &mut [NodeWord]) -> MirrorAnswer
     ensures { λ r. ⌜ (said r ≡ mirrorSays (now (words .entry)) (now (pool .entry))) × (now (pool .exit) ≡ mirrorLeaves (now (words .entry)) (now (pool .entry))) ⌝ }
 {
-    if pool.len() < 512 {
+    if pool.len() < NODE_POOL {
         return MirrorAnswer::Refused(Refusal::NoRoom);
     }
-    if 512 < words.len() {
-        zero_nodes(pool, 0, 512);
+    if NODE_LIMIT < words.len() {
+        zero_nodes(pool, 0, NODE_POOL);
         return MirrorAnswer::Refused(Refusal::TooManyNodes);
     }
     if !is_sound(words) {
-        zero_nodes(pool, 0, 512);
+        zero_nodes(pool, 0, NODE_POOL);
         return MirrorAnswer::Refused(Refusal::Unsound);
     }
     let n = words.len();
     mirror_words(words, &mut pool[0..n]);
-    zero_nodes(pool, n, 512);
+    zero_nodes(pool, n, NODE_POOL);
     MirrorAnswer::Mirrored(n)
 }

@@ -8,6 +8,7 @@ use native.Mathlib.Nat.{mul-assoc, one-mul}
 use lib.Dec.{leb, ltb}
 use lib.ListN.{length}
 use borrow.Author.Tests.{ltb-false}
+use Rattle.meaning.specs.Limits.{literalLimit, combinationLimit}
 use Rattle.meaning.specs.Tokens.{left, right, all, Token, Tokens, Lists, Byte, NotByte, MaskedByte, NotMaskedByte, Jump, Alternatives, nothing, _then_, neither, _or_, _⊕_}
 use Rattle.meaning.proofs.SoundLaws.{and-left, and-right, and-both, false-true}
 use Rattle.picking.specs.Literals.{taken, isByte, isPlain, plainList, plainLists, literals, combinations, lengthIn, listableOf, listable, listableIn}
@@ -85,17 +86,17 @@ slices-sides (p ∷ ps) prior h e =
     every-append Sides (longer ps prior p _) _ (longer-sides ps prior p _ (h .1) e) (slices-sides ps (literalOnly p) (h .1) (only-single p (h .0)))
 
 -- a slice with a rank has at most 256 literals
-ranked-few : (ts : Tokens) (n : ℕ) → rank ts ≡ ranked n → count ts ≤ 256
+ranked-few : (ts : Tokens) (n : ℕ) → rank ts ≡ ranked n → count ts ≤ literalLimit
 unfolding rank combined counted
-ranked-few ts n h = go (ltb 256 (combinations ts)) (ltb 256 (length (literals ts))) refl refl
+ranked-few ts n h = go (ltb combinationLimit (combinations ts)) (ltb literalLimit (length (literals ts))) refl refl
   where
-    go : (a b : Bool) → ltb 256 (combinations ts) ≡ a → ltb 256 (length (literals ts)) ≡ b → count ts ≤ 256
+    go : (a b : Bool) → ltb combinationLimit (combinations ts) ≡ a → ltb literalLimit (length (literals ts)) ≡ b → count ts ≤ literalLimit
     go true b e f = absurd (let g : skipped ≡ ranked n = sym (ap (λ (x : Bool). combined x ts) e) ∙ h in let z : _≡_ {A = ℕ} 0 1 = cc in omega arith)
     go false true e f = absurd (let g : excessive ≡ ranked n = sym (ap (λ (x : Bool). combined x ts) e ∙ ap (λ (x : Bool). counted x ts) f) ∙ h in let z : _≡_ {A = ℕ} 0 1 = cc in omega arith)
-    go false false e f = let l = ltb-false 256 (length (literals ts)) f in let k = count-literals ts in omega arith
+    go false false e f = let l = ltb-false literalLimit (length (literals ts)) f in let k = count-literals ts in omega arith
 
 abbrev Few : Tokens → Type 0
-Few us = count us ≤ 256
+Few us = count us ≤ literalLimit
 
 widened-few : (s : Slice) → Sides s → Widely Few s
 unfolding Sides rankOf widened
@@ -113,12 +114,12 @@ few-in run =
     (every-map Sides (Widely Few) widened-few (slices (parts run) nothing) (slices-sides (parts run) nothing ps refl))
 
 -- in a run at most 256 literals are taken
-pub chosen-few : (run : Tokens) (n : ℕ) (us : Tokens) → inRun run ≡ chosen n us → count us ≤ 256
+pub chosen-few : (run : Tokens) (n : ℕ) (us : Tokens) → inRun run ≡ chosen n us → count us ≤ literalLimit
 unfolding Holds
 chosen-few run n us e = subst (Holds Few) e (few-in run)
 
 -- and so among all
-pub choice-few : (ts : Tokens) (n : ℕ) (us : Tokens) → choice ts ≡ chosen n us → count us ≤ 256
+pub choice-few : (ts : Tokens) (n : ℕ) (us : Tokens) → choice ts ≡ chosen n us → count us ≤ literalLimit
 unfolding Holds Every
 choice-few ts n us e = subst (Holds Few) e (choice-holds Few ts (go (runs ts)))
   where

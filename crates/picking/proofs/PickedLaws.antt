@@ -7,6 +7,7 @@ use Prim.Native.Nat.{ℕ, _+_, _≤_}
 use native.Mathlib.Omega.{arith}
 use lib.ListN.{length}
 use Rattle.base.specs.declared.Refusal.the-variants.{NotPlain}
+use Rattle.meaning.specs.Limits.{tokenLimit, literalLimit}
 use Rattle.meaning.specs.Values.{Bytes}
 use Rattle.meaning.specs.Tokens.{Token, Tokens, Byte, NotByte, MaskedByte, NotMaskedByte, Jump, Alternatives, nothing, _then_, Spans, _⊕_, total}
 use Rattle.picking.specs.Literals.{literals, lengthOf, lengthIn, listedOf, listed}
@@ -39,13 +40,13 @@ picked-from ts n ls h = go (plain ts) (choice ts) refl refl h
     go false c p e q = absurd (let z : _≡_ {A = ℕ} 0 1 = cc in omega arith)
 
 -- at most 256 literals are picked
-pub picked-few : (ts : Tokens) (n : ℕ) (ls : List (List ℕ)) → pick ts ≡ picked n ls → length ls ≤ 256
+pub picked-few : (ts : Tokens) (n : ℕ) (ls : List (List ℕ)) → pick ts ≡ picked n ls → length ls ≤ literalLimit
 picked-few ts n ls h = ⊎-elim none-few some-few (picked-from ts n ls h)
   where
-    none-few : (n ≡ 0) × (ls ≡ []) → length ls ≤ 256
+    none-few : (n ≡ 0) × (ls ≡ []) → length ls ≤ literalLimit
     none-few (a, e) = let l : length ls ≡ 0 = ap length e in omega arith
 
-    some-few : (us : Tokens) × Source ts us n ls → length ls ≤ 256
+    some-few : (us : Tokens) × Source ts us n ls → length ls ≤ literalLimit
     some-few (us, s) =
         let l : length ls ≡ _ = ap length (s .theirs) ∙ count-literals us in
         let k = choice-few ts n us (s .given) in
@@ -111,7 +112,7 @@ picked-lengths ts g n ls h l m = ⊎-elim (λ (z : (n ≡ 0) × (ls ≡ [])). ab
         (omega arith, omega arith)
 
 -- so 512 tokens bound it
-pub literal-bounds : (ts : Tokens) → listed ts → total ts ≤ 512 → (n : ℕ) (ls : List (List ℕ)) → pick ts ≡ picked n ls → (l : List ℕ) → List·Memᴰ l ls → (1 ≤ length l) × (length l ≤ 512)
+pub literal-bounds : (ts : Tokens) → listed ts → total ts ≤ tokenLimit → (n : ℕ) (ls : List (List ℕ)) → pick ts ≡ picked n ls → (l : List ℕ) → List·Memᴰ l ls → (1 ≤ length l) × (length l ≤ tokenLimit)
 literal-bounds ts g s n ls h l m =
     let k = picked-lengths ts g n ls h l m in
     let high = k .1 in

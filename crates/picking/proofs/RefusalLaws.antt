@@ -10,19 +10,20 @@ use lib.Dec.{ltb}
 use lib.ListN.{length}
 use borrow.Author.Tests.{ltb-true, ltb-false, lt-ltb, le-ltb}
 use Rattle.base.specs.declared.Refusal.the-variants.{TooManyLiterals, NotPlain}
+use Rattle.meaning.specs.Limits.{literalLimit, combinationLimit}
 use Rattle.meaning.specs.Tokens.{Tokens, nothing}
 use Rattle.picking.specs.Literals.{literals, combinations}
 use Rattle.picking.specs.Runs.{plain, runs, parts, Slice, slices}
 use Rattle.picking.specs.Choice.{Ranked, ranked, skipped, excessive, counted, combined, rank, Choice, unranked, chosen, tooMany, widened, against, rankOf, best, strong, aloneOr, inRun, beats, between, among, choice, unpicked, taking, pick}
 
 -- a slice is not skipped, and its literals exceed 256
-pub excessive-is : (ts : Tokens) → (rank ts ≡ excessive) ↔ ((combinations ts ≤ 256) × (256 < length (literals ts)))
+pub excessive-is : (ts : Tokens) → (rank ts ≡ excessive) ↔ ((combinations ts ≤ combinationLimit) × (literalLimit < length (literals ts)))
 unfolding rank combined counted
-excessive-is ts = (to (ltb 256 (combinations ts)) (ltb 256 (length (literals ts))) refl refl, λ h. rw (le-ltb 256 (combinations ts) (h .0)) (rw (lt-ltb 256 (length (literals ts)) (h .1))))
+excessive-is ts = (to (ltb combinationLimit (combinations ts)) (ltb literalLimit (length (literals ts))) refl refl, λ h. rw (le-ltb combinationLimit (combinations ts) (h .0)) (rw (lt-ltb literalLimit (length (literals ts)) (h .1))))
   where
-    to : (a b : Bool) → ltb 256 (combinations ts) ≡ a → ltb 256 (length (literals ts)) ≡ b → rank ts ≡ excessive → (combinations ts ≤ 256) × (256 < length (literals ts))
+    to : (a b : Bool) → ltb combinationLimit (combinations ts) ≡ a → ltb literalLimit (length (literals ts)) ≡ b → rank ts ≡ excessive → (combinations ts ≤ combinationLimit) × (literalLimit < length (literals ts))
     to true b e f h = absurd (let g : skipped ≡ excessive = sym (ap (λ (x : Bool). combined x ts) e) ∙ h in let z : _≡_ {A = ℕ} 0 1 = cc in omega arith)
-    to false true e f h = (ltb-false 256 (combinations ts) e, ltb-true 256 (length (literals ts)) f)
+    to false true e f h = (ltb-false combinationLimit (combinations ts) e, ltb-true literalLimit (length (literals ts)) f)
     to false false e f h = absurd (let g : counted false ts ≡ excessive = sym (ap (λ (x : Bool). combined x ts) e ∙ ap (λ (x : Bool). counted x ts) f) ∙ h in let z : _≡_ {A = ℕ} 0 1 = cc in omega arith)
 
 -- among slices

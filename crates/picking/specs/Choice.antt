@@ -6,6 +6,7 @@ use mathlib.Core.List.{List, [], _∷_}
 use Prim.Native.Nat.{ℕ, _-_, min}
 use lib.Dec.{eqb, leb, ltb}
 use lib.ListN.{length}
+use Rattle.meaning.specs.Limits.{literalLimit, combinationLimit}
 use Rattle.meaning.specs.Tokens.{Token, Tokens, Byte, NotByte, MaskedByte, NotMaskedByte, Jump, Alternatives, nothing, _then_, _⊕_}
 use Rattle.base.specs.declared.Refusal.{Refusal}
 use Rattle.base.specs.declared.Refusal.the-variants.{TooManyLiterals, NotPlain}
@@ -44,10 +45,10 @@ counted false ts = ranked (rankValue ts)
 -- above 256 combinations a slice is skipped
 unfoldable pub combined : Bool → Tokens → Ranked
 combined true ts = skipped
-combined false ts = counted (ltb 256 (length (literals ts))) ts
+combined false ts = counted (ltb literalLimit (length (literals ts))) ts
 
 unfoldable pub rank : Tokens → Ranked
-rank ts = combined (ltb 256 (combinations ts)) ts
+rank ts = combined (ltb combinationLimit (combinations ts)) ts
 
 -- what is chosen: nothing so far, a rank and the tokens whose literals are taken, or 17
 pub data Choice : Type 0 where

@@ -6,6 +6,8 @@ use native.Mathlib.Omega.{arith}
 use native.Mathlib.Nat.{mul-zero, mul-one, one-mul, mul-comm, mul-assoc, le-mul-of-pos-right, div-one, mod-one}
 use lib.ListN.{length, getD, take, drop, replicate, length-drop, length-replicate}
 use borrow.Author.Tests.{lt-ltb, le-ltb}
+use Rattle.meaning.specs.Limits.{literalLimit}
+use Rattle.tallies.specs.Tallies.{countTop}
 use Rattle.meaning.specs.Tokens.{Token, Tokens, Lists, Byte, NotByte, MaskedByte, NotMaskedByte, Jump, Alternatives, neither, _or_}
 use Rattle.picking.specs.Literals.{taken}
 use Rattle.picking.specs.Numbers.{countOf, count, countIn, prefixIn, prefixOf, prefixed, pieceOf, ending, pieceIn}
@@ -83,14 +85,14 @@ factor-le a b n e h =
 
 -- ---- in the words of the code
 
-module _ (ws : List ℕ) (h : 4 ≤ length ws) (n e : ℕ) (ends-at : e ≡ ends ws) (counted : n ≡ min 257 (count (flatIn (take (e - 4) (drop 4 ws))))) (few : countIn (listsIn ws) ≤ 256) where
+module _ (ws : List ℕ) (h : 4 ≤ length ws) (n e : ℕ) (ends-at : e ≡ ends ws) (counted : n ≡ min countTop (count (flatIn (take (e - 4) (drop 4 ws))))) (few : countIn (listsIn ws) ≤ literalLimit) where
   pub list-exact : n ≡ count (flatIn (inside ws))
   list-exact =
-      let l : count (flatIn (inside ws)) ≤ 256 = omega (arith, count-lists ws h) in
-      let c : n ≡ min 257 (count (flatIn (inside ws))) = counted ∙ ap (λ (x : ℕ). min 257 (count (flatIn (take (x - 4) (drop 4 ws))))) ends-at in
+      let l : count (flatIn (inside ws)) ≤ literalLimit = omega (arith, count-lists ws h) in
+      let c : n ≡ min countTop (count (flatIn (inside ws))) = counted ∙ ap (λ (x : ℕ). min countTop (count (flatIn (take (x - 4) (drop 4 ws))))) ends-at in
       omega arith
 
-  pub lists-few : countIn (listsIn (drop (ends ws) ws)) ≤ 256
+  pub lists-few : countIn (listsIn (drop (ends ws) ws)) ≤ literalLimit
   lists-few = omega (arith, count-lists ws h)
 
   pub prefix-found : (p q : ℕ) → q < p * n → prefixIn (listsIn ws) p q ≡ q / n
@@ -102,18 +104,18 @@ module _ (ws : List ℕ) (h : 4 ≤ length ws) (n e : ℕ) (ends-at : e ≡ ends
       prefix-later ws h p q (subst (λ (x : ℕ). p * x ≤ q) list-exact l)
       ∙ ap (λ (x : ℕ). prefixIn (listsIn (drop (ends ws) ws)) p (q - p * x)) (sym list-exact)
 
-pub inside-few : (ws : List ℕ) → getD ws 0 0 ≡ 5 → countOf (tokenIn ws) ≤ 256 → (e : ℕ) → e ≡ ends ws → countIn (listsIn (take (e - 4) (drop 4 ws))) ≤ 256
+pub inside-few : (ws : List ℕ) → getD ws 0 0 ≡ 5 → countOf (tokenIn ws) ≤ literalLimit → (e : ℕ) → e ≡ ends ws → countIn (listsIn (take (e - 4) (drop 4 ws))) ≤ literalLimit
 inside-few ws k l e g =
     let a = token-count-inside ws k in
     let b : countIn (listsIn (take (e - 4) (drop 4 ws))) ≡ countIn (listsIn (inside ws)) = ap (λ (x : ℕ). countIn (listsIn (take (x - 4) (drop 4 ws)))) g in
     omega arith
 
 -- at a token: p prefixes before it, and c literals of its own
-module _ (ws : List ℕ) (h : 4 ≤ length ws) (p : ℕ) (num : Numerable p (count (tokensIn ws))) (c : ℕ) (c-is : c ≡ min 257 (countOf (tokenIn ws))) where
+module _ (ws : List ℕ) (h : 4 ≤ length ws) (p : ℕ) (num : Numerable p (count (tokensIn ws))) (c : ℕ) (c-is : c ≡ min countTop (countOf (tokenIn ws))) where
   token-product : p * (countOf (tokenIn ws) * count (tokensIn (drop (width ws) ws))) ≡ p * count (tokensIn ws)
   token-product = ap (λ (x : ℕ). p * x) (sym (tokens-count ws h))
 
-  token-bounds : (p ≤ 256) × (countOf (tokenIn ws) ≤ 256)
+  token-bounds : (p ≤ literalLimit) × (countOf (tokenIn ws) ≤ literalLimit)
   token-bounds =
       let R = count (tokensIn (drop (width ws) ws)) in
       let f = factor-le p (countOf (tokenIn ws) * R) (p * count (tokensIn ws)) token-product (num .some) in
@@ -121,13 +123,13 @@ module _ (ws : List ℕ) (h : 4 ≤ length ws) (p : ℕ) (num : Numerable p (cou
       let a : p ≤ p * count (tokensIn ws) = f .2 in
       let b : countOf (tokenIn ws) * R ≤ p * count (tokensIn ws) = f .3 in
       let d : countOf (tokenIn ws) ≤ countOf (tokenIn ws) * R = g .2 in
-      let n : p * count (tokensIn ws) ≤ 256 = num .few in
+      let n : p * count (tokensIn ws) ≤ literalLimit = num .few in
       (omega arith, omega arith)
 
-  pub prefixes-few : p ≤ 256
+  pub prefixes-few : p ≤ literalLimit
   prefixes-few = token-bounds .0
 
-  pub token-few : countOf (tokenIn ws) ≤ 256
+  pub token-few : countOf (tokenIn ws) ≤ literalLimit
   token-few = token-bounds .1
 
   pub token-exact : c ≡ countOf (tokenIn ws)
@@ -141,13 +143,13 @@ module _ (ws : List ℕ) (h : 4 ≤ length ws) (p : ℕ) (num : Numerable p (cou
   after-numerable =
       record {
         some = subst (λ (x : ℕ). 0 < x) (sym after-product) (num .some);
-        few = subst (λ (x : ℕ). x ≤ 256) (sym after-product) (num .few);
+        few = subst (λ (x : ℕ). x ≤ literalLimit) (sym after-product) (num .few);
       }
 
   pub after-below : (k : ℕ) → k < p * count (tokensIn ws) → k < p * c * count (tokensIn (drop (width ws) ws))
   after-below k = subst (λ (x : ℕ). k < x) (sym after-product)
 
-  pub c-le : c ≤ 257
+  pub c-le : c ≤ countTop
   c-le = omega arith
 
 -- ---- a token with one literal has it at every number
@@ -194,7 +196,7 @@ single-piece t e p q r h g = go t e
     go (Jump a b) d = same (countOf (Jump a b)) d (taken (Jump a b))
     go (Alternatives ls) d = single-in ls d p q r h g
 
-pub single-any : (ws : List ℕ) → 4 ≤ length ws → (p n k : ℕ) → Numerable p (count (tokensIn ws)) → n ≡ min 257 (countOf (tokenIn ws)) → k < p * count (tokensIn ws) → n ≡ 1
+pub single-any : (ws : List ℕ) → 4 ≤ length ws → (p n k : ℕ) → Numerable p (count (tokensIn ws)) → n ≡ min countTop (countOf (tokenIn ws)) → k < p * count (tokensIn ws) → n ≡ 1
     → pieceOf (tokenIn ws) p 0 ≡ pieceOf (tokenIn ws) p (prefixed (tokensIn (drop (width ws) ws)) (p * countOf (tokenIn ws)) k)
 single-any ws h p n k num e l o =
     let R = tokensIn (drop (width ws) ws) in

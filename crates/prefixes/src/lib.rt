@@ -3,13 +3,15 @@
 ghost use mathlib.Core.Path.{_≡_};
 ghost use Prim.Native.Nat.{_*_, _≤_, _<_, min};
 ghost use lib.ListN.{length, drop};
+ghost use Rattle.meaning.specs.Limits.{literalLimit};
+ghost use Rattle.tallies.specs.Tallies.{countTop};
 ghost use Rattle.picking.specs.Numbers.{countOf, count, countIn, prefixIn, prefixOf, prefixed, pieceOf};
 ghost use Rattle.entries.specs.Words.{listsIn, tokenIn, width, tokensIn};
 ghost use Rattle.prefixes.specs.Numbers.{Numerable, Past};
 
 // With which of p prefixes literal number q of some lists begins.
 fn prefix_in(ls: &[u32], p: usize, q: usize) -> usize
-    requires { ⌜ (p ≤ 256) × (countIn (listsIn (now ls)) ≤ 256) ⌝ }
+    requires { ⌜ (p ≤ literalLimit) × (countIn (listsIn (now ls)) ≤ literalLimit) ⌝ }
     ensures { λ r. ⌜ r ≡ prefixIn (listsIn (now (ls .entry))) p q ⌝ }
 {
     let mut rest = ls;
@@ -29,7 +31,7 @@ fn prefix_in(ls: &[u32], p: usize, q: usize) -> usize
 
 // The same of the token at the front.
 fn prefix_of(ws: &[u32], p: usize, q: usize) -> usize
-    requires { ⌜ (4 ≤ length (now ws)) × (p ≤ 256) × (countOf (tokenIn (now ws)) ≤ 256) ⌝ }
+    requires { ⌜ (4 ≤ length (now ws)) × (p ≤ literalLimit) × (countOf (tokenIn (now ws)) ≤ literalLimit) ⌝ }
     ensures { λ r. ⌜ r ≡ prefixOf (tokenIn (now (ws .entry))) p q ⌝ }
 {
     if ws[0] == 5 {
@@ -76,7 +78,7 @@ fn prefixed_by(ws: &[u32], p: usize, k: usize) -> usize
 // The number of the prefix, token at the front and all, with which literal number k begins. A token with one literal has it at every number; among
 // 256 literals eight tokens at most have more, so that few walk through all tokens after them.
 pub fn number_of(ws: &[u32], p: usize, n: usize, k: usize) -> usize
-    requires { ⌜ (4 ≤ length (now ws)) × Numerable p (count (tokensIn (now ws))) × (n ≡ min 257 (countOf (tokenIn (now ws)))) × (k < p * count (tokensIn (now ws))) ⌝ }
+    requires { ⌜ (4 ≤ length (now ws)) × Numerable p (count (tokensIn (now ws))) × (n ≡ min countTop (countOf (tokenIn (now ws)))) × (k < p * count (tokensIn (now ws))) ⌝ }
     ensures { λ r. ⌜ pieceOf (tokenIn (now (ws .entry))) p r ≡ pieceOf (tokenIn (now (ws .entry))) p (prefixed (tokensIn (drop (width (now (ws .entry))) (now (ws .entry)))) (p * countOf (tokenIn (now (ws .entry)))) k) ⌝ }
 {
     if n == 1 {

@@ -32,11 +32,14 @@ pub fn put_bytes(out: &mut [u8], at: usize, s: &[u8]) -> usize
     k
 }
 
+// What a letter has more than the value for which it stands.
+const UPPER: u8 = b'A' - 10;
+
 fn digit_of(d: u8) -> u8
     requires { ⌜ d < 16 ⌝ }
     ensures { λ r. ⌜ r ≡ digit d ⌝ }
 {
-    if d < 10 { 48 + d } else { 55 + d }
+    if d < 10 { b'0' + d } else { UPPER + d }
 }
 
 // Two upper-case digits.

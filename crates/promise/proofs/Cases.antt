@@ -6,6 +6,7 @@ use mathlib.Core.List.{List}
 use Prim.Native.Nat.{ℕ, suc, _+_, _<_}
 use lib.ListN.{length, length-append}
 use Rattle.base.specs.declared.Refusal.the-variants.{NotSimple, TooManyNodes, BranchTooLong}
+use Rattle.meaning.specs.Limits.{branchLimit, nodeLimit}
 use Rattle.meaning.specs.Tokens.{Token, Tokens, Lists, Byte, NotByte, MaskedByte, NotMaskedByte, Jump, Alternatives, nothing, _then_, neither, _or_}
 use Rattle.meaning.specs.Programs.{Item, Prog, Branches, one, jump, range, alt, end, _▹_, stop, or as branch}
 use Rattle.compiling.specs.ProgramWords.{wordsFor, wordsOf, wordsIn, nodes}
@@ -129,12 +130,12 @@ mutual
 long-in : (bs : Branches) → compiling.LongIn bs → LongIn bs
 unfolding compiling.LongIn
 long-in stop h = absurd h
-long-in (branch p bs) (inl h) = this-branch (subst (λ (n : ℕ). 255 < n) (program-size p) h)
+long-in (branch p bs) (inl h) = this-branch (subst (λ (n : ℕ). branchLimit < n) (program-size p) h)
 long-in (branch p bs) (inr h) = other-branch (long-in bs h)
 
 in-long : {bs : Branches} → LongIn bs → compiling.LongIn bs
 unfolding compiling.LongIn
-in-long (this-branch {p = p} h) = inl (subst (λ (n : ℕ). 255 < n) (sym (program-size p)) h)
+in-long (this-branch {p = p} h) = inl (subst (λ (n : ℕ). branchLimit < n) (sym (program-size p)) h)
 in-long (other-branch h) = inr (in-long h)
 
 long-of : (p : Prog) → compiling.LongBranch p → Long p
@@ -154,11 +155,11 @@ of-long (cases.Long.further h) = inr (of-long h)
 -- 13
 large-of : (p : Prog) → compiling.ManyNodes p → Large p
 unfolding compiling.ManyNodes
-large-of p h = subst (λ (n : ℕ). 512 < n) (program-size p) h
+large-of p h = subst (λ (n : ℕ). nodeLimit < n) (program-size p) h
 
 of-large : (p : Prog) → Large p → compiling.ManyNodes p
 unfolding compiling.ManyNodes
-of-large p h = subst (λ (n : ℕ). 512 < n) (sym (program-size p)) h
+of-large p h = subst (λ (n : ℕ). nodeLimit < n) (sym (program-size p)) h
 
 -- each refusal of compiling is given exactly in its case, 12 before 14 before 13
 module _ (ts : Tokens) where

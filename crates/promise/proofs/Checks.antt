@@ -9,6 +9,7 @@ use native.Mathlib.Omega.{arith}
 use lib.Dec.{leb}
 use borrow.Author.Tests.{leb-true, leb-false}
 use lib.ListN.{length}
+use Rattle.meaning.specs.Limits.{nodeLimit}
 use Rattle.meaning.specs.Programs.{Prog}
 use Rattle.meaning.specs.Choices.{Nowhere}
 use Rattle.meaning.specs.Words.{sound}
@@ -39,15 +40,15 @@ module _ (ws hay : List ℕ) (s e : ℕ) where
   asked : Asked ws hay s e ⊎ Why ws hay s e
   asked = at-start (leb s e) refl
     where
-      at-words : s ≤ e → e ≤ length hay → (b : Bool) → leb (length ws) 512 ≡ b → (c : Bool) → sound ws ≡ c → Asked ws hay s e ⊎ Why ws hay s e
+      at-words : s ≤ e → e ≤ length hay → (b : Bool) → leb (length ws) nodeLimit ≡ b → (c : Bool) → sound ws ≡ c → Asked ws hay s e ⊎ Why ws hay s e
       at-words d l b h true g = inl (record { ordered = d; inside = l; tested = g })
       at-words d l true h false g =
-          let k = leb-true (length ws) 512 h in
+          let k = leb-true (length ws) nodeLimit h in
           inr (record { number = 15; listed = said.unsound d l k (λ x. let y = sound-listed ws .1 x in let z : _≡_ {A = ℕ} 0 1 = cc in omega arith); tells = law.unsound ws (length hay) s e d l k (sym g) })
-      at-words d l false h false g = let k = leb-false (length ws) 512 h in inr (record { number = 13; listed = said.too-many d l k; tells = law.many ws (length hay) s e d l k })
+      at-words d l false h false g = let k = leb-false (length ws) nodeLimit h in inr (record { number = 13; listed = said.too-many d l k; tells = law.many ws (length hay) s e d l k })
 
       at-end : s ≤ e → (b : Bool) → leb e (length hay) ≡ b → Asked ws hay s e ⊎ Why ws hay s e
-      at-end d true h = at-words d (leb-true e (length hay) h) (leb (length ws) 512) refl (sound ws) refl
+      at-end d true h = at-words d (leb-true e (length hay) h) (leb (length ws) nodeLimit) refl (sound ws) refl
       at-end d false h = let k = leb-false e (length hay) h in inr (record { number = 16; listed = said.bad-window (λ a b. omega arith); tells = law.beyond ws (length hay) s e d k })
 
       at-start : (b : Bool) → leb s e ≡ b → Asked ws hay s e ⊎ Why ws hay s e
@@ -68,7 +69,7 @@ module _ (ws hay : List ℕ) (s e : ℕ) where
   tells-so (said.too-many d l h) = law.many ws (length hay) s e d l h
   tells-so (said.unsound d l k h) = law.unsound ws (length hay) s e d l k (not-sound ws h)
 
-  listed-sound : (p : Prog) → length ws ≤ 512 → Nodes ws p → sound ws ≡ true
+  listed-sound : (p : Prog) → length ws ≤ nodeLimit → Nodes ws p → sound ws ≡ true
   listed-sound p k n = sound-listed ws .1 (record { few = k; program = p; nodes = n })
 
   -- forward

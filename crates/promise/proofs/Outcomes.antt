@@ -9,6 +9,7 @@ use lib.Dec.{leb, ltb}
 use borrow.Author.Tests.{leb-true, leb-false, le-leb, lt-leb, ltb-true, ltb-false, lt-ltb, le-ltb}
 use lib.ListN.{length}
 use Rattle.base.specs.Pools.{filled, cleared}
+use Rattle.meaning.specs.Limits.{nodeLimit, tokenPool, nodePool}
 use Rattle.meaning.specs.Tokens.{Tokens}
 use Rattle.meaning.specs.Programs.{Prog, mirror}
 use Rattle.meaning.specs.Words.{sound, mirrorWords}
@@ -32,36 +33,36 @@ use Rattle.promise.proofs.Makes.{makes}
 -- reading
 pub reads : (t p : List ℕ) → Reads t p (readdoor.readSays t p) (readdoor.readLeaves t p)
 unfolding readdoor.readSays readdoor.readLeaves readdoor.outcomeSays readdoor.outcomeLeaves
-reads t p = go (leb 4096 (length p)) refl (text.reading t) refl
+reads t p = go (leb tokenPool (length p)) refl (text.reading t) refl
   where
-    go : (b : Bool) → leb 4096 (length p) ≡ b → (o : text.Outcome) → text.reading t ≡ o → Reads t p (cond b (readdoor.outcomeSays o) (readdoor.refuses 18 0)) (cond b (readdoor.outcomeLeaves o p) p)
-    go true h (text.accepted e ts) g = said.Reads.accepted (leb-true 4096 (length p) h) (accepted-derived t e ts g)
-    go true h (text.rejected x k) g = said.Reads.rejected (leb-true 4096 (length p) h) (fault-exactly t x k .0 g)
-    go false h o g = said.Reads.no-room (leb-false 4096 (length p) h)
+    go : (b : Bool) → leb tokenPool (length p) ≡ b → (o : text.Outcome) → text.reading t ≡ o → Reads t p (cond b (readdoor.outcomeSays o) (readdoor.refuses 18 0)) (cond b (readdoor.outcomeLeaves o p) p)
+    go true h (text.accepted e ts) g = said.Reads.accepted (leb-true tokenPool (length p) h) (accepted-derived t e ts g)
+    go true h (text.rejected x k) g = said.Reads.rejected (leb-true tokenPool (length p) h) (fault-exactly t x k .0 g)
+    go false h o g = said.Reads.no-room (leb-false tokenPool (length p) h)
 
-read-so : (t p : List ℕ) (o : text.Outcome) → 4096 ≤ length p → text.reading t ≡ o → (readdoor.outcomeSays o ≡ readdoor.readSays t p) × (readdoor.outcomeLeaves o p ≡ readdoor.readLeaves t p)
+read-so : (t p : List ℕ) (o : text.Outcome) → tokenPool ≤ length p → text.reading t ≡ o → (readdoor.outcomeSays o ≡ readdoor.readSays t p) × (readdoor.outcomeLeaves o p ≡ readdoor.readLeaves t p)
 unfolding readdoor.readSays readdoor.readLeaves
 read-so t p o h e = (
-  ap readdoor.outcomeSays (sym e) ∙ ap (λ (b : Bool). cond b (readdoor.outcomeSays (text.reading t)) (readdoor.refuses 18 0)) (sym (le-leb 4096 (length p) h)),
-  ap (λ (x : text.Outcome). readdoor.outcomeLeaves x p) (sym e) ∙ ap (λ (b : Bool). cond b (readdoor.outcomeLeaves (text.reading t) p) p) (sym (le-leb 4096 (length p) h)),
+  ap readdoor.outcomeSays (sym e) ∙ ap (λ (b : Bool). cond b (readdoor.outcomeSays (text.reading t)) (readdoor.refuses 18 0)) (sym (le-leb tokenPool (length p) h)),
+  ap (λ (x : text.Outcome). readdoor.outcomeLeaves x p) (sym e) ∙ ap (λ (b : Bool). cond b (readdoor.outcomeLeaves (text.reading t) p) p) (sym (le-leb tokenPool (length p) h)),
 )
 
 pub reads-one : {t p : List ℕ} {s : readdoor.Said} {u : List ℕ} → Reads t p s u → (s ≡ readdoor.readSays t p) × (u ≡ readdoor.readLeaves t p)
 unfolding readdoor.readSays readdoor.readLeaves readdoor.outcomeSays readdoor.outcomeLeaves
 reads-one {t} {p} (said.Reads.no-room h) = (
-  ap (λ (b : Bool). cond b (readdoor.outcomeSays (text.reading t)) (readdoor.refuses 18 0)) (sym (lt-leb 4096 (length p) h)),
-  ap (λ (b : Bool). cond b (readdoor.outcomeLeaves (text.reading t) p) p) (sym (lt-leb 4096 (length p) h)),
+  ap (λ (b : Bool). cond b (readdoor.outcomeSays (text.reading t)) (readdoor.refuses 18 0)) (sym (lt-leb tokenPool (length p) h)),
+  ap (λ (b : Bool). cond b (readdoor.outcomeLeaves (text.reading t) p) p) (sym (lt-leb tokenPool (length p) h)),
 )
 reads-one {t} {p} (said.Reads.rejected {x = x} {place = k} h e) = read-so t p (text.rejected x k) h (fault-exactly t x k .1 e)
 reads-one {t} {p} (said.Reads.accepted {reached = k} {ts = ts} h e) = read-so t p (text.accepted k ts) h (derived-accepted t k ts e)
 
 -- compiling
-both-room : (p q : List ℕ) → 512 ≤ length p → 512 ≤ length q → true ≡ compiledoor.room p q
-both-room p q h g = ap₂ (λ (x y : Bool). x && y) (sym (le-leb 512 (length p) h)) (sym (le-leb 512 (length q) g))
+both-room : (p q : List ℕ) → nodePool ≤ length p → nodePool ≤ length q → true ≡ compiledoor.room p q
+both-room p q h g = ap₂ (λ (x y : Bool). x && y) (sym (le-leb nodePool (length p) h)) (sym (le-leb nodePool (length q) g))
 
-some-short : (p q : List ℕ) → (length p < 512) ⊎ (length q < 512) → false ≡ compiledoor.room p q
-some-short p q (inl h) = ap (λ (x : Bool). x && leb 512 (length q)) (sym (lt-leb 512 (length p) h))
-some-short p q (inr h) = sym (and-false (leb 512 (length p))) ∙ ap (λ (x : Bool). leb 512 (length p) && x) (sym (lt-leb 512 (length q) h))
+some-short : (p q : List ℕ) → (length p < nodePool) ⊎ (length q < nodePool) → false ≡ compiledoor.room p q
+some-short p q (inl h) = ap (λ (x : Bool). x && leb nodePool (length q)) (sym (lt-leb nodePool (length p) h))
+some-short p q (inr h) = sym (and-false (leb nodePool (length p))) ∙ ap (λ (x : Bool). leb nodePool (length p) && x) (sym (lt-leb nodePool (length q) h))
 
 -- of two tests for room one fails
 pub short-some : (a b c d : ℕ) → (leb a b && leb c d) ≡ false → (b < a) ⊎ (d < c)
@@ -76,20 +77,20 @@ pub compiles : (t p q : List ℕ) → Compiles t p q (compiledoor.compileSays t 
 unfolding compiledoor.compileSays compiledoor.forwardLeaves compiledoor.reverseLeaves compiledoor.outcomeSays compiledoor.outcomeForward compiledoor.outcomeReverse compiledoor.compiledSays compiledoor.compiledForward compiledoor.compiledReverse
 compiles t p q = go (compiledoor.room p q) refl (text.reading t) refl
   where
-    made : (e : ℕ) (ts : _) → text.reading t ≡ text.accepted e ts → 512 ≤ length p → 512 ≤ length q → (c : tokens.Compiled) → tokens.compile ts ≡ c → Compiles t p q (compiledoor.compiledSays e c) (compiledoor.compiledForward c p) (compiledoor.compiledReverse c q)
+    made : (e : ℕ) (ts : _) → text.reading t ≡ text.accepted e ts → nodePool ≤ length p → nodePool ≤ length q → (c : tokens.Compiled) → tokens.compile ts ≡ c → Compiles t p q (compiledoor.compiledSays e c) (compiledoor.compiledForward c p) (compiledoor.compiledReverse c q)
     made e ts g h i (tokens.compiled f r) j = said.Compiles.compiled h i (accepted-derived t e ts g) (makes ts (accepted-spelled t e ts g) (tokens.compiled f r) .0 j)
     made e ts g h i (tokens.refused x) j = said.Compiles.refused h i (accepted-derived t e ts g) (makes ts (accepted-spelled t e ts g) (tokens.refused x) .0 j)
 
     go : (b : Bool) → compiledoor.room p q ≡ b → (o : text.Outcome) → text.reading t ≡ o → Compiles t p q (cond b (compiledoor.outcomeSays o) (compiledoor.refuses 18 0)) (cond b (compiledoor.outcomeForward o p) p) (cond b (compiledoor.outcomeReverse o q) q)
     go true h (text.accepted e ts) g =
-        let a = leb-true 512 (length p) (and-left (leb 512 (length p)) (leb 512 (length q)) h) in
-        let b = leb-true 512 (length q) (and-right (leb 512 (length p)) (leb 512 (length q)) h) in
+        let a = leb-true nodePool (length p) (and-left (leb nodePool (length p)) (leb nodePool (length q)) h) in
+        let b = leb-true nodePool (length q) (and-right (leb nodePool (length p)) (leb nodePool (length q)) h) in
         made e ts g a b (tokens.compile ts) refl
     go true h (text.rejected x k) g =
-        let a = leb-true 512 (length p) (and-left (leb 512 (length p)) (leb 512 (length q)) h) in
-        let b = leb-true 512 (length q) (and-right (leb 512 (length p)) (leb 512 (length q)) h) in
+        let a = leb-true nodePool (length p) (and-left (leb nodePool (length p)) (leb nodePool (length q)) h) in
+        let b = leb-true nodePool (length q) (and-right (leb nodePool (length p)) (leb nodePool (length q)) h) in
         said.Compiles.rejected a b (fault-exactly t x k .0 g)
-    go false h o g = said.Compiles.no-room (short-some 512 (length p) 512 (length q) h)
+    go false h o g = said.Compiles.no-room (short-some nodePool (length p) nodePool (length q) h)
 
 abbrev As : List ℕ → List ℕ → List ℕ → compiledoor.Said → List ℕ → List ℕ → Type 0
 As t p q s u v = (s ≡ compiledoor.compileSays t p q) × (u ≡ compiledoor.forwardLeaves t p q) × (v ≡ compiledoor.reverseLeaves t p q)
@@ -103,14 +104,14 @@ by-room t p q b e = (
   ap (λ (x : Bool). cond x (compiledoor.outcomeReverse (text.reading t) q) q) e,
 )
 
-by-outcome : (t p q : List ℕ) (o : text.Outcome) → 512 ≤ length p → 512 ≤ length q → text.reading t ≡ o → As t p q (compiledoor.outcomeSays o) (compiledoor.outcomeForward o p) (compiledoor.outcomeReverse o q)
+by-outcome : (t p q : List ℕ) (o : text.Outcome) → nodePool ≤ length p → nodePool ≤ length q → text.reading t ≡ o → As t p q (compiledoor.outcomeSays o) (compiledoor.outcomeForward o p) (compiledoor.outcomeReverse o q)
 by-outcome t p q o h g e = subst (λ (x : text.Outcome). As t p q (compiledoor.outcomeSays x) (compiledoor.outcomeForward x p) (compiledoor.outcomeReverse x q)) e (by-room t p q true (both-room p q h g))
 
-by-tokens : (t p q : List ℕ) (k : ℕ) (ts : _) (c : tokens.Compiled) → 512 ≤ length p → 512 ≤ length q → text.reading t ≡ text.accepted k ts → tokens.compile ts ≡ c → As t p q (compiledoor.compiledSays k c) (compiledoor.compiledForward c p) (compiledoor.compiledReverse c q)
+by-tokens : (t p q : List ℕ) (k : ℕ) (ts : _) (c : tokens.Compiled) → nodePool ≤ length p → nodePool ≤ length q → text.reading t ≡ text.accepted k ts → tokens.compile ts ≡ c → As t p q (compiledoor.compiledSays k c) (compiledoor.compiledForward c p) (compiledoor.compiledReverse c q)
 unfolding compiledoor.outcomeSays compiledoor.outcomeForward compiledoor.outcomeReverse
 by-tokens t p q k ts c h g e f = subst (λ (x : tokens.Compiled). As t p q (compiledoor.compiledSays k x) (compiledoor.compiledForward x p) (compiledoor.compiledReverse x q)) f (by-outcome t p q (text.accepted k ts) h g e)
 
-made-so : (t p q : List ℕ) (k : ℕ) (ts : Tokens) (c : tokens.Compiled) → 512 ≤ length p → 512 ≤ length q → Derives t k ts → Makes ts c → As t p q (compiledoor.compiledSays k c) (compiledoor.compiledForward c p) (compiledoor.compiledReverse c q)
+made-so : (t p q : List ℕ) (k : ℕ) (ts : Tokens) (c : tokens.Compiled) → nodePool ≤ length p → nodePool ≤ length q → Derives t k ts → Makes ts c → As t p q (compiledoor.compiledSays k c) (compiledoor.compiledForward c p) (compiledoor.compiledReverse c q)
 made-so t p q k ts c h g e f =
     let a = derived-accepted t k ts e in
     by-tokens t p q k ts c h g a (makes ts (accepted-spelled t k ts a) c .1 f)
@@ -125,29 +126,29 @@ compiles-one {t} {p} {q} (said.Compiles.compiled {reached = k} {ts = ts} {f = a}
 -- the mirror
 pub mirrors : (ws p : List ℕ) → Mirrors ws p (mirrordoor.mirrorSays ws p) (mirrordoor.mirrorLeaves ws p)
 unfolding mirrordoor.mirrorSays mirrordoor.mirrorLeaves
-mirrors ws p = go (ltb (length p) 512) refl (ltb 512 (length ws)) refl (sound ws) refl
+mirrors ws p = go (ltb (length p) nodePool) refl (ltb nodeLimit (length ws)) refl (sound ws) refl
   where
-    go : (a : Bool) → ltb (length p) 512 ≡ a → (b : Bool) → ltb 512 (length ws) ≡ b → (c : Bool) → sound ws ≡ c → Mirrors ws p (cond a (mirrordoor.refused 18 0) (cond b (mirrordoor.refused 13 0) (cond c (mirrordoor.mirrored (length (mirrorWords ws))) (mirrordoor.refused 15 0)))) (cond a p (cond b (cleared 512 p) (cond c (filled 512 (mirrorWords ws) p) (cleared 512 p))))
-    go true h b g c e = said.Mirrors.no-room (ltb-true (length p) 512 h)
-    go false h true g c e = said.Mirrors.too-many (ltb-false (length p) 512 h) (ltb-true 512 (length ws) g)
-    go false h false g true e = said.Mirrors.mirrored (ltb-false (length p) 512 h) (ltb-false 512 (length ws) g) (sound-says ws e) (mirror-wording ws e)
+    go : (a : Bool) → ltb (length p) nodePool ≡ a → (b : Bool) → ltb nodeLimit (length ws) ≡ b → (c : Bool) → sound ws ≡ c → Mirrors ws p (cond a (mirrordoor.refused 18 0) (cond b (mirrordoor.refused 13 0) (cond c (mirrordoor.mirrored (length (mirrorWords ws))) (mirrordoor.refused 15 0)))) (cond a p (cond b (cleared nodePool p) (cond c (filled nodePool (mirrorWords ws) p) (cleared nodePool p))))
+    go true h b g c e = said.Mirrors.no-room (ltb-true (length p) nodePool h)
+    go false h true g c e = said.Mirrors.too-many (ltb-false (length p) nodePool h) (ltb-true nodeLimit (length ws) g)
+    go false h false g true e = said.Mirrors.mirrored (ltb-false (length p) nodePool h) (ltb-false nodeLimit (length ws) g) (sound-says ws e) (mirror-wording ws e)
     go false h false g false e =
-        said.Mirrors.unsound (ltb-false (length p) 512 h) (ltb-false 512 (length ws) g)
+        said.Mirrors.unsound (ltb-false (length p) nodePool h) (ltb-false nodeLimit (length ws) g)
         (λ s. let k = sound-listed ws .1 s in let z : _≡_ {A = ℕ} 0 1 = cc in omega arith)
 
 abbrev Mirrored : List ℕ → List ℕ → mirrordoor.Said → List ℕ → Type 0
 Mirrored ws p s u = (s ≡ mirrordoor.mirrorSays ws p) × (u ≡ mirrordoor.mirrorLeaves ws p)
 
-by-tests : (ws p : List ℕ) (a b c : Bool) → a ≡ ltb (length p) 512 → b ≡ ltb 512 (length ws) → c ≡ sound ws → Mirrored ws p (cond a (mirrordoor.refused 18 0) (cond b (mirrordoor.refused 13 0) (cond c (mirrordoor.mirrored (length (mirrorWords ws))) (mirrordoor.refused 15 0)))) (cond a p (cond b (cleared 512 p) (cond c (filled 512 (mirrorWords ws) p) (cleared 512 p))))
+by-tests : (ws p : List ℕ) (a b c : Bool) → a ≡ ltb (length p) nodePool → b ≡ ltb nodeLimit (length ws) → c ≡ sound ws → Mirrored ws p (cond a (mirrordoor.refused 18 0) (cond b (mirrordoor.refused 13 0) (cond c (mirrordoor.mirrored (length (mirrorWords ws))) (mirrordoor.refused 15 0)))) (cond a p (cond b (cleared nodePool p) (cond c (filled nodePool (mirrorWords ws) p) (cleared nodePool p))))
 unfolding mirrordoor.mirrorSays mirrordoor.mirrorLeaves
 by-tests ws p a b c h g e = (rw (h, g, e), rw (h, g, e))
 
 pub mirrors-one : {ws p : List ℕ} {s : mirrordoor.Said} {u : List ℕ} → Mirrors ws p s u → (s ≡ mirrordoor.mirrorSays ws p) × (u ≡ mirrordoor.mirrorLeaves ws p)
-mirrors-one {ws} {p} (said.Mirrors.no-room h) = by-tests ws p true (ltb 512 (length ws)) (sound ws) (sym (lt-ltb (length p) 512 h)) refl refl
-mirrors-one {ws} {p} (said.Mirrors.too-many h g) = by-tests ws p false true (sound ws) (sym (le-ltb (length p) 512 h)) (sym (lt-ltb 512 (length ws) g)) refl
-mirrors-one {ws} {p} (said.Mirrors.unsound h g e) = by-tests ws p false false false (sym (le-ltb (length p) 512 h)) (sym (le-ltb 512 (length ws) g)) (not-sound ws e)
+mirrors-one {ws} {p} (said.Mirrors.no-room h) = by-tests ws p true (ltb nodeLimit (length ws)) (sound ws) (sym (lt-ltb (length p) nodePool h)) refl refl
+mirrors-one {ws} {p} (said.Mirrors.too-many h g) = by-tests ws p false true (sound ws) (sym (le-ltb (length p) nodePool h)) (sym (lt-ltb nodeLimit (length ws) g)) refl
+mirrors-one {ws} {p} (said.Mirrors.unsound h g e) = by-tests ws p false false false (sym (le-ltb (length p) nodePool h)) (sym (le-ltb nodeLimit (length ws) g)) (not-sound ws e)
 mirrors-one {ws} {p} (said.Mirrors.mirrored {vs = vs} {g = f} h g n m) =
     let k : sound ws ≡ true = sound-listed ws .1 (record { few = g; program = f; nodes = n }) in
     let e : vs ≡ mirrorWords ws = one-wording m (subst (λ (x : Prog). Nodes (mirrorWords ws) (mirror x)) (program-listed n) (mirror-wording ws k)) in
-    subst (λ (x : List ℕ). Mirrored ws p (mirrordoor.mirrored (length x)) (filled 512 x p)) (sym e)
-    (by-tests ws p false false true (sym (le-ltb (length p) 512 h)) (sym (le-ltb 512 (length ws) g)) (sym k))
+    subst (λ (x : List ℕ). Mirrored ws p (mirrordoor.mirrored (length x)) (filled nodePool x p)) (sym e)
+    (by-tests ws p false false true (sym (le-ltb (length p) nodePool h)) (sym (le-ltb nodeLimit (length ws) g)) (sym k))

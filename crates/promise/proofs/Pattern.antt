@@ -6,6 +6,7 @@ use Prim.Native.Nat.{ℕ, _-_}
 use lib.ListN.{length, take, drop, replicate}
 use lib.Seq.{take-at}
 use Rattle.base.specs.Pools.{filled}
+use Rattle.meaning.specs.Limits.{nodePool}
 use Rattle.meaning.specs.Tokens.{Tokens, Spans}
 use Rattle.reading.specs.Lists.{Outcome, accepted, rejected, reading}
 use Rattle.reading.proofs.PieceLaws.{never}
@@ -27,9 +28,9 @@ record Compiles (t p q : List ℕ) (reached n m : ℕ) : Type 0 where
   reverse-words : take m (reverseLeaves t p q) ≡ reverse
 
 module _ (t p q : List ℕ) (reached n m : ℕ) where
-  in-front : (f x : List ℕ) (k : ℕ) → length f ≡ k → take k (filled 512 f x) ≡ f
+  in-front : (f x : List ℕ) (k : ℕ) → length f ≡ k → take k (filled nodePool f x) ≡ f
   unfolding filled
-  in-front f x k l = take-at f (replicate (512 - length f) 0 ++ drop 512 x) k l
+  in-front f x k l = take-at f (replicate (nodePool - length f) 0 ++ drop nodePool x) k l
 
   of-compiled : (e : ℕ) (ts : Tokens) (c : Compiled) → reading t ≡ accepted e ts → compile ts ≡ c → compiledSays e c ≡ gives reached n m → take n (forwardLeaves t p q) ≡ take n (compiledForward c p) → take m (reverseLeaves t p q) ≡ take m (compiledReverse c q) → Compiles t p q reached n m
   unfolding compiledSays compiledForward compiledReverse

@@ -8,6 +8,7 @@ use lib.ListN.{length, take}
 use lib.Seq.{take-at}
 use borrow.Author.Tests.{le-ltb}
 use Rattle.base.specs.Pools.{filled}
+use Rattle.meaning.specs.Limits.{nodeLimit, nodePool}
 use Rattle.meaning.specs.Programs.{Prog, Span, _⧺_, mirror}
 use Rattle.meaning.specs.Words.{prog, sound, mirrorWords}
 use Rattle.meaning.proofs.JoinLaws.{prog-append, append-span, span-append}
@@ -20,7 +21,7 @@ use Rattle.promise.proofs.OneWording.{mirror-wording}
 use Rattle.promise.proofs.Answers.{forward-door, reverse-door}
 
 -- the program of words laid end to end has exactly the spans of the one followed by those of the other
-module _ (ws vs : List ℕ) (h : sound ws ≡ true) (g : sound vs ≡ true) (room : length ws + length vs ≤ 512) where
+module _ (ws vs : List ℕ) (h : sound ws ≡ true) (g : sound vs ≡ true) (room : length ws + length vs ≤ nodeLimit) where
   joined-spans : (x : List ℕ) → Joined (prog ws) (prog vs) x ↔ Span (prog (ws ++ vs)) x
   joined-spans x = (
     λ (a, b, e, p, q). subst (Span (prog (ws ++ vs))) (sym e) (append-span ws vs (sound-words ws h) a b p q),
@@ -38,7 +39,7 @@ module _ (ws vs : List ℕ) (h : sound ws ≡ true) (g : sound vs ≡ true) (roo
       }
 
 -- sound programs laid end to end, at most 512 words: from their words to what both doors answer
-pub programs-join : {ws vs : List ℕ} (a : SoundWords ws) (b : SoundWords vs) → length ws + length vs ≤ 512 → Joins (a .program) (b .program) (ws ++ vs)
+pub programs-join : {ws vs : List ℕ} (a : SoundWords ws) (b : SoundWords vs) → length ws + length vs ≤ nodeLimit → Joins (a .program) (b .program) (ws ++ vs)
 programs-join {ws} {vs} a b room =
     subst (λ (p : Prog). Joins p (b .program) (ws ++ vs)) (program-listed (a .nodes))
     (subst (λ (q : Prog). Joins (prog ws) q (ws ++ vs)) (program-listed (b .nodes)) (joins ws vs (sound-listed ws .1 a) (sound-listed vs .1 b) room))
@@ -61,20 +62,20 @@ module _ (ws : List ℕ) (h : sound ws ≡ true) where
       }
 
   -- what the door says and leaves of sound words, in a pool with room
-  module _ (pool : List ℕ) (room : 512 ≤ length pool) where
+  module _ (pool : List ℕ) (room : nodePool ≤ length pool) where
     door-says : mirrorSays ws pool ≡ mirrored (length (mirrorWords ws))
     unfolding mirrorSays
-    door-says = rw (le-ltb (length pool) 512 room, le-ltb 512 (length ws) (sound-length ws h), h)
+    door-says = rw (le-ltb (length pool) nodePool room, le-ltb nodeLimit (length ws) (sound-length ws h), h)
 
     door-leaves : take (length (mirrorWords ws)) (mirrorLeaves ws pool) ≡ mirrorWords ws
     unfolding mirrorLeaves filled
     door-leaves =
-        let e : mirrorLeaves ws pool ≡ filled 512 (mirrorWords ws) pool = rw (le-ltb (length pool) 512 room, le-ltb 512 (length ws) (sound-length ws h), h) in
+        let e : mirrorLeaves ws pool ≡ filled nodePool (mirrorWords ws) pool = rw (le-ltb (length pool) nodePool room, le-ltb nodeLimit (length ws) (sound-length ws h), h) in
         ap (take (length (mirrorWords ws))) e ∙ take-at (mirrorWords ws) _ (length (mirrorWords ws)) refl
 
 -- The mirror's door, asked with sound words and lent a pool with room (with none it refuses by 18), never refuses: the words that it says it wrote
 -- are the mirror, and the reverse door, asked with them, answers for the program's own spans, the forward door for these read from their other side.
-pub mirror-answers : {ws : List ℕ} (a : SoundWords ws) (pool : List ℕ) → 512 ≤ length pool → (n : ℕ) × (mirrorSays ws pool ≡ mirrored n) × MirrorOf (a .program) (take n (mirrorLeaves ws pool))
+pub mirror-answers : {ws : List ℕ} (a : SoundWords ws) (pool : List ℕ) → nodePool ≤ length pool → (n : ℕ) × (mirrorSays ws pool ≡ mirrored n) × MirrorOf (a .program) (take n (mirrorLeaves ws pool))
 mirror-answers {ws} a pool room =
     let h = sound-listed ws .1 a in (
       length (mirrorWords ws),

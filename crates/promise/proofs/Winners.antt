@@ -9,6 +9,7 @@ use native.Mathlib.Omega.{arith}
 use lib.Dec.{eqb, leb, ltb}
 use lib.ListN.{length}
 use borrow.Author.Tests.{ltb-true, ltb-false, lt-ltb, le-ltb, leb-true, le-leb, eqb-true, eqb-false}
+use Rattle.meaning.specs.Limits.{literalLimit, combinationLimit}
 use Rattle.meaning.specs.Tokens.{Tokens, nothing}
 use Rattle.atoms.specs.Score.{literalScore}
 use Rattle.reading.proofs.PieceLaws.{never}
@@ -143,30 +144,30 @@ offered s excessive = tooMany
 abbrev offer : Slice → Choice
 offer s = offered s (rankOf s)
 
-rank-skips : (ts : Tokens) → 256 < combinations ts → rank ts ≡ skipped
+rank-skips : (ts : Tokens) → combinationLimit < combinations ts → rank ts ≡ skipped
 unfolding rank combined
-rank-skips ts h = rw (lt-ltb 256 (combinations ts) h)
+rank-skips ts h = rw (lt-ltb combinationLimit (combinations ts) h)
 
-rank-ranks : (ts : Tokens) → combinations ts ≤ 256 → length (literals ts) ≤ 256 → rank ts ≡ ranked (rankValue ts)
+rank-ranks : (ts : Tokens) → combinations ts ≤ combinationLimit → length (literals ts) ≤ literalLimit → rank ts ≡ ranked (rankValue ts)
 unfolding rank combined counted
-rank-ranks ts h g = rw (le-ltb 256 (combinations ts) h) (rw (le-ltb 256 (length (literals ts)) g))
+rank-ranks ts h g = rw (le-ltb combinationLimit (combinations ts) h) (rw (le-ltb literalLimit (length (literals ts)) g))
 
 offers-shown : (s : Slice) → Offers s (offer s)
 unfolding rankOf widened
-offers-shown (slice prior own next) = go (ltb 256 (combinations own)) (ltb 256 (length (literals own))) refl refl
+offers-shown (slice prior own next) = go (ltb combinationLimit (combinations own)) (ltb literalLimit (length (literals own))) refl refl
   where
     by : (r : Ranked) → rank own ≡ r → Offers (slice prior own next) (offered (slice prior own next) r) → Offers (slice prior own next) (offered (slice prior own next) (rank own))
     by r e h = subst (λ (x : Ranked). Offers (slice prior own next) (offered (slice prior own next) x)) (sym e) h
 
-    go : (a b : Bool) → ltb 256 (combinations own) ≡ a → ltb 256 (length (literals own)) ≡ b → Offers (slice prior own next) (offered (slice prior own next) (rank own))
-    go true b e f = let h = ltb-true 256 (combinations own) e in by skipped (rank-skips own h) (said.skipped h)
+    go : (a b : Bool) → ltb combinationLimit (combinations own) ≡ a → ltb literalLimit (length (literals own)) ≡ b → Offers (slice prior own next) (offered (slice prior own next) (rank own))
+    go true b e f = let h = ltb-true combinationLimit (combinations own) e in by skipped (rank-skips own h) (said.skipped h)
     go false true e f =
-        let h = ltb-false 256 (combinations own) e in
-        let g = ltb-true 256 (length (literals own)) f in
+        let h = ltb-false combinationLimit (combinations own) e in
+        let g = ltb-true literalLimit (length (literals own)) f in
         by excessive (excessive-is own .1 (h, g)) (said.exceeds h g)
     go false false e f =
-        let h = ltb-false 256 (combinations own) e in
-        let g = ltb-false 256 (length (literals own)) f in
+        let h = ltb-false combinationLimit (combinations own) e in
+        let g = ltb-false literalLimit (length (literals own)) f in
         by (ranked (rankValue own)) (rank-ranks own h g) (said.ranks h g)
 
 offers-told : {s : Slice} {c : Choice} → Offers s c → offer s ≡ c

@@ -1,13 +1,14 @@
 -- When compiling refuses, by 12, by 14 and by 13. Assumes nothing: these are definitions.
 use mathlib.Core.Option.{none, some}
 use Prim.Native.Nat.{ℕ, suc, _+_, _<_}
+use Rattle.meaning.specs.Limits.{jumpLimit, branchLimit, nodeLimit}
 use Rattle.meaning.specs.Tokens.{Token, Tokens, Lists, Jump, Alternatives, _then_, _or_}
 use Rattle.meaning.specs.Programs.{Item, Prog, Branches, one, jump, range, alt, end, _▹_, stop, or as branch}
 
 -- 12: a jump unbounded or above 255
 pub data Far : Token → Type 0 where
   unbounded : {from : ℕ} → Far (Jump from none)
-  above : {from to : ℕ} → 255 < to → Far (Jump from (some to))
+  above : {from to : ℕ} → jumpLimit < to → Far (Jump from (some to))
 
 -- what no branch holds: such a jump, a range, nested alternatives
 pub data Unfit : Token → Type 0 where
@@ -48,7 +49,7 @@ unfoldable mutual
 
 -- 14: a branch above 255 nodes
 pub data LongIn : Branches → Type 0 where
-  this-branch : {p : Prog} {bs : Branches} → 255 < size p → LongIn (branch p bs)
+  this-branch : {p : Prog} {bs : Branches} → branchLimit < size p → LongIn (branch p bs)
   other-branch : {p : Prog} {bs : Branches} → LongIn bs → LongIn (branch p bs)
 
 pub data Long : Prog → Type 0 where
@@ -57,4 +58,4 @@ pub data Long : Prog → Type 0 where
 
 -- 13: more than 512 nodes
 abbrev pub Large : Prog → Type 0
-Large p = 512 < size p
+Large p = nodeLimit < size p

@@ -2,6 +2,7 @@
 use mathlib.Core.List.{List, [], reverse}
 use Prim.Native.Nat.{ℕ, _≤_, _<_}
 use lib.ListN.{length}
+use Rattle.meaning.specs.Limits.{nodeLimit}
 use Rattle.meaning.specs.Programs.{Prog}
 use Rattle.meaning.specs.Choices.{Nowhere}
 use Rattle.checkdoors.specs.Doors as doors
@@ -12,14 +13,14 @@ use Rattle.promise.specs.Pattern.{FirstEnd, FirstStart}
 -- 16, then 13, then 15
 pub data Refuses (ws hay : List ℕ) (s e : ℕ) : ℕ → Type 0 where
   bad-window : (s ≤ e → e ≤ length hay → ⊥) → Refuses ws hay s e 16
-  too-many : s ≤ e → e ≤ length hay → 512 < length ws → Refuses ws hay s e 13
-  unsound : s ≤ e → e ≤ length hay → length ws ≤ 512 → (SoundWords ws → ⊥) → Refuses ws hay s e 15
+  too-many : s ≤ e → e ≤ length hay → nodeLimit < length ws → Refuses ws hay s e 13
+  unsound : s ≤ e → e ≤ length hay → length ws ≤ nodeLimit → (SoundWords ws → ⊥) → Refuses ws hay s e 15
 
 -- the forward check: where the first choice of the program ends
 pub data Forward (ws hay : List ℕ) (s e : ℕ) : doors.Outcome → Type 0 where
   refused : {k : ℕ} → Refuses ws hay s e k → Forward ws hay s e (doors.refused k 0)
-  found : {p : Prog} {n : ℕ} → e ≤ length hay → length ws ≤ 512 → Nodes ws p → FirstEnd p hay s e n → Forward ws hay s e (doors.found n)
-  missed : {p : Prog} → s ≤ e → e ≤ length hay → length ws ≤ 512 → Nodes ws p → Nowhere p (window hay s e) → Forward ws hay s e doors.noMatch
+  found : {p : Prog} {n : ℕ} → e ≤ length hay → length ws ≤ nodeLimit → Nodes ws p → FirstEnd p hay s e n → Forward ws hay s e (doors.found n)
+  missed : {p : Prog} → s ≤ e → e ≤ length hay → length ws ≤ nodeLimit → Nodes ws p → Nowhere p (window hay s e) → Forward ws hay s e doors.noMatch
 
 -- the second forward door: the offset in the haystack at which what is left of the window begins, and its bytes
 pub data Left (ws hay : List ℕ) (s e : ℕ) : ℕ → List ℕ → Type 0 where
@@ -29,5 +30,5 @@ pub data Left (ws hay : List ℕ) (s e : ℕ) : ℕ → List ℕ → Type 0 wher
 -- the reverse check: where the first choice starts, read from the window's end
 pub data Reverse (ws hay : List ℕ) (s e : ℕ) : doors.Outcome → Type 0 where
   refused : {k : ℕ} → Refuses ws hay s e k → Reverse ws hay s e (doors.refused k 0)
-  found : {p : Prog} {n : ℕ} → e ≤ length hay → length ws ≤ 512 → Nodes ws p → FirstStart p hay s e n → Reverse ws hay s e (doors.found n)
-  missed : {p : Prog} → s ≤ e → e ≤ length hay → length ws ≤ 512 → Nodes ws p → Nowhere p (reverse (window hay s e)) → Reverse ws hay s e doors.noMatch
+  found : {p : Prog} {n : ℕ} → e ≤ length hay → length ws ≤ nodeLimit → Nodes ws p → FirstStart p hay s e n → Reverse ws hay s e (doors.found n)
+  missed : {p : Prog} → s ≤ e → e ≤ length hay → length ws ≤ nodeLimit → Nodes ws p → Nowhere p (reverse (window hay s e)) → Reverse ws hay s e doors.noMatch

@@ -3,6 +3,7 @@ use mathlib.Core.Path.{_≡_}
 use mathlib.Core.List.{List, [], _∷_, _++_}
 use Prim.Native.Nat.{ℕ, _+_, _*_, _≤_, _<_}
 use lib.ListN.{length}
+use Rattle.meaning.specs.Limits.{nodeLimit}
 use Rattle.meaning.specs.Programs.{byte, mask, negatedMask, dot, Item, Prog, Branches, one, jump, range, alt, end, _▹_, stop, or}
 
 -- 01's word
@@ -36,6 +37,6 @@ pub data Nodes : List ℕ → Prog → Type 0 where
 
 -- sound: at most 512 words, which say a program
 pub record SoundWords (ws : List ℕ) : Type 0 where
-  pub few : length ws ≤ 512
+  pub few : length ws ≤ nodeLimit
   pub program : Prog
   pub nodes : Nodes ws program

@@ -7,6 +7,7 @@ use Rattle.base.specs.declared.Refusal.{Refusal}
 use Rattle.base.specs.declared.Refusal.the-variants.{NotSimple, TooManyNodes, BranchTooLong}
 use Rattle.base.specs.Refusals.{numberOf}
 use Rattle.base.specs.Pools.{filled, cleared}
+use Rattle.meaning.specs.Limits.{nodeLimit, tokenPool, nodePool}
 use Rattle.meaning.specs.Tokens.{Tokens}
 use Rattle.meaning.specs.Entries.{entries}
 use Rattle.meaning.specs.Programs.{Prog, mirror}
@@ -22,9 +23,9 @@ use Rattle.promise.specs.Cases.{Complex, Long, Large}
 
 -- reading the text t into the pool p
 pub data Reads (t p : List ℕ) : readdoor.Said → List ℕ → Type 0 where
-  no-room : length p < 4096 → Reads t p (readdoor.refuses 18 0) p
-  rejected : {x : Refusal} {place : ℕ} → 4096 ≤ length p → Fault t x place → Reads t p (readdoor.refuses (numberOf x) place) (cleared 4096 p)
-  accepted : {reached : ℕ} {ts : Tokens} → 4096 ≤ length p → Derives t reached ts → Reads t p (readdoor.gives reached (length (entries ts))) (filled 4096 (entries ts) p)
+  no-room : length p < tokenPool → Reads t p (readdoor.refuses 18 0) p
+  rejected : {x : Refusal} {place : ℕ} → tokenPool ≤ length p → Fault t x place → Reads t p (readdoor.refuses (numberOf x) place) (cleared tokenPool p)
+  accepted : {reached : ℕ} {ts : Tokens} → tokenPool ≤ length p → Derives t reached ts → Reads t p (readdoor.gives reached (length (entries ts))) (filled tokenPool (entries ts) p)
 
 -- what is made of the tokens ts: 12, else 14, else 13, else the words that say both programs
 pub data Makes (ts : Tokens) : tokens.Compiled → Type 0 where
@@ -35,14 +36,14 @@ pub data Makes (ts : Tokens) : tokens.Compiled → Type 0 where
 
 -- compiling the text t into the pools p and q
 pub data Compiles (t p q : List ℕ) : compiledoor.Said → List ℕ → List ℕ → Type 0 where
-  no-room : (length p < 512) ⊎ (length q < 512) → Compiles t p q (compiledoor.refuses 18 0) p q
-  rejected : {x : Refusal} {place : ℕ} → 512 ≤ length p → 512 ≤ length q → Fault t x place → Compiles t p q (compiledoor.refuses (numberOf x) place) (cleared 512 p) (cleared 512 q)
-  refused : {x : Refusal} {reached : ℕ} {ts : Tokens} → 512 ≤ length p → 512 ≤ length q → Derives t reached ts → Makes ts (tokens.refused x) → Compiles t p q (compiledoor.refuses (numberOf x) 0) (cleared 512 p) (cleared 512 q)
-  compiled : {reached : ℕ} {ts : Tokens} {f r : List ℕ} → 512 ≤ length p → 512 ≤ length q → Derives t reached ts → Makes ts (tokens.compiled f r) → Compiles t p q (compiledoor.gives reached (length f) (length r)) (filled 512 f p) (filled 512 r q)
+  no-room : (length p < nodePool) ⊎ (length q < nodePool) → Compiles t p q (compiledoor.refuses 18 0) p q
+  rejected : {x : Refusal} {place : ℕ} → nodePool ≤ length p → nodePool ≤ length q → Fault t x place → Compiles t p q (compiledoor.refuses (numberOf x) place) (cleared nodePool p) (cleared nodePool q)
+  refused : {x : Refusal} {reached : ℕ} {ts : Tokens} → nodePool ≤ length p → nodePool ≤ length q → Derives t reached ts → Makes ts (tokens.refused x) → Compiles t p q (compiledoor.refuses (numberOf x) 0) (cleared nodePool p) (cleared nodePool q)
+  compiled : {reached : ℕ} {ts : Tokens} {f r : List ℕ} → nodePool ≤ length p → nodePool ≤ length q → Derives t reached ts → Makes ts (tokens.compiled f r) → Compiles t p q (compiledoor.gives reached (length f) (length r)) (filled nodePool f p) (filled nodePool r q)
 
 -- the mirror of the words ws in the pool p
 pub data Mirrors (ws p : List ℕ) : mirrordoor.Said → List ℕ → Type 0 where
-  no-room : length p < 512 → Mirrors ws p (mirrordoor.refused 18 0) p
-  too-many : 512 ≤ length p → 512 < length ws → Mirrors ws p (mirrordoor.refused 13 0) (cleared 512 p)
-  unsound : 512 ≤ length p → length ws ≤ 512 → (SoundWords ws → ⊥) → Mirrors ws p (mirrordoor.refused 15 0) (cleared 512 p)
-  mirrored : {vs : List ℕ} {g : Prog} → 512 ≤ length p → length ws ≤ 512 → Nodes ws g → Nodes vs (mirror g) → Mirrors ws p (mirrordoor.mirrored (length vs)) (filled 512 vs p)
+  no-room : length p < nodePool → Mirrors ws p (mirrordoor.refused 18 0) p
+  too-many : nodePool ≤ length p → nodeLimit < length ws → Mirrors ws p (mirrordoor.refused 13 0) (cleared nodePool p)
+  unsound : nodePool ≤ length p → length ws ≤ nodeLimit → (SoundWords ws → ⊥) → Mirrors ws p (mirrordoor.refused 15 0) (cleared nodePool p)
+  mirrored : {vs : List ℕ} {g : Prog} → nodePool ≤ length p → length ws ≤ nodeLimit → Nodes ws g → Nodes vs (mirror g) → Mirrors ws p (mirrordoor.mirrored (length vs)) (filled nodePool vs p)

@@ -4,6 +4,7 @@ use mathlib.Core.Bool.{true}
 use mathlib.Core.List.{List, [], _∷_, _++_, List·Memᴰ}
 use Prim.Native.Nat.{ℕ, _≤_, _<_}
 use lib.ListN.{length}
+use Rattle.meaning.specs.Limits.{literalLimit, combinationLimit}
 use Rattle.meaning.specs.Tokens.{Tokens, nothing, _⊕_}
 use Rattle.atoms.specs.Score.{literalScore}
 use Rattle.picking.specs.Literals.{literals, combinations}
@@ -13,9 +14,9 @@ use Rattle.picking.specs.Choice.{least, rankValue, Choice, unranked, chosen, to
 -- A slice offers its rank and the literals of the slice with the literal parts on either side. Above 256 combinations it is skipped; if it is not
 -- skipped and its literals exceed 256, they are too many.
 pub data Offers : Slice → Choice → Type 0 where
-  ranks : {prior own next : Tokens} → combinations own ≤ 256 → length (literals own) ≤ 256 → Offers (slice prior own next) (chosen (rankValue own) (prior ⊕ (own ⊕ next)))
-  skipped : {prior own next : Tokens} → 256 < combinations own → Offers (slice prior own next) unranked
-  exceeds : {prior own next : Tokens} → combinations own ≤ 256 → 256 < length (literals own) → Offers (slice prior own next) tooMany
+  ranks : {prior own next : Tokens} → combinations own ≤ combinationLimit → length (literals own) ≤ literalLimit → Offers (slice prior own next) (chosen (rankValue own) (prior ⊕ (own ⊕ next)))
+  skipped : {prior own next : Tokens} → combinationLimit < combinations own → Offers (slice prior own next) unranked
+  exceeds : {prior own next : Tokens} → combinations own ≤ combinationLimit → literalLimit < length (literals own) → Offers (slice prior own next) tooMany
 
 -- what each of some things offers, in their order
 pub data Each {A : Type 0} (Offer : A → Choice → Type 0) : List A → List Choice → Type 0 where

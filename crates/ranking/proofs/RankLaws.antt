@@ -6,6 +6,8 @@ use native.Mathlib.Omega.{arith}
 use native.Mathlib.Numerals.{add-one}
 use lib.ListN.{length, getD, take, drop, length-append, drop-of-length-le}
 use lib.Seq.{drop-cons, take-at}
+use Rattle.meaning.specs.Limits.{literalLimit, combinationLimit}
+use Rattle.tallies.specs.Tallies.{countTop}
 use Rattle.spelling.specs.Writing.{Written}
 use borrow.Author.Tests.{lt-ltb, le-ltb, le-leb, lt-leb}
 use Rattle.meaning.specs.Tokens.{Tokens}
@@ -69,23 +71,23 @@ penalty-0 n h g i = simp (lt-leb 100 n h, le-ltb 16 n g, le-ltb 1 n i)
 
 -- ---- the rank
 
-module _ (ts : Tokens) (n c : ℕ) (n-is : n ≡ min 257 (count ts)) (c-is : c ≡ min 257 (combinations ts)) where
-  pub rank-skipped : 256 < c → skipped ≡ rank ts
+module _ (ts : Tokens) (n c : ℕ) (n-is : n ≡ min countTop (count ts)) (c-is : c ≡ min countTop (combinations ts)) where
+  pub rank-skipped : combinationLimit < c → skipped ≡ rank ts
   unfolding rank combined
-  rank-skipped h = rw (lt-ltb 256 (combinations ts) (omega arith))
+  rank-skipped h = rw (lt-ltb combinationLimit (combinations ts) (omega arith))
 
-  pub rank-excessive : c ≤ 256 → 256 < n → excessive ≡ rank ts
+  pub rank-excessive : c ≤ combinationLimit → literalLimit < n → excessive ≡ rank ts
   unfolding rank combined counted
-  rank-excessive h g = rw (le-ltb 256 (combinations ts) (omega arith)) (rw (lt-ltb 256 (length (literals ts)) (let e = count-literals ts in omega arith)))
+  rank-excessive h g = rw (le-ltb combinationLimit (combinations ts) (omega arith)) (rw (lt-ltb literalLimit (length (literals ts)) (let e = count-literals ts in omega arith)))
 
-  pub count-exact : n ≤ 256 → n ≡ count ts
+  pub count-exact : n ≤ literalLimit → n ≡ count ts
   count-exact h = omega arith
 
-  pub rank-given : c ≤ 256 → n ≤ 256 → (s p : ℕ) → s ≡ least literalScore (literals ts) → p ≡ penalty c → ranked (s - p) ≡ rank ts
+  pub rank-given : c ≤ combinationLimit → n ≤ literalLimit → (s p : ℕ) → s ≡ least literalScore (literals ts) → p ≡ penalty c → ranked (s - p) ≡ rank ts
   unfolding rank combined counted rankValue
   rank-given h g s p e f =
       let k : c ≡ combinations ts = omega arith in
-      rw (le-ltb 256 (combinations ts) (omega arith)) (rw (le-ltb 256 (length (literals ts)) (let e = count-literals ts in omega arith))
+      rw (le-ltb combinationLimit (combinations ts) (omega arith)) (rw (le-ltb literalLimit (length (literals ts)) (let e = count-literals ts in omega arith))
       (ap ranked (ap₂ _-_ e (f ∙ ap penalty k))))
 
 -- ---- the scratch

@@ -3,22 +3,26 @@
 ghost use mathlib.Core.Path.{_≡_};
 ghost use Prim.Native.Nat.{_≤_, _<_, _-_, min};
 ghost use lib.ListN.{length};
+ghost use Rattle.meaning.specs.Limits.{literalLimit, tokenPool};
 ghost use Rattle.atoms.specs.Score.{literalScore};
 ghost use Rattle.picking.specs.Literals.{literals};
 ghost use Rattle.picking.specs.Numbers.{count, literalAt};
 ghost use Rattle.picking.specs.Choice.{least, penalty, rank, ranked};
 ghost use Rattle.entries.specs.Words.{tokensIn};
 ghost use Rattle.picks.specs.Ranks.{Settles};
+use base::COMBINATION_LIMIT;
+use base::ENTRY_LIMIT;
+use base::LITERAL_LIMIT;
 use picks::Pick;
 use picks::Rank;
 
-// A literal has at most as many bytes as there are entries, of which a pool holds 1,024.
+// A literal has at most as many bytes as there are entries.
 pub fn score_at(ws: &[u32], k: usize) -> u32
-    requires { ⌜ (length (now ws) ≤ 4096) × (k < count (tokensIn (now ws))) × (count (tokensIn (now ws)) ≤ 256) ⌝ }
+    requires { ⌜ (length (now ws) ≤ tokenPool) × (k < count (tokensIn (now ws))) × (count (tokensIn (now ws)) ≤ literalLimit) ⌝ }
     ensures { λ r. ⌜ r ≡ literalScore (literalAt (tokensIn (now (ws .entry))) k) ⌝ }
 {
-    let mut scratch = [0u8; 1024];
-    let n = spelling::write_literal(ws, k, &mut scratch[0..1024]);
+    let mut scratch = [0u8; ENTRY_LIMIT];
+    let n = spelling::write_literal(ws, k, &mut scratch[0..ENTRY_LIMIT]);
     atoms::literal_score(&scratch[0..n])
 }
 
@@ -48,7 +52,7 @@ fn less(a: u32, b: u32) -> u32
 
 // What the literals are worth to the best so far. Scoring more of them can only lower the rank, so it stops where that changes nothing.
 fn worth(ws: &[u32], n: usize, penalty: u32, best: Pick) -> Rank
-    requires { ⌜ (length (now ws) ≤ 4096) × (n ≡ count (tokensIn (now ws))) × (n ≤ 256) ⌝ }
+    requires { ⌜ (length (now ws) ≤ tokenPool) × (n ≡ count (tokensIn (now ws))) × (n ≤ literalLimit) ⌝ }
     ensures { λ r. ⌜ Settles best r (ranked (least literalScore (literals (tokensIn (now (ws .entry)))) - penalty)) ⌝ }
 {
     if n == 0 {
@@ -73,16 +77,16 @@ fn worth(ws: &[u32], n: usize, penalty: u32, best: Pick) -> Rank
 
 // A slice's rank, or one that changes the best so far as little.
 pub fn rank_of(ws: &[u32], best: Pick) -> Rank
-    requires { ⌜ length (now ws) ≤ 4096 ⌝ }
+    requires { ⌜ length (now ws) ≤ tokenPool ⌝ }
     ensures { λ r. ⌜ Settles best r (rank (tokensIn (now (ws .entry)))) ⌝ }
 {
     let t = tallies::tally_tokens(ws);
     let n = t.literals;
     let c = t.combinations;
-    if 256 < c {
+    if COMBINATION_LIMIT < c {
         return Rank::Skipped;
     }
-    if 256 < n {
+    if LITERAL_LIMIT < n {
         return Rank::TooMany;
     }
     worth(ws, n, penalty_of(c), best)

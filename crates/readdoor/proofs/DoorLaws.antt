@@ -1,4 +1,5 @@
 -- What the door's steps make of the answer and of the pool. Assumes nothing.
+use Prim.Native.Char.{code}
 use Prim.Native.Nat.{ℕ, _+_, _-_, _≤_, _<_}
 use mathlib.Core.Path.{_≡_, refl, sym, ap, ap₂, _∙_}
 use mathlib.Core.List.{List, _++_, append-assoc}
@@ -10,6 +11,7 @@ use Rattle.base.specs.declared.Refusal.{Refusal}
 use Rattle.base.specs.declared.Refusal.the-variants.{Unexpected, NoRoom}
 use Rattle.base.specs.Pools.{zeroed, cleared}
 use Rattle.base.proofs.PoolLaws.{zeroed-cleared, zeroed-filled}
+use Rattle.meaning.specs.Limits.{textLimit, tokenPool}
 use Rattle.meaning.specs.Tokens.{Tokens}
 use Rattle.meaning.specs.Entries.{entries}
 use Rattle.reading.specs.Blanks.{skip}
@@ -34,14 +36,14 @@ unfolding TextSays
 text-read x p q e u ts h a b = rw h (ap (answer.Read e) a, b)
 
 -- after the outer list
-module _ (t : List ℕ) (at : ℕ) (short : length t ≤ 4096) (opened : getD t 0 0 ≡ 123) (start : at ≡ skip t 1) (g : ListGot) (p q : List ℕ) (says : ListSays (list t 1 0 at) 0 g p q) where
-  pub text-done : (s u d k e : ℕ) → g ≡ list-got.Read s u d k → getD t s 0 ≡ 125 → e ≡ skip t (s + 1) → TextSays (reading t) (answer.Read e u) p q
+module _ (t : List ℕ) (at : ℕ) (short : length t ≤ textLimit) (opened : getD t 0 0 ≡ code "{") (start : at ≡ skip t 1) (g : ListGot) (p q : List ℕ) (says : ListSays (list t 1 0 at) 0 g p q) where
+  pub text-done : (s u d k e : ℕ) → g ≡ list-got.Read s u d k → getD t s 0 ≡ code "}" → e ≡ skip t (s + 1) → TextSays (reading t) (answer.Read e u) p q
   text-done s u d k e h b w =
       let z = list-read 0 g p q (list t 1 0 at) s u d k h says in
       let v = z .2 in
       text-read (reading t) p q e u (z .0) (text-opened t short opened at start (z .1) ∙ text-closed t at (z .0) s d b ∙ ap (λ (i : ℕ). accepted i (z .0)) (sym w)) (omega arith) (z .4)
 
-  pub text-open : (s u d k : ℕ) → g ≡ list-got.Read s u d k → (getD t s 0 ≡ 125 → ⊥) → TextSays (reading t) (answer.Refused Unexpected s) p q
+  pub text-open : (s u d k : ℕ) → g ≡ list-got.Read s u d k → (getD t s 0 ≡ code "}" → ⊥) → TextSays (reading t) (answer.Refused Unexpected s) p q
   text-open s u d k h b =
       let z = list-read 0 g p q (list t 1 0 at) s u d k h says in
       text-refused (reading t) p q Unexpected s (text-opened t short opened at start (z .1) ∙ text-unclosed t at (z .0) s d b)
@@ -70,41 +72,41 @@ unfolding cleared
 cleared-after size q p l = ap (λ (x : List ℕ). replicate size 0 ++ x) (drop-at q (drop size p) size l)
 
 module _ (t p : List ℕ) where
-  pub door-small : length p < 4096 → (said (answer.Refused NoRoom 0) ≡ readSays t p) × (p ≡ readLeaves t p)
+  pub door-small : length p < tokenPool → (said (answer.Refused NoRoom 0) ≡ readSays t p) × (p ≡ readLeaves t p)
   unfolding readSays readLeaves
-  door-small h = (simp (lt-leb 4096 (length p) h), simp (lt-leb 4096 (length p) h))
+  door-small h = (simp (lt-leb tokenPool (length p) h), simp (lt-leb tokenPool (length p) h))
 
-  pub says-at : 4096 ≤ length p → (x : Outcome) → reading t ≡ x → (outcomeSays x ≡ readSays t p) × (outcomeLeaves x p ≡ readLeaves t p)
+  pub says-at : tokenPool ≤ length p → (x : Outcome) → reading t ≡ x → (outcomeSays x ≡ readSays t p) × (outcomeLeaves x p ≡ readLeaves t p)
   unfolding readSays readLeaves
-  says-at h x e = (simp (le-leb 4096 (length p) h, e), simp (le-leb 4096 (length p) h, e))
+  says-at h x e = (simp (le-leb tokenPool (length p) h, e), simp (le-leb tokenPool (length p) h, e))
 
-  module _ (q : List ℕ) (r : ReadAnswer) (enough : 4096 ≤ length p) (kept : length q ≡ 4096) (says : TextSays (reading t) r (take 4096 p) q) where
-    pub words-fit : (e u : ℕ) → r ≡ answer.Read e u → u ≤ 4096
+  module _ (q : List ℕ) (r : ReadAnswer) (enough : tokenPool ≤ length p) (kept : length q ≡ tokenPool) (says : TextSays (reading t) r (take tokenPool p) q) where
+    pub words-fit : (e u : ℕ) → r ≡ answer.Read e u → u ≤ tokenPool
     words-fit e u h =
-        let z = text-accepted (reading t) (take 4096 p) q r e u h says in
+        let z = text-accepted (reading t) (take tokenPool p) q r e u h says in
         let v = z .2 in
         omega (arith, accepted-words t e (z .0) (z .1))
 
-    pub door-read : (e u : ℕ) (o : List ℕ) → r ≡ answer.Read e u → o ≡ zeroed u 4096 (q ++ drop 4096 p) → (said (answer.Read e u) ≡ readSays t p) × (o ≡ readLeaves t p)
+    pub door-read : (e u : ℕ) (o : List ℕ) → r ≡ answer.Read e u → o ≡ zeroed u tokenPool (q ++ drop tokenPool p) → (said (answer.Read e u) ≡ readSays t p) × (o ≡ readLeaves t p)
     unfolding outcomeSays outcomeLeaves written
     door-read e u o h w =
-        let z = text-accepted (reading t) (take 4096 p) q r e u h says in
+        let z = text-accepted (reading t) (take tokenPool p) q r e u h says in
         let ts = z .0 in
         let ws = entries ts in
         let fit : length ws ≤ 4092 = accepted-words t e ts (z .1) in
         let d = says-at enough (accepted e ts) (z .1) in
-        let lp : length (take 4096 p) ≡ 4096 = length-take-le 4096 p enough in
-        let s : q ++ drop 4096 p ≡ ws ++ (drop (length ws) (take 4096 p) ++ drop 4096 p) = ap (λ (x : List ℕ). x ++ drop 4096 p) (z .3 ∙ ap (λ (i : ℕ). ws ++ drop i (take 4096 p)) (zero-add (length ws))) ∙ append-assoc ws _ _ in
-        let f : drop (4096 - length ws) (drop (length ws) (take 4096 p) ++ drop 4096 p) ≡ drop 4096 p = drop-at (drop (length ws) (take 4096 p)) (drop 4096 p) (4096 - length ws) (length-drop (length ws) (take 4096 p) ∙ ap (λ (i : ℕ). i - length ws) lp) in (
+        let lp : length (take tokenPool p) ≡ tokenPool = length-take-le tokenPool p enough in
+        let s : q ++ drop tokenPool p ≡ ws ++ (drop (length ws) (take tokenPool p) ++ drop tokenPool p) = ap (λ (x : List ℕ). x ++ drop tokenPool p) (z .3 ∙ ap (λ (i : ℕ). ws ++ drop i (take tokenPool p)) (zero-add (length ws))) ∙ append-assoc ws _ _ in
+        let f : drop (tokenPool - length ws) (drop (length ws) (take tokenPool p) ++ drop tokenPool p) ≡ drop tokenPool p = drop-at (drop (length ws) (take tokenPool p)) (drop tokenPool p) (tokenPool - length ws) (length-drop (length ws) (take tokenPool p) ∙ ap (λ (i : ℕ). i - length ws) lp) in (
           ap (gives e) (z .2) ∙ d .0,
-          w ∙ ap₂ (λ (i : ℕ) (x : List ℕ). zeroed i 4096 x) (z .2) s ∙ zeroed-filled 4096 ws (drop (length ws) (take 4096 p) ++ drop 4096 p) p (omega arith) f ∙ d .1,
+          w ∙ ap₂ (λ (i : ℕ) (x : List ℕ). zeroed i tokenPool x) (z .2) s ∙ zeroed-filled tokenPool ws (drop (length ws) (take tokenPool p) ++ drop tokenPool p) p (omega arith) f ∙ d .1,
         )
       where
         zero-add : (n : ℕ) → 0 + n ≡ n
         zero-add n = omega arith
 
-    pub door-refused : (c : Refusal) (y : ℕ) (o : List ℕ) → r ≡ answer.Refused c y → o ≡ zeroed 0 4096 (q ++ drop 4096 p) → (said (answer.Refused c y) ≡ readSays t p) × (o ≡ readLeaves t p)
+    pub door-refused : (c : Refusal) (y : ℕ) (o : List ℕ) → r ≡ answer.Refused c y → o ≡ zeroed 0 tokenPool (q ++ drop tokenPool p) → (said (answer.Refused c y) ≡ readSays t p) × (o ≡ readLeaves t p)
     unfolding outcomeSays outcomeLeaves
     door-refused c y o h w =
-        let d = says-at enough (rejected c y) (text-rejected (reading t) (take 4096 p) q r c y h says) in
-        (d .0, w ∙ zeroed-cleared 4096 (q ++ drop 4096 p) ∙ cleared-after 4096 q p kept ∙ d .1)
+        let d = says-at enough (rejected c y) (text-rejected (reading t) (take tokenPool p) q r c y h says) in
+        (d .0, w ∙ zeroed-cleared tokenPool (q ++ drop tokenPool p) ∙ cleared-after tokenPool q p kept ∙ d .1)

@@ -10,6 +10,7 @@ use Rattle.base.specs.declared.Refusal.{Refusal}
 use Rattle.base.specs.Refusals.{numberOf}
 use Rattle.base.specs.Pools.{filled}
 use Rattle.base.proofs.RefusalLaws.{number-one}
+use Rattle.meaning.specs.Limits.{tokenPool}
 use Rattle.meaning.specs.Tokens.{Tokens}
 use Rattle.meaning.specs.Entries.{entries}
 use Rattle.reading.specs.Lists.{Outcome, accepted, rejected, reading}
@@ -25,16 +26,16 @@ pub record Got (t q : List ℕ) (e u : ℕ) : Type 0 where
   pub outcome : reading t ≡ accepted e tokens
   pub words : take (u - 0) (drop 0 q) ≡ entries tokens
   pub few : length (entries tokens) ≤ 4092
-  pub fits : u ≤ 4096
+  pub fits : u ≤ tokenPool
 
-module _ (t p q : List ℕ) (r : ReadAnswer) (a : said r ≡ readSays t p) (b : q ≡ readLeaves t p) (l : 4096 ≤ length p) where
+module _ (t p q : List ℕ) (r : ReadAnswer) (a : said r ≡ readSays t p) (b : q ≡ readLeaves t p) (l : tokenPool ≤ length p) where
   says-it : said r ≡ outcomeSays (reading t)
   unfolding readSays
-  says-it = a ∙ rw (le-leb 4096 (length p) l)
+  says-it = a ∙ rw (le-leb tokenPool (length p) l)
 
   leaves-it : q ≡ outcomeLeaves (reading t) p
   unfolding readLeaves
-  leaves-it = b ∙ rw (le-leb 4096 (length p) l)
+  leaves-it = b ∙ rw (le-leb tokenPool (length p) l)
 
   got-from : (e u : ℕ) → r ≡ Read e u → (x : Outcome) → reading t ≡ x → Got t q e u
   unfolding outcomeSays outcomeLeaves filled
@@ -48,7 +49,7 @@ module _ (t p q : List ℕ) (r : ReadAnswer) (a : said r ≡ readSays t p) (b : 
       record {
         tokens = ts;
         outcome = h;
-        words = ap₂ take z (leaves-it ∙ ap (λ (x : Outcome). outcomeLeaves x p) g) ∙ take-at (entries ts) (replicate (4096 - length (entries ts)) 0 ++ drop 4096 p) u (sym eu);
+        words = ap₂ take z (leaves-it ∙ ap (λ (x : Outcome). outcomeLeaves x p) g) ∙ take-at (entries ts) (replicate (tokenPool - length (entries ts)) 0 ++ drop tokenPool p) u (sym eu);
         few = m;
         fits = omega arith;
       }

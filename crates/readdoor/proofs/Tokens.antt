@@ -5,6 +5,7 @@ use mathlib.Core.List.{List}
 use lib.ListN.{length, take}
 use lib.Seq.{take-at}
 use Rattle.base.specs.Pools.{filled}
+use Rattle.meaning.specs.Limits.{tokenPool}
 use Rattle.meaning.specs.Tokens.{Tokens}
 use Rattle.meaning.specs.Entries.{entries}
 use Rattle.reading.specs.Lists.{accepted, reading}
@@ -16,6 +17,6 @@ front : (size : ℕ) (ws p : List ℕ) → take (length ws) (filled size ws p) �
 unfolding filled
 front size ws p = take-at ws _ (length ws) refl
 
-pub read-tokens : (t p : List ℕ) (e : ℕ) (ts : Tokens) → 4096 ≤ length p → reading t ≡ accepted e ts → decode (take (length (entries ts)) (readLeaves t p)) ≡ ts
+pub read-tokens : (t p : List ℕ) (e : ℕ) (ts : Tokens) → tokenPool ≤ length p → reading t ≡ accepted e ts → decode (take (length (entries ts)) (readLeaves t p)) ≡ ts
 unfolding outcomeLeaves
-read-tokens t p e ts h q = ap (λ (x : List ℕ). decode (take (length (entries ts)) x)) (sym (says-at t p h (accepted e ts) q .1)) ∙ ap decode (front 4096 (entries ts) p) ∙ decode-entries ts
+read-tokens t p e ts h q = ap (λ (x : List ℕ). decode (take (length (entries ts)) x)) (sym (says-at t p h (accepted e ts) q .1)) ∙ ap decode (front tokenPool (entries ts) p) ∙ decode-entries ts

@@ -7,6 +7,7 @@ use lib.Dec.{leb}
 use lib.ListN.{length}
 use Rattle.base.specs.Refusals.{numberOf}
 use Rattle.base.specs.Pools.{filled, cleared}
+use Rattle.meaning.specs.Limits.{tokenPool}
 use Rattle.meaning.specs.Entries.{entries}
 use Rattle.reading.specs.Lists.{Outcome, accepted, rejected, reading}
 use Rattle.reader.specs.Written.{written}
@@ -28,15 +29,15 @@ outcomeSays (rejected r place) = refuses (numberOf r) place
 
 -- success writes the used words and zeroes the rest of the 4,096; a refusal zeroes them
 unfoldable pub outcomeLeaves : Outcome → List ℕ → List ℕ
-outcomeLeaves (accepted end ts) p = filled 4096 (entries ts) p
-outcomeLeaves (rejected r place) p = cleared 4096 p
+outcomeLeaves (accepted end ts) p = filled tokenPool (entries ts) p
+outcomeLeaves (rejected r place) p = cleared tokenPool p
 
 -- a pool of fewer than 4,096 words is refused first, and then nothing changes
 unfoldable pub readSays : List ℕ → List ℕ → Said
-readSays t p = cond (leb 4096 (length p)) (outcomeSays (reading t)) (refuses 18 0)
+readSays t p = cond (leb tokenPool (length p)) (outcomeSays (reading t)) (refuses 18 0)
 
 unfoldable pub readLeaves : List ℕ → List ℕ → List ℕ
-readLeaves t p = cond (leb 4096 (length p)) (outcomeLeaves (reading t) p) p
+readLeaves t p = cond (leb tokenPool (length p)) (outcomeLeaves (reading t) p) p
 
 -- below the door: the answer, and the used words in a pool that was p and is q
 unfoldable pub TextSays : Outcome → ReadAnswer → List ℕ → List ℕ → Type 0

@@ -1,9 +1,12 @@
 // Translated from boreal's boreal-parser/src/hex_string.rs (MIT OR Apache-2.0), commit 7010b5e967; see NOTICE.
 // The door by which any bytes are read as a pattern.
 use base::Refusal;
+use base::TEXT_LIMIT;
+use base::TOKEN_POOL;
 use reader::ListGot;
 ghost use mathlib.Core.Path.{_≡_};
 ghost use lib.ListN.{length};
+ghost use Rattle.meaning.specs.Limits.{tokenPool};
 ghost use Rattle.reading.specs.Lists.{reading};
 ghost use Rattle.readdoor.specs.Door.{said, readSays, readLeaves, TextSays};
 
@@ -15,20 +18,20 @@ pub enum ReadAnswer {
 
 // Into a pool of just the words that are lent.
 fn read_text(text: &[u8], pool: &mut [u32]) -> ReadAnswer
-    requires { ⌜ length (now pool) ≡ 4096 ⌝ }
+    requires { ⌜ length (now pool) ≡ tokenPool ⌝ }
     ensures { λ r. ⌜ TextSays (reading (now (text .entry))) r (now (pool .entry)) (now (pool .exit)) ⌝ }
 {
-    if 4096 < text.len() {
+    if TEXT_LIMIT < text.len() {
         return ReadAnswer::Refused(Refusal::TextTooLong, 0);
     }
-    if digits::peek(text, 0) != 123 {
+    if digits::peek(text, 0) != b'{' {
         return ReadAnswer::Refused(Refusal::Unexpected, 0);
     }
     let at = digits::skip_blanks(text, 1);
     let got = reader::read_list(text, at, 1, 0, pool, 0);
     match got {
         ListGot::Read(stop, words, _, _) => {
-            if digits::peek(text, stop) != 125 {
+            if digits::peek(text, stop) != b'}' {
                 return ReadAnswer::Refused(Refusal::Unexpected, stop);
             }
             let end = digits::skip_blanks(text, stop + 1);
@@ -44,17 +47,17 @@ pub fn read(text: &[u8], pool: &mut [u32]) -> ReadAnswer
     ensures { λ r. ⌜ (said r ≡ readSays (now (text .entry)) (now (pool .entry)))
         × (now (pool .exit) ≡ readLeaves (now (text .entry)) (now (pool .entry))) ⌝ }
 {
-    if pool.len() < 4096 {
+    if pool.len() < TOKEN_POOL {
         return ReadAnswer::Refused(Refusal::NoRoom, 0);
     }
-    let r = read_text(text, &mut pool[0..4096]);
+    let r = read_text(text, &mut pool[0..TOKEN_POOL]);
     match r {
         ReadAnswer::Read { end, words } => {
-            base::zero_words(pool, words, 4096);
+            base::zero_words(pool, words, TOKEN_POOL);
             ReadAnswer::Read { end, words }
         }
         ReadAnswer::Refused(code, place) => {
-            base::zero_words(pool, 0, 4096);
+            base::zero_words(pool, 0, TOKEN_POOL);
             ReadAnswer::Refused(code, place)
         }
     }

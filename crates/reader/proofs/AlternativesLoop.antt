@@ -1,4 +1,5 @@
 -- The loop over the lists of alternatives: what has been read so far, and what each turn and each way out make of it. Assumes nothing.
+use Prim.Native.Char.{code}
 use Prim.Native.Nat.{ℕ, suc, _+_, _-_, _*_, _/_, _≤_, _<_}
 use mathlib.Core.Path.{_≡_, refl, sym, ap, ap₂, _∙_}
 use mathlib.Core.Bool.{false}
@@ -7,6 +8,7 @@ use native.Mathlib.Omega.{arith}
 use lib.ListN.{length, getD, length-append}
 use Rattle.base.specs.declared.Refusal.{Refusal}
 use Rattle.base.specs.declared.Refusal.the-variants.{Unexpected}
+use Rattle.meaning.specs.Limits.{tokenLimit, tokenPool}
 use Rattle.meaning.specs.Tokens.{Tokens, Lists, Alternatives, neither, _or_}
 use Rattle.meaning.specs.Entries.{entry, entriesIn, entriesOf, entries, listEntries, tokenCount, listCount}
 use Rattle.meaning.proofs.TokenLaws.{count-few}
@@ -33,7 +35,7 @@ pub record Listed (t : List ℕ) (l count at n : ℕ) (p pool : List ℕ) (x mis
   pub from : at < x
   pub inside : x ≤ length t
   pub room : m + 4 ≤ 8 * c
-  pub few : c ≤ 512
+  pub few : c ≤ tokenLimit
   pub owned : k < c
   pub kept : length pool ≡ length p
 
@@ -42,13 +44,13 @@ pub record Turned (t : List ℕ) (x m c e u d own : ℕ) : Type 0 where
   pub moved : x < e
   pub inside : e ≤ length t
   pub counted : c < d
-  pub within : d ≤ 512
+  pub within : d ≤ tokenLimit
   pub room : u + 4 ≤ 8 * d
   pub more : m + 4 ≤ u
-  pub few : own ≤ 4096
+  pub few : own ≤ tokenPool
 
 module _ (t : List ℕ) (l count at n : ℕ) (p : List ℕ) where
-  pub listed-start : at < length t → n ≤ 8 * count → count < 512 → Listed t l count at n p p (skip t (at + 1)) (skip t (at + 1)) (n + 4) (count + 1) 0
+  pub listed-start : at < length t → n ≤ 8 * count → count < tokenLimit → Listed t l count at n p p (skip t (at + 1)) (skip t (at + 1)) (n + 4) (count + 1) 0
   unfolding besides listEntries listCount
   listed-start a b c = record {
     ls = neither;
@@ -100,13 +102,13 @@ module _ (t : List ℕ) (l count at n : ℕ) (p : List ℕ) where
         )
 
     pub listed-next : (e u d own y : ℕ) (q′ : List ℕ) → n + 4 ≤ length p → m + 4 ≤ length p → g ≡ list-got.Read e u d own → q′ ≡ written q m (6 ∷ own ∷ ((u - (m + 4)) / 4) ∷ 0 ∷ []) → length q′ ≡ length p
-        → getD t e 0 ≡ 124 → y ≡ skip t (e + 1) → Listed t l count at n p q′ y e u d (k + 1)
+        → getD t e 0 ≡ code "|" → y ≡ skip t (e + 1) → Listed t l count at n p q′ y e u d (k + 1)
     listed-next e u d own y q′ r r′ h hq lq b s =
         let z = marked e u d own r r′ h in
         let ts = z .0 in
         let ls = inv .ls in
         let w = turned e u d own h in
-        let i : e < length t = here-at t e 124 b (omega arith) in
+        let i : e < length t = here-at t e (code "|") b (omega arith) in
         let f = skip-from t (e + 1) in
         let fi = skip-in t (e + 1) (omega arith) in
         let o = inv .own in
@@ -126,8 +128,8 @@ module _ (t : List ℕ) (l count at n : ℕ) (p : List ℕ) where
           kept = lq;
         }
 
-    pub listed-done : (e u d own y : ℕ) (q′ q″ : List ℕ) → n + 4 ≤ length p → m + 4 ≤ length p → getD t at 0 ≡ 40 → count < 512 → g ≡ list-got.Read e u d own → q′ ≡ written q m (6 ∷ own ∷ ((u - (m + 4)) / 4) ∷ 0 ∷ [])
-        → q″ ≡ written q′ n (5 ∷ (k + 1) ∷ ((u - (n + 4)) / 4) ∷ 0 ∷ []) → getD t e 0 ≡ 41 → y ≡ skip t (e + 1) → TokenSays (alternatives t l count at) n (token-got.Read y u d false) p q″
+    pub listed-done : (e u d own y : ℕ) (q′ q″ : List ℕ) → n + 4 ≤ length p → m + 4 ≤ length p → getD t at 0 ≡ code "(" → count < tokenLimit → g ≡ list-got.Read e u d own → q′ ≡ written q m (6 ∷ own ∷ ((u - (m + 4)) / 4) ∷ 0 ∷ [])
+        → q″ ≡ written q′ n (5 ∷ (k + 1) ∷ ((u - (n + 4)) / 4) ∷ 0 ∷ []) → getD t e 0 ≡ code ")" → y ≡ skip t (e + 1) → TokenSays (alternatives t l count at) n (token-got.Read y u d false) p q″
     unfolding asToken isJump entriesOf
     listed-done e u d own y q′ q″ r r′ o f h hq hq″ b s =
         let z = marked e u d own r r′ h in
@@ -143,17 +145,17 @@ module _ (t : List ℕ) (l count at n : ℕ) (p : List ℕ) where
         ∙ ap₂ (λ (a j : ℕ). written p n (5 ∷ a ∷ (j / 4) ∷ 0 ∷ listEntries ls)) kk i)
 
     -- a refusal within
-    stops : {r : Refusal} {y : ℕ} (q′ : List ℕ) → getD t at 0 ≡ 40 → count < 512 → lists t (l + 1) c x miss ≡ stopped r y → TokenSays (alternatives t l count at) n (token-got.Refused r y) p q′
+    stops : {r : Refusal} {y : ℕ} (q′ : List ℕ) → getD t at 0 ≡ code "(" → count < tokenLimit → lists t (l + 1) c x miss ≡ stopped r y → TokenSays (alternatives t l count at) n (token-got.Refused r y) p q′
     unfolding asToken
     stops {r} {y} q′ o f w = says-refused (alternatives t l count at) n p q′ r y (bracket-open t l count at o f (inv .whole ∙ ap (besides (inv .ls)) w ∙ besides-stopped (inv .ls) r y))
 
-    pub listed-else : (e u d own : ℕ) (q′ : List ℕ) → getD t at 0 ≡ 40 → count < 512 → g ≡ list-got.Read e u d own → (getD t e 0 ≡ 41 → ⊥) → (getD t e 0 ≡ 124 → ⊥) → TokenSays (alternatives t l count at) n (token-got.Refused Unexpected e) p q′
+    pub listed-else : (e u d own : ℕ) (q′ : List ℕ) → getD t at 0 ≡ code "(" → count < tokenLimit → g ≡ list-got.Read e u d own → (getD t e 0 ≡ code ")" → ⊥) → (getD t e 0 ≡ code "|" → ⊥) → TokenSays (alternatives t l count at) n (token-got.Refused Unexpected e) p q′
     listed-else e u d own q′ o f h a b =
         let z = list-read (m + 4) g pool q (list t (l + 1) c x) e u d own h says in
         stops q′ o f (lists-else t (l + 1) c x miss (z .1) a b)
 
-    pub listed-missing : getD t at 0 ≡ 40 → count < 512 → g ≡ list-got.Absent → (q′ : List ℕ) → TokenSays (alternatives t l count at) n (token-got.Refused Unexpected miss) p q′
+    pub listed-missing : getD t at 0 ≡ code "(" → count < tokenLimit → g ≡ list-got.Absent → (q′ : List ℕ) → TokenSays (alternatives t l count at) n (token-got.Refused Unexpected miss) p q′
     listed-missing o f h q′ = stops q′ o f (lists-missing t (l + 1) c x miss (list-absent (m + 4) g pool q (list t (l + 1) c x) h says .0))
 
-    pub listed-stop : getD t at 0 ≡ 40 → count < 512 → (r : Refusal) (y : ℕ) → g ≡ list-got.Refused r y → (q′ : List ℕ) → TokenSays (alternatives t l count at) n (token-got.Refused r y) p q′
+    pub listed-stop : getD t at 0 ≡ code "(" → count < tokenLimit → (r : Refusal) (y : ℕ) → g ≡ list-got.Refused r y → (q′ : List ℕ) → TokenSays (alternatives t l count at) n (token-got.Refused r y) p q′
     listed-stop o f r y h q′ = stops q′ o f (lists-stopped t (l + 1) c x miss (list-refused (m + 4) g pool q (list t (l + 1) c x) r y h says))

@@ -8,6 +8,7 @@ use lib.Dec.{eqb·suc-zero}
 use lib.ListN.{length, length-append}
 use Rattle.base.specs.declared.Refusal.{Refusal}
 use Rattle.base.specs.declared.Refusal.the-variants.{JumpAtBound}
+use Rattle.meaning.specs.Limits.{tokenLimit, levelLimit}
 use Rattle.meaning.specs.Tokens.{Tokens, nothing, _then_}
 use Rattle.meaning.specs.Entries.{entriesOf, entries, tokenCount}
 use Rattle.reading.specs.Lists.{read, stopped, begins, ends, listOf, token, more, list}
@@ -33,7 +34,7 @@ pub record Tokened (t : List ℕ) (l count at n : ℕ) (p pool : List ℕ) (x m 
   pub from : at ≤ x
   pub inside : x ≤ length t
   pub room : m ≤ 8 * c
-  pub few : c ≤ 512
+  pub few : c ≤ tokenLimit
   pub owned : k ≤ c
   pub kept : length pool ≡ length p
 
@@ -42,12 +43,12 @@ pub record Stepped (t : List ℕ) (x m c e u d : ℕ) : Type 0 where
   pub moved : x < e
   pub inside : e ≤ length t
   pub counted : c < d
-  pub within : d ≤ 512
+  pub within : d ≤ tokenLimit
   pub room : u + 4 + 8 * c ≤ m + 8 * d
   pub more : m ≤ u
 
 module _ (t : List ℕ) (l count at n : ℕ) (p : List ℕ) where
-  pub tokened-start : at ≤ length t → n ≤ 8 * count → count ≤ 512 → Tokened t l count at n p p at n count 0 false false
+  pub tokened-start : at ≤ length t → n ≤ 8 * count → count ≤ tokenLimit → Tokened t l count at n p p at n count 0 false false
   unfolding befores entries tokenCount begins ends
   tokened-start a b c = record {
     us = nothing;
@@ -113,14 +114,14 @@ module _ (t : List ℕ) (l count at n : ℕ) (p : List ℕ) where
         go false true = refl
         go false false = (refl, refl)
 
-    pub tokened-end : l ≤ 8 → g ≡ token-got.Absent → ListSays (list t l count at) n (listEnd at x m c k first last) p q
+    pub tokened-end : l ≤ levelLimit → g ≡ token-got.Absent → ListSays (list t l count at) n (listEnd at x m c k first last) p q
     tokened-end s h =
         let z = token-absent m g pool q (token t l c x) h says in
         let us = inv .us in
         let w : list t l count at ≡ listOf at (read us x c) = list-of t l count at s ∙ ap (listOf at) (inv .whole ∙ ap (befores us) (more-none t l c x (z .0)) ∙ befores-read us x c) in
         rw (w, z .1, inv .words, inv .used, inv .own, inv .begun, inv .ended) (ended-list us x c)
 
-    pub tokened-stop : l ≤ 8 → (r : Refusal) (y : ℕ) → g ≡ token-got.Refused r y → ListSays (list t l count at) n (list-got.Refused r y) p q
+    pub tokened-stop : l ≤ levelLimit → (r : Refusal) (y : ℕ) → g ≡ token-got.Refused r y → ListSays (list t l count at) n (list-got.Refused r y) p q
     unfolding listOf
     tokened-stop s r y h =
         let z = token-refused m g pool q (token t l c x) r y h says in

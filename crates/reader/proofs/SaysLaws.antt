@@ -1,4 +1,5 @@
 -- What is known of what was read, once the answer is. Assumes nothing.
+use Prim.Native.Char.{code}
 use Prim.Native.Nat.{ℕ, _+_, _≤_, _<_}
 use mathlib.Core.Path.{_≡_, refl, ap, ap₂, _∙_, subst}
 use mathlib.Core.Bool.{Bool, cond}
@@ -8,6 +9,7 @@ use lib.Dec.{ltb}
 use lib.ListN.{length, getD}
 use Rattle.base.specs.declared.Refusal.{Refusal}
 use Rattle.base.specs.declared.Refusal.the-variants.{TooManyTokens}
+use Rattle.meaning.specs.Limits.{tokenLimit}
 use Rattle.meaning.specs.Tokens.{Token, Tokens, Lists}
 use Rattle.meaning.specs.Entries.{entriesOf, entries, tokenCount}
 use Rattle.reading.specs.Blanks.{skip}
@@ -94,13 +96,13 @@ module _ (t : List ℕ) (l c at : ℕ) where
   token-of : {x : Seen Token} → plainAt t (ltb 1 l) at ≡ x → token t l c at ≡ tokenOr at c x (alternatives t l c at)
   token-of e = token-step t l c at ∙ ap (λ (y : Seen Token). tokenOr at c y (alternatives t l c at)) e
 
-  pub token-full : {tok : Token} {s e : ℕ} → plainAt t (ltb 1 l) at ≡ found tok s e → 512 ≤ c → token t l c at ≡ stopped TooManyTokens at
+  pub token-full : {tok : Token} {s e : ℕ} → plainAt t (ltb 1 l) at ≡ found tok s e → tokenLimit ≤ c → token t l c at ≡ stopped TooManyTokens at
   unfolding tokenOr
-  token-full {tok} {s} {e} h k = token-of h ∙ ap (λ (b : Bool). cond b (read tok e (c + 1)) (stopped TooManyTokens at)) (le-ltb c 512 k)
+  token-full {tok} {s} {e} h k = token-of h ∙ ap (λ (b : Bool). cond b (read tok e (c + 1)) (stopped TooManyTokens at)) (le-ltb c tokenLimit k)
 
-  pub token-found : {tok : Token} {s e : ℕ} → plainAt t (ltb 1 l) at ≡ found tok s e → c < 512 → token t l c at ≡ read tok e (c + 1)
+  pub token-found : {tok : Token} {s e : ℕ} → plainAt t (ltb 1 l) at ≡ found tok s e → c < tokenLimit → token t l c at ≡ read tok e (c + 1)
   unfolding tokenOr
-  token-found {tok} {s} {e} h k = token-of h ∙ ap (λ (b : Bool). cond b (read tok e (c + 1)) (stopped TooManyTokens at)) (lt-ltb c 512 k)
+  token-found {tok} {s} {e} h k = token-of h ∙ ap (λ (b : Bool). cond b (read tok e (c + 1)) (stopped TooManyTokens at)) (lt-ltb c tokenLimit k)
 
   pub token-other : plainAt t (ltb 1 l) at ≡ absent → token t l c at ≡ alternatives t l c at
   unfolding tokenOr
@@ -115,14 +117,14 @@ module _ (t : List ℕ) (l c at : ℕ) where
   one-entry h = subst (λ (x : Seen Token). Flat x) h (plain-flat t (ltb 1 l) at)
 
   -- alternatives
-  pub no-bracket : (getD t at 0 ≡ 40 → ⊥) → alternatives t l c at ≡ missing
+  pub no-bracket : (getD t at 0 ≡ code "(" → ⊥) → alternatives t l c at ≡ missing
   unfolding bracketed
-  no-bracket h = simp (ne-eqb (getD t at 0) 40 h)
+  no-bracket h = simp (ne-eqb (getD t at 0) (code "(") h)
 
-  pub bracket-full : getD t at 0 ≡ 40 → 512 ≤ c → alternatives t l c at ≡ stopped TooManyTokens at
+  pub bracket-full : getD t at 0 ≡ code "(" → tokenLimit ≤ c → alternatives t l c at ≡ stopped TooManyTokens at
   unfolding bracketed
-  bracket-full h k = rw (h, le-ltb c 512 k)
+  bracket-full h k = rw (h, le-ltb c tokenLimit k)
 
-  pub bracket-open : getD t at 0 ≡ 40 → c < 512 → {y : Parsed Lists} → lists t (l + 1) (c + 1) (skip t (at + 1)) (skip t (at + 1)) ≡ y → alternatives t l c at ≡ asToken y
+  pub bracket-open : getD t at 0 ≡ code "(" → c < tokenLimit → {y : Parsed Lists} → lists t (l + 1) (c + 1) (skip t (at + 1)) (skip t (at + 1)) ≡ y → alternatives t l c at ≡ asToken y
   unfolding bracketed
-  bracket-open h k e = rw (h, lt-ltb c 512 k, e)
+  bracket-open h k e = rw (h, lt-ltb c tokenLimit k, e)

@@ -2,10 +2,11 @@
 use mathlib.Core.Path.{_≡_}
 use mathlib.Core.Bool.{Bool, cond}
 use mathlib.Core.List.{List}
-use Prim.Native.Nat.{ℕ, _+_, _*_, _≤_}
+use Prim.Native.Nat.{ℕ, suc, _+_, _*_, _≤_}
 use lib.Dec.{eqb}
 use lib.ListN.{length}
 use Rattle.base.specs.declared.Refusal.the-variants.{JumpAtBound}
+use Rattle.meaning.specs.Limits.{textLimit, tokenLimit, levelLimit, tokenPool}
 use Rattle.meaning.specs.Tokens.{Token, Tokens}
 use Rattle.meaning.specs.Entries.{entriesOf, entries, tokenCount}
 use Rattle.reading.specs.Blanks.{skip}
@@ -36,11 +37,11 @@ alternatives t level count at = bracketed t at count (lists t (level + 1) (count
 -- mark of a list that has none yet.
 pub record Room (len at level count n cap : ℕ) : Type 0 where
   pub inside : at ≤ len
-  pub short : len ≤ 4096
-  pub shallow : level ≤ 9
-  pub few : count ≤ 512
+  pub short : len ≤ textLimit
+  pub shallow : level ≤ suc levelLimit
+  pub few : count ≤ tokenLimit
   pub used : n ≤ 8 * count
-  pub pool : cap ≡ 4096
+  pub pool : cap ≡ tokenPool
 
 -- whether a list's first token is a jump, once one more is read after k of them
 abbrev pub firstOf : ℕ → Bool → Bool → Bool

@@ -1,7 +1,9 @@
 // Translated from boreal's boreal-parser/src/hex_string.rs (MIT OR Apache-2.0), commit 7010b5e967; see NOTICE.
 // The readers of token, list and alternatives call each other. Lists and alternatives are read in loops, so the stack
 // grows with the levels and not with the tokens.
+use base::LEVEL_LIMIT;
 use base::Refusal;
+use base::TOKEN_LIMIT;
 use digits::Mask;
 use digits::Piece;
 use digits::Plain;
@@ -9,6 +11,7 @@ ghost use mathlib.Core.Path.{_≡_};
 ghost use mathlib.Core.List.{[], _∷_};
 ghost use Prim.Native.Nat.{_+_, _-_, _/_, _≤_, _<_};
 ghost use lib.ListN.{length};
+ghost use Rattle.meaning.specs.Limits.{levelLimit, tokenPool};
 ghost use Rattle.meaning.specs.Entries.{entriesOf, maskNumber};
 ghost use Rattle.reading.specs.Lists.{isJump, token, list};
 ghost use Rattle.digits.specs.Answers.{maskOf, tokenOf};
@@ -41,7 +44,7 @@ fn put(pool: &mut [u32], n: usize, kind: u32, a: u32, b: u32, c: u32)
 
 // The entry before other entries that end at `end`: alternatives, or a list's mark.
 fn put_head(pool: &mut [u32], n: usize, kind: u32, count: usize, end: usize)
-    requires { ⌜ (n + 4 ≤ end) × (end ≤ length (now pool)) × (length (now pool) ≡ 4096) × (count ≤ 4096) ⌝ }
+    requires { ⌜ (n + 4 ≤ end) × (end ≤ length (now pool)) × (length (now pool) ≡ tokenPool) × (count ≤ tokenPool) ⌝ }
     ensures { λ _. ⌜ now (pool .exit) ≡ written (now (pool .entry)) n (kind ∷ count ∷ ((end - (n + 4)) / 4) ∷ 0 ∷ []) ⌝ }
 {
     let inner = (end - (n + 4)) / 4;
@@ -138,13 +141,13 @@ pub fn read_token(
     pool: &mut [u32],
     n: usize,
 ) -> TokenGot
-    requires { ⌜ Room (length (now text)) at level count n (length (now pool)) × (level ≤ 8) ⌝ }
+    requires { ⌜ Room (length (now text)) at level count n (length (now pool)) × (level ≤ levelLimit) ⌝ }
     ensures { λ r. ⌜ TokenSays (token (now (text .entry)) level count at) n r (now (pool .entry)) (now (pool .exit)) ⌝ }
 {
     let piece = digits::plain_token(text, at, 1 < level);
     match piece {
         Piece::Found(tok, _, end) => {
-            if 512 <= count {
+            if TOKEN_LIMIT <= count {
                 return TokenGot::Refused(Refusal::TooManyTokens, at);
             }
             let jump = put_plain(pool, n, tok);
@@ -167,7 +170,7 @@ pub fn read_list(
     requires { ⌜ Room (length (now text)) at level count n (length (now pool)) ⌝ }
     ensures { λ r. ⌜ ListSays (list (now (text .entry)) level count at) n r (now (pool .entry)) (now (pool .exit)) ⌝ }
 {
-    if 8 < level {
+    if LEVEL_LIMIT < level {
         return ListGot::Refused(Refusal::HexStringTooDeep, at);
     }
     let mut x = at;
@@ -206,13 +209,13 @@ pub fn read_alternatives(
     pool: &mut [u32],
     n: usize,
 ) -> TokenGot
-    requires { ⌜ Room (length (now text)) at level count n (length (now pool)) × (level ≤ 8) ⌝ }
+    requires { ⌜ Room (length (now text)) at level count n (length (now pool)) × (level ≤ levelLimit) ⌝ }
     ensures { λ r. ⌜ TokenSays (alternatives (now (text .entry)) level count at) n r (now (pool .entry)) (now (pool .exit)) ⌝ }
 {
-    if digits::peek(text, at) != 40 {
+    if digits::peek(text, at) != b'(' {
         return TokenGot::Absent;
     }
-    if 512 <= count {
+    if TOKEN_LIMIT <= count {
         return TokenGot::Refused(Refusal::TooManyTokens, at);
     }
     let mut x = digits::skip_blanks(text, at + 1);
@@ -227,11 +230,11 @@ pub fn read_alternatives(
                 put_head(pool, m, 6, own, used);
                 k += 1;
                 let after = digits::peek(text, end);
-                if after == 41 {
+                if after == b')' {
                     put_head(pool, n, 5, k, used);
                     return TokenGot::Read(digits::skip_blanks(text, end + 1), used, counted, false);
                 }
-                if after != 124 {
+                if after != b'|' {
                     return TokenGot::Refused(Refusal::Unexpected, end);
                 }
                 miss = end;

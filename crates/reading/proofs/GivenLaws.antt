@@ -2,6 +2,7 @@
 use mathlib.Core.Path.{_≡_, refl, sym, ap, ap₂, _∙_, subst}
 use mathlib.Core.Bool.{Bool, true, false, cond}
 use mathlib.Core.List.{List}
+use Prim.Native.Char.{code}
 use Prim.Native.Nat.{ℕ, zero, suc, _+_, _-_, _*_, _≤_, _<_}
 use native.Mathlib.Omega.{arith}
 use borrow.Author.Tests.{eqb-true, eqb-false, ltb-true, ltb-false, leb-true, leb-false, le-ltb, lt-ltb}
@@ -9,6 +10,7 @@ use lib.Dec.{eqb, ltb, leb}
 use lib.ListN.{length, getD}
 use Rattle.base.specs.declared.Refusal.{Refusal}
 use Rattle.base.specs.declared.Refusal.the-variants.{TextTooLong, Unexpected, JumpAtBound, HexStringTooDeep, TooManyTokens}
+use Rattle.meaning.specs.Limits.{textLimit, tokenLimit, levelLimit}
 use Rattle.meaning.specs.Tokens.{Token, Tokens, Lists, nothing, _then_, _or_}
 use Rattle.meaning.specs.Entries.{tokenCount}
 use Rattle.reading.specs.Blanks.{skip}
@@ -22,20 +24,20 @@ use Rattle.reading.proofs.ListSteps.{token-gone, list-gone, token-step,
 use Rattle.reading.proofs.TextLaws.{text-long, text-unopened, text-opened, text-unclosed}
 
 -- no other token begins with `(`
-bracket-alone : (t : List ℕ) (inside : Bool) (at : ℕ) → getD t at 0 ≡ 40 → plainAt t inside at ≡ absent
+bracket-alone : (t : List ℕ) (inside : Bool) (at : ℕ) → getD t at 0 ≡ code "(" → plainAt t inside at ≡ absent
 unfolding jumped digit within
-bracket-alone t inside at h = plain-other t inside at 40 h (λ z. omega arith) (λ z. omega arith) refl ∙ ap (jumped inside at) (range-else t at (λ z. let w : 40 ≡ 91 = sym h ∙ z in omega arith))
+bracket-alone t inside at h = plain-other t inside at (code "(") h (λ z. omega arith) (λ z. omega arith) refl ∙ ap (jumped inside at) (range-else t at (λ z. let w : code "(" ≡ code "[" = sym h ∙ z in omega arith))
 
 module _ (t : List ℕ) (l c at : ℕ) where
   token-by : {x : Seen Token} → plainAt t (ltb 1 l) at ≡ x → token t l c at ≡ tokenOr at c x (bracketed t at c (lists t (l + 1) (c + 1) (skip t (at + 1)) (skip t (at + 1))))
   token-by e = token-step t l c at ∙ ap (λ (y : Seen Token). tokenOr at c y (bracketed t at c (lists t (l + 1) (c + 1) (skip t (at + 1)) (skip t (at + 1))))) e
 
-  bracket-by : getD t at 0 ≡ 40 → token t l c at ≡ cond (ltb c 512) (asToken (lists t (l + 1) (c + 1) (skip t (at + 1)) (skip t (at + 1)))) (stopped TooManyTokens at)
+  bracket-by : getD t at 0 ≡ code "(" → token t l c at ≡ cond (ltb c tokenLimit) (asToken (lists t (l + 1) (c + 1) (skip t (at + 1)) (skip t (at + 1)))) (stopped TooManyTokens at)
   unfolding tokenOr bracketed
   bracket-by h = token-by (bracket-alone t (ltb 1 l) at h) ∙ rw h
 
-  bracket-open : getD t at 0 ≡ 40 → c < 512 → {y : Parsed Lists} → lists t (l + 1) (c + 1) (skip t (at + 1)) (skip t (at + 1)) ≡ y → token t l c at ≡ asToken y
-  bracket-open h f q = bracket-by h ∙ ap (λ (b : Bool). cond b (asToken (lists t (l + 1) (c + 1) (skip t (at + 1)) (skip t (at + 1)))) (stopped TooManyTokens at)) (lt-ltb c 512 f) ∙ ap asToken q
+  bracket-open : getD t at 0 ≡ code "(" → c < tokenLimit → {y : Parsed Lists} → lists t (l + 1) (c + 1) (skip t (at + 1)) (skip t (at + 1)) ≡ y → token t l c at ≡ asToken y
+  bracket-open h f q = bracket-by h ∙ ap (λ (b : Bool). cond b (asToken (lists t (l + 1) (c + 1) (skip t (at + 1)) (skip t (at + 1)))) (stopped TooManyTokens at)) (lt-ltb c tokenLimit f) ∙ ap asToken q
 
 -- the outer list and the first one in brackets, by where they begin
 outer-list : (t : List ℕ) (l c at : ℕ) (x : Parsed Tokens) → l ≡ 1 → c ≡ 0 → at ≡ skip t 1 → list t l c at ≡ x → list t 1 0 (skip t 1) ≡ x
@@ -45,7 +47,7 @@ inner-lists : (t : List ℕ) (l c at l′ c′ x miss : ℕ) (y : Parsed Lists) 
 inner-lists t l c at l′ c′ x miss y e f g h q =
     ap₂ (λ (a b : ℕ). lists t a b (skip t (at + 1)) (skip t (at + 1))) (sym e) (sym f) ∙ ap₂ (λ (a b : ℕ). lists t l′ c′ a b) (sym g) (sym h) ∙ q
 
-shallow : {t : List ℕ} {l c at : ℕ} → given.Begins t l c at → l ≤ 8
+shallow : {t : List ℕ} {l c at : ℕ} → given.Begins t l c at → l ≤ levelLimit
 shallow (given.outermost s o l c a) = omega arith
 shallow (given.bracketed a h) = h
 
@@ -84,9 +86,9 @@ given-rejects {t} (given.not-bracketed {level = l} {count = c} {at = at} {miss =
 given-rejects {t} (given.in-token {level = l} {count = c} {at = at} {p = p} {r = r} k q) = stop-more k r p (more-stopped t l c at (token-by t l c at (in-token-refuses q)))
 given-rejects {t} (given.jump-at-bound {level = l} {count = c} {at = at} {e = e} {d = d} {ts = ts} b q h) = stop-list b JumpAtBound at (list-of t l c at (shallow b) ∙ ap (listOf at) q ∙ bounded at e d ts h)
 given-rejects {t} (given.too-deep {level = l} {count = c} {at = at} {miss = miss} a h) = stop-lists a HexStringTooDeep at (lists-stopped t l c at miss (list-deep t l c at h))
-given-rejects {t} (given.too-many {level = l} {count = c} {at = at} {e = e} {tok = tok} k h q) = stop-more k TooManyTokens at (more-stopped t l c at (token-by t l c at q ∙ ap (λ (b : Bool). cond b (read tok e (c + 1)) (stopped TooManyTokens at)) (le-ltb c 512 h)))
+given-rejects {t} (given.too-many {level = l} {count = c} {at = at} {e = e} {tok = tok} k h q) = stop-more k TooManyTokens at (more-stopped t l c at (token-by t l c at q ∙ ap (λ (b : Bool). cond b (read tok e (c + 1)) (stopped TooManyTokens at)) (le-ltb c tokenLimit h)))
 given-rejects {t} (given.too-many-brackets {level = l} {count = c} {at = at} k h q) =
-    stop-more k TooManyTokens at (more-stopped t l c at (bracket-by t l c at q ∙ ap (λ (b : Bool). cond b (asToken (lists t (l + 1) (c + 1) (skip t (at + 1)) (skip t (at + 1)))) (stopped TooManyTokens at)) (le-ltb c 512 h)))
+    stop-more k TooManyTokens at (more-stopped t l c at (bracket-by t l c at q ∙ ap (λ (b : Bool). cond b (asToken (lists t (l + 1) (c + 1) (skip t (at + 1)) (skip t (at + 1)))) (stopped TooManyTokens at)) (le-ltb c tokenLimit h)))
 
 -- what a step leaves out is refused no more
 before-stopped : (tok : Token) (x : Parsed Tokens) (r : Refusal) (p : ℕ) → before tok x ≡ stopped r p → x ≡ stopped r p
@@ -112,25 +114,25 @@ move {t} {r} {s} {p} {q} a b g = subst (λ (x : Refusal). given.Given t x p) a (
 
 -- a refusal has its case, where what is refused further on has
 module _ (t : List ℕ) (r : Refusal) (p : ℕ) where
-  token-case : (l c at : ℕ) → given.Looked t l c at → (getD t at 0 ≡ 40 → c < 512 → lists t (l + 1) (c + 1) (skip t (at + 1)) (skip t (at + 1)) ≡ stopped r p → given.Given t r p) → token t l c at ≡ stopped r p → given.Given t r p
+  token-case : (l c at : ℕ) → given.Looked t l c at → (getD t at 0 ≡ code "(" → c < tokenLimit → lists t (l + 1) (c + 1) (skip t (at + 1)) (skip t (at + 1)) ≡ stopped r p → given.Given t r p) → token t l c at ≡ stopped r p → given.Given t r p
   unfolding tokenOr bracketed
-  token-case l c at k inner q = go (plainAt t (ltb 1 l) at) refl (ltb c 512) refl (eqb (getD t at 0) 40) refl
+  token-case l c at k inner q = go (plainAt t (ltb 1 l) at) refl (ltb c tokenLimit) refl (eqb (getD t at 0) (code "(")) refl
     where
-      go : (x : Seen Token) → plainAt t (ltb 1 l) at ≡ x → (b : Bool) → ltb c 512 ≡ b → (o : Bool) → eqb (getD t at 0) 40 ≡ o → given.Given t r p
+      go : (x : Seen Token) → plainAt t (ltb 1 l) at ≡ x → (b : Bool) → ltb c tokenLimit ≡ b → (o : Bool) → eqb (getD t at 0) (code "(") ≡ o → given.Given t r p
       go (found tok s e) i true j o w =
           let z : token t l c at ≡ read tok e (c + 1) = token-by t l c at i ∙ ap (λ (b : Bool). cond b (read tok e (c + 1)) (stopped TooManyTokens at)) j in
           never (cc)
       go (found tok s e) i false j o w =
           let z : token t l c at ≡ stopped TooManyTokens at = token-by t l c at i ∙ ap (λ (b : Bool). cond b (read tok e (c + 1)) (stopped TooManyTokens at)) j in
-          move (cc) (cc) (given.too-many k (ltb-false c 512 j) i)
+          move (cc) (cc) (given.too-many k (ltb-false c tokenLimit j) i)
       go absent i true j true w =
-          let o : getD t at 0 ≡ 40 = eqb-true (getD t at 0) 40 w in
-          let f : c < 512 = ltb-true c 512 j in
+          let o : getD t at 0 ≡ code "(" = eqb-true (getD t at 0) (code "(") w in
+          let f : c < tokenLimit = ltb-true c tokenLimit j in
           inner o f (as-stopped _ r p (sym (bracket-open t l c at o f refl) ∙ q))
       go absent i false j true w =
-          let o : getD t at 0 ≡ 40 = eqb-true (getD t at 0) 40 w in
+          let o : getD t at 0 ≡ code "(" = eqb-true (getD t at 0) (code "(") w in
           let z : token t l c at ≡ stopped TooManyTokens at = bracket-by t l c at o ∙ ap (λ (b : Bool). cond b (asToken (lists t (l + 1) (c + 1) (skip t (at + 1)) (skip t (at + 1)))) (stopped TooManyTokens at)) j in
-          move (cc) (cc) (given.too-many-brackets k (ltb-false c 512 j) o)
+          move (cc) (cc) (given.too-many-brackets k (ltb-false c tokenLimit j) o)
       go absent i b j false w =
           let z : token t l c at ≡ missing = token-by t l c at i ∙ rw w in
           never (cc)
@@ -139,7 +141,7 @@ module _ (t : List ℕ) (r : Refusal) (p : ℕ) where
           move (cc) (cc) (given.in-token k (refused-in-token t at (ltb 1 l) s y i))
 
   more-case : (l c at : ℕ) → given.Looked t l c at → ((tok : Token) (e d : ℕ) → token t l c at ≡ read tok e d → more t l d e ≡ stopped r p → given.Given t r p)
-      → (getD t at 0 ≡ 40 → c < 512 → lists t (l + 1) (c + 1) (skip t (at + 1)) (skip t (at + 1)) ≡ stopped r p → given.Given t r p) → more t l c at ≡ stopped r p → given.Given t r p
+      → (getD t at 0 ≡ code "(" → c < tokenLimit → lists t (l + 1) (c + 1) (skip t (at + 1)) (skip t (at + 1)) ≡ stopped r p → given.Given t r p) → more t l c at ≡ stopped r p → given.Given t r p
   more-case l c at k later inner q = go (token t l c at) refl
     where
       go : (x : Parsed Token) → token t l c at ≡ x → given.Given t r p
@@ -172,21 +174,21 @@ module _ (t : List ℕ) (r : Refusal) (p : ℕ) where
       go missing i = let z = of i in never (cc)
       go (stopped s y) i = within (i ∙ of i)
 
-  lists-case : (l c at miss : ℕ) → given.InBrackets t l c at miss → (l ≤ 8 → list t l c at ≡ stopped r p → given.Given t r p)
-      → ((ts : Tokens) (e d : ℕ) → list t l c at ≡ read ts e d → getD t e 0 ≡ 124 → lists t l d (skip t (e + 1)) e ≡ stopped r p → given.Given t r p) → lists t l c at miss ≡ stopped r p → given.Given t r p
-  lists-case l c at miss a within later q = deep (ltb 8 l) refl
+  lists-case : (l c at miss : ℕ) → given.InBrackets t l c at miss → (l ≤ levelLimit → list t l c at ≡ stopped r p → given.Given t r p)
+      → ((ts : Tokens) (e d : ℕ) → list t l c at ≡ read ts e d → getD t e 0 ≡ code "|" → lists t l d (skip t (e + 1)) e ≡ stopped r p → given.Given t r p) → lists t l c at miss ≡ stopped r p → given.Given t r p
+  lists-case l c at miss a within later q = deep (ltb levelLimit l) refl
     where
-      after : (ts : Tokens) (e d : ℕ) → list t l c at ≡ read ts e d → (x y : Bool) → eqb (getD t e 0) 41 ≡ x → eqb (getD t e 0) 124 ≡ y → given.Given t r p
-      after ts e d i true y v w = let z = lists-closed t l c at miss i (eqb-true (getD t e 0) 41 v) in never (cc)
+      after : (ts : Tokens) (e d : ℕ) → list t l c at ≡ read ts e d → (x y : Bool) → eqb (getD t e 0) (code ")") ≡ x → eqb (getD t e 0) (code "|") ≡ y → given.Given t r p
+      after ts e d i true y v w = let z = lists-closed t l c at miss i (eqb-true (getD t e 0) (code ")") v) in never (cc)
       after ts e d i false true v w =
-          let o : getD t e 0 ≡ 124 = eqb-true (getD t e 0) 124 w in
+          let o : getD t e 0 ≡ code "|" = eqb-true (getD t e 0) (code "|") w in
           later ts e d i o (beside-stopped ts _ r p (sym (lists-barred t l c at miss i o) ∙ q))
       after ts e d i false false v w =
-          let z = lists-else t l c at miss i (eqb-false (getD t e 0) 41 v) (eqb-false (getD t e 0) 124 w) in
-          move (cc) (cc) (given.not-bracketed a i (eqb-false (getD t e 0) 41 v) (eqb-false (getD t e 0) 124 w))
+          let z = lists-else t l c at miss i (eqb-false (getD t e 0) (code ")") v) (eqb-false (getD t e 0) (code "|") w) in
+          move (cc) (cc) (given.not-bracketed a i (eqb-false (getD t e 0) (code ")") v) (eqb-false (getD t e 0) (code "|") w))
 
-      go : l ≤ 8 → (x : Parsed Tokens) → list t l c at ≡ x → given.Given t r p
-      go h (read ts e d) i = after ts e d i (eqb (getD t e 0) 41) (eqb (getD t e 0) 124) refl refl
+      go : l ≤ levelLimit → (x : Parsed Tokens) → list t l c at ≡ x → given.Given t r p
+      go h (read ts e d) i = after ts e d i (eqb (getD t e 0) (code ")")) (eqb (getD t e 0) (code "|")) refl refl
       go h missing i = let z = lists-missing t l c at miss i in move (cc) (cc) (given.no-list a i)
       go h (stopped s y) i =
           let z = lists-stopped t l c at miss i in
@@ -194,18 +196,18 @@ module _ (t : List ℕ) (r : Refusal) (p : ℕ) where
           let v : y ≡ p = cc in
           within h (i ∙ ap₂ stopped u v)
 
-      deep : (b : Bool) → ltb 8 l ≡ b → given.Given t r p
+      deep : (b : Bool) → ltb levelLimit l ≡ b → given.Given t r p
       deep true j =
-          let z = lists-stopped t l c at miss (list-deep t l c at (ltb-true 8 l j)) in
-          move (cc) (cc) (given.too-deep a (ltb-true 8 l j))
-      deep false j = go (ltb-false 8 l j) (list t l c at) refl
+          let z = lists-stopped t l c at miss (list-deep t l c at (ltb-true levelLimit l j)) in
+          move (cc) (cc) (given.too-deep a (ltb-true levelLimit l j))
+      deep false j = go (ltb-false levelLimit l j) (list t l c at) refl
 
   mutual
     why-more : (n l c at : ℕ) → 4 * (length t - at) + 1 < n → given.Looked t l c at → more t l c at ≡ stopped r p → given.Given t r p
     why-more zero l c at h k q = absurd (omega arith)
     why-more (suc n) l c at h k q =
         more-case l c at k (λ tok e d i w. let g = token-gone t l c at i in why-more n l d e (omega arith) (given.next k i) w)
-        (λ o f w. let u = here-at t at 40 o (omega arith) in let v = skip-from t (at + 1) in why-lists n (l + 1) (c + 1) (skip t (at + 1)) (skip t (at + 1)) (omega arith) (given.opened k o f refl refl refl refl) w) q
+        (λ o f w. let u = here-at t at (code "(") o (omega arith) in let v = skip-from t (at + 1) in why-lists n (l + 1) (c + 1) (skip t (at + 1)) (skip t (at + 1)) (omega arith) (given.opened k o f refl refl refl refl) w) q
 
     why-list : (n l c at : ℕ) → 4 * (length t - at) + 2 < n → given.Begins t l c at → list t l c at ≡ stopped r p → given.Given t r p
     why-list zero l c at h b q = absurd (omega arith)
@@ -219,22 +221,22 @@ module _ (t : List ℕ) (r : Refusal) (p : ℕ) where
 
   pub rejected-given : reading t ≡ rejected r p → given.Given t r p
   unfolding reading closing
-  rejected-given h = go (leb (length t) 4096) (eqb (getD t 0 0) 123) (list t 1 0 (skip t 1)) refl refl refl h
+  rejected-given h = go (leb (length t) textLimit) (eqb (getD t 0 0) (code "{")) (list t 1 0 (skip t 1)) refl refl refl h
     where
-      closes : (us : Tokens) (s c : ℕ) → length t ≤ 4096 → getD t 0 0 ≡ 123 → list t 1 0 (skip t 1) ≡ read us s c → (d : Bool) → eqb (getD t s 0) 125 ≡ d
+      closes : (us : Tokens) (s c : ℕ) → length t ≤ textLimit → getD t 0 0 ≡ code "{" → list t 1 0 (skip t 1) ≡ read us s c → (d : Bool) → eqb (getD t s 0) (code "}") ≡ d
           → _≡_ {A = Outcome} (cond d (accepted (skip t (s + 1)) us) (rejected Unexpected s)) (rejected r p) → given.Given t r p
       closes us s c a b i true w h = never (cc)
-      closes us s c a b i false w h = move (cc) (cc) (given.not-closed a b i (eqb-false (getD t s 0) 125 w))
+      closes us s c a b i false w h = move (cc) (cc) (given.not-closed a b i (eqb-false (getD t s 0) (code "}") w))
 
-      go : (a b : Bool) (x : Parsed Tokens) → leb (length t) 4096 ≡ a → eqb (getD t 0 0) 123 ≡ b → list t 1 0 (skip t 1) ≡ x → cond a (cond b (closing t (skip t 1) x) (rejected Unexpected 0)) (rejected TextTooLong 0) ≡ rejected r p → given.Given t r p
-      go true true (read us s c) q o i h = closes us s c (leb-true (length t) 4096 q) (eqb-true (getD t 0 0) 123 o) i (eqb (getD t s 0) 125) refl h
-      go true true missing q o i h = move (cc) (cc) (given.no-outer (leb-true (length t) 4096 q) (eqb-true (getD t 0 0) 123 o) i)
+      go : (a b : Bool) (x : Parsed Tokens) → leb (length t) textLimit ≡ a → eqb (getD t 0 0) (code "{") ≡ b → list t 1 0 (skip t 1) ≡ x → cond a (cond b (closing t (skip t 1) x) (rejected Unexpected 0)) (rejected TextTooLong 0) ≡ rejected r p → given.Given t r p
+      go true true (read us s c) q o i h = closes us s c (leb-true (length t) textLimit q) (eqb-true (getD t 0 0) (code "{") o) i (eqb (getD t s 0) (code "}")) refl h
+      go true true missing q o i h = move (cc) (cc) (given.no-outer (leb-true (length t) textLimit q) (eqb-true (getD t 0 0) (code "{") o) i)
       go true true (stopped s y) q o i h =
           let u : s ≡ r = cc in
           let v : y ≡ p = cc in
-          why-list (4 * (length t - skip t 1) + 3) 1 0 (skip t 1) (omega arith) (given.outermost (leb-true (length t) 4096 q) (eqb-true (getD t 0 0) 123 o) refl refl refl) (i ∙ ap₂ stopped u v)
-      go true false x q o i h = move (cc) (cc) (given.not-opened (leb-true (length t) 4096 q) (eqb-false (getD t 0 0) 123 o))
-      go false b x q o i h = move (cc) (cc) (given.too-long (leb-false (length t) 4096 q))
+          why-list (4 * (length t - skip t 1) + 3) 1 0 (skip t 1) (omega arith) (given.outermost (leb-true (length t) textLimit q) (eqb-true (getD t 0 0) (code "{") o) refl refl refl) (i ∙ ap₂ stopped u v)
+      go true false x q o i h = move (cc) (cc) (given.not-opened (leb-true (length t) textLimit q) (eqb-false (getD t 0 0) (code "{") o))
+      go false b x q o i h = move (cc) (cc) (given.too-long (leb-false (length t) textLimit q))
 
 -- a refusal is given exactly in its case
 pub given-exactly : (t : List ℕ) (r : Refusal) (p : ℕ) → (reading t ≡ rejected r p → given.Given t r p) × (given.Given t r p → reading t ≡ rejected r p)

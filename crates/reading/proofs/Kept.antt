@@ -4,11 +4,13 @@ use mathlib.Core.Path.{_≡_, refl, subst}
 use mathlib.Core.Bool.{Bool, true, false, cond, _&&_}
 use mathlib.Core.Option.{Option, none, some}
 use mathlib.Core.List.{List}
+use Prim.Native.Char.{code}
 use Prim.Native.Nat.{ℕ, zero, suc, _+_, _-_, _≤_, _<_}
 use native.Mathlib.Omega.{arith}
 use borrow.Author.Tests.{ltb-false}
 use lib.Dec.{eqb, ltb}
 use lib.ListN.{getD}
+use Rattle.meaning.specs.Limits.{tokenLimit, levelLimit, innerJumpLimit}
 use Rattle.meaning.specs.Tokens.{Mask, left, right, all, Token, Tokens, Lists, Byte, NotByte, MaskedByte, NotMaskedByte, Jump, Alternatives, nothing, _then_, neither, _or_}
 use Rattle.reading.specs.Blanks.{skip}
 use Rattle.reading.specs.Pieces.{Seen, found, absent, refused, Hex, whole, masked, Range, between, digit, twoDigits, byteAt, oneDigit, maskedAt, hexAt, negated, notAt, numberAt, checked, closedAt, upperAt, dashAt, lowerAt, rangeAt, jumpToken, jumped, plainly, plainAt, _else_}
@@ -68,8 +70,8 @@ small-hex : (t : List ℕ) (at : ℕ) → Small (hexAt t at)
 unfolding hexAt maskedAt Small
 small-hex t at =
     small-else (byteAt t at) _ (small-byte t at)
-    (small-by (eqb (getD t at 0) 63) _ _ (small-by (eqb (getD t (at + 1) 0) 63) _ _ (omega arith) (small-one t at left (getD t (at + 1) 0)))
-    (small-by (eqb (getD t (at + 1) 0) 63) _ _ (small-one t at right (getD t at 0)) tt))
+    (small-by (eqb (getD t at 0) (code "?")) _ _ (small-by (eqb (getD t (at + 1) 0) (code "?")) _ _ (omega arith) (small-one t at left (getD t (at + 1) 0)))
+    (small-by (eqb (getD t (at + 1) 0) (code "?")) _ _ (small-one t at right (getD t at 0)) tt))
 
 -- a jump's bounds
 unfoldable Rising : Seen Range → Type 0
@@ -90,7 +92,7 @@ module _ (t : List ℕ) (at : ℕ) where
 
   rising-closed : (from : ℕ) (to : Option ℕ) (x : ℕ) → Rising (closedAt t at from to x)
   unfolding closedAt Rising
-  rising-closed from to x = rising-by (eqb (getD t x 0) 93) _ _ (rising-checked from to (x + 1)) (λ z. tt)
+  rising-closed from to x = rising-by (eqb (getD t x 0) (code "]")) _ _ (rising-checked from to (x + 1)) (λ z. tt)
 
   rising-upper : (from x : ℕ) (n : Seen ℕ) → Rising (upperAt t at from x n)
   unfolding upperAt Rising
@@ -100,17 +102,17 @@ module _ (t : List ℕ) (at : ℕ) where
 
   rising-dash : (from x : ℕ) → Rising (dashAt t at from x)
   unfolding dashAt Rising
-  rising-dash from x = rising-by (eqb (getD t x 0) 45) _ _ (rising-upper from (skip t (x + 1)) (numberAt t (skip t (x + 1)))) (λ z. tt)
+  rising-dash from x = rising-by (eqb (getD t x 0) (code "-")) _ _ (rising-upper from (skip t (x + 1)) (numberAt t (skip t (x + 1)))) (λ z. tt)
 
   rising-lower : (x : ℕ) (n : Seen ℕ) → Rising (lowerAt t at x n)
   unfolding lowerAt Rising
-  rising-lower x (found n s e) = rising-by (eqb (getD t e 0) 93) _ _ (rising-checked n (some n) (e + 1)) (λ z. rising-dash n e)
+  rising-lower x (found n s e) = rising-by (eqb (getD t e 0) (code "]")) _ _ (rising-checked n (some n) (e + 1)) (λ z. rising-dash n e)
   rising-lower x absent = rising-dash 0 x
   rising-lower x (refused r p) = tt
 
   rising-range : Rising (rangeAt t at)
   unfolding rangeAt Rising
-  rising-range = rising-by (eqb (getD t at 0) 91) _ _ (rising-lower (skip t (at + 1)) (numberAt t (skip t (at + 1)))) (λ z. tt)
+  rising-range = rising-by (eqb (getD t at 0) (code "[")) _ _ (rising-lower (skip t (at + 1)) (numberAt t (skip t (at + 1)))) (λ z. tt)
 
 module _ (One : Token → Type 0) (All : Tokens → Type 0) (Any : Lists → Type 0) (keeps : Keeps One All Any) where
   unfoldable Piece : Seen Token → Type 0
@@ -166,14 +168,14 @@ module _ (One : Token → Type 0) (All : Tokens → Type 0) (Any : Lists → Typ
   piece-jumped : (inside : Bool) (at : ℕ) (x : Seen Range) → Rising x → Piece (jumped inside at x)
   unfolding jumped jumpToken Piece Rising
   piece-jumped inside at (found (between from none) s e) h = piece-by inside _ _ tt (keeps .open-jump from)
-  piece-jumped inside at (found (between from (some to)) s e) h = piece-by (inside && ltb 200 to) _ _ tt (one-jump (eqb from 1 && eqb to 1) from to h)
+  piece-jumped inside at (found (between from (some to)) s e) h = piece-by (inside && ltb innerJumpLimit to) _ _ tt (one-jump (eqb from 1 && eqb to 1) from to h)
   piece-jumped inside at absent h = tt
   piece-jumped inside at (refused r p) h = tt
 
   piece-plain : (t : List ℕ) (inside : Bool) (at : ℕ) → Piece (plainAt t inside at)
   unfolding plainAt notAt Piece
   piece-plain t inside at =
-      piece-else _ _ (piece-by (eqb (getD t at 0) 126) _ _ (piece-negated at (hexAt t (at + 1)) (small-hex t (at + 1))) tt)
+      piece-else _ _ (piece-by (eqb (getD t at 0) (code "~")) _ _ (piece-negated at (hexAt t (at + 1)) (small-hex t (at + 1))) tt)
       (piece-else _ _ (piece-plainly (hexAt t at) (small-hex t at)) (piece-jumped inside at (rangeAt t at) (rising-range t at)))
 
   is-by : (b : Bool) (x y : Parsed Token) → Is x → Is y → Is (cond b x y)
@@ -182,7 +184,7 @@ module _ (One : Token → Type 0) (All : Tokens → Type 0) (Any : Lists → Typ
 
   is-or : (at c : ℕ) (x : Seen Token) (y : Parsed Token) → Piece x → Is y → Is (tokenOr at c x y)
   unfolding tokenOr Piece Is
-  is-or at c (found tok s e) y h k = is-by (ltb c 512) _ _ h tt
+  is-or at c (found tok s e) y h k = is-by (ltb c tokenLimit) _ _ h tt
   is-or at c absent y h k = k
   is-or at c (refused r p) y h k = tt
 
@@ -194,7 +196,7 @@ module _ (One : Token → Type 0) (All : Tokens → Type 0) (Any : Lists → Typ
 
   is-bracketed : (t : List ℕ) (at c : ℕ) (y : Parsed Lists) → May y → Is (bracketed t at c y)
   unfolding bracketed Is
-  is-bracketed t at c y h = is-by (eqb (getD t at 0) 40) _ _ (is-by (ltb c 512) _ _ (is-token y h) tt) tt
+  is-bracketed t at c y h = is-by (eqb (getD t at 0) (code "(")) _ _ (is-by (ltb c tokenLimit) _ _ (is-token y h) tt) tt
 
   are-before : (tok : Token) (y : Parsed Tokens) → One tok → Are y → Are (before tok y)
   unfolding before Are
@@ -232,7 +234,7 @@ module _ (One : Token → Type 0) (All : Tokens → Type 0) (Any : Lists → Typ
   may-then : (t : List ℕ) (miss : ℕ) (x : Parsed Tokens) (more : ℕ → ℕ → ℕ → Parsed Lists) → Are x → ((d e m : ℕ) → May (more d e m)) → May (thenLists t miss x more)
   unfolding thenLists Are May
   may-then t miss (read ts e c) more h k =
-      may-by (eqb (getD t e 0) 41) _ _ (keeps .last-list ts h) (may-by (eqb (getD t e 0) 124) _ _ (may-beside ts (more c (skip t (e + 1)) e) h (k c (skip t (e + 1)) e)) tt)
+      may-by (eqb (getD t e 0) (code ")")) _ _ (keeps .last-list ts h) (may-by (eqb (getD t e 0) (code "|")) _ _ (may-beside ts (more c (skip t (e + 1)) e) h (k c (skip t (e + 1)) e)) tt)
   may-then t miss missing more h k = tt
   may-then t miss (stopped r p) more h k = tt
 
@@ -249,7 +251,7 @@ module _ (One : Token → Type 0) (All : Tokens → Type 0) (Any : Lists → Typ
 
     list-kept : (f : ℕ) (t : List ℕ) (l c at : ℕ) → Are (listF f t l c at)
     list-kept zero t l c at = tt
-    list-kept (suc f) t l c at = are-by (ltb 8 l) _ _ tt (are-list at (moreF f t l c at) (more-kept f t l c at))
+    list-kept (suc f) t l c at = are-by (ltb levelLimit l) _ _ tt (are-list at (moreF f t l c at) (more-kept f t l c at))
 
     lists-kept : (f : ℕ) (t : List ℕ) (l c at miss : ℕ) → May (listsF f t l c at miss)
     lists-kept zero t l c at miss = tt

@@ -2,12 +2,14 @@
 use mathlib.Core.Path.{_≡_, refl}
 use mathlib.Core.Bool.{Bool, true, false, cond}
 use mathlib.Core.List.{List}
+use Prim.Native.Char.{code}
 use Prim.Native.Nat.{ℕ, zero, suc, _+_, _-_, _*_, _≤_, _<_}
 use native.Mathlib.Omega.{arith}
 use borrow.Author.Tests.{eqb-true, ltb-true}
 use lib.Dec.{eqb, ltb}
 use lib.ListN.{length, getD, length-append}
 use Rattle.base.specs.declared.Refusal.the-variants.{Unexpected, JumpAtBound, HexStringTooDeep, TooManyTokens}
+use Rattle.meaning.specs.Limits.{tokenLimit, levelLimit}
 use Rattle.meaning.specs.Tokens.{Token, Tokens, Lists, nothing, _then_, neither, _or_}
 use Rattle.meaning.specs.Entries.{entriesOf, entries, listEntries}
 use Rattle.reading.specs.Blanks.{skip}
@@ -22,7 +24,7 @@ pub record Gone (k : ℕ) (t : List ℕ) (at c n e d : ℕ) : Type 0 where
   pub moved : at < e
   pub inside : e ≤ length t
   pub counted : c < d
-  pub within : d ≤ 512
+  pub within : d ≤ tokenLimit
   pub room : n + k + 8 * c ≤ 8 * d
 
 unfoldable pub TokenIn : List ℕ → ℕ → ℕ → Parsed Token → Type 0
@@ -48,14 +50,14 @@ ListsIn t at c (stopped r p) = Unit {0}
 
 module _ (t : List ℕ) (at c : ℕ) where
   -- a token read whole
-  counted-in : (tok : Token) (s e : ℕ) (b : Bool) → ltb c 512 ≡ b → Inside t at (found tok s e) → Flat (found tok s e) → (y : Parsed Token) → TokenIn t at c y → TokenIn t at c (cond b (read tok e (c + 1)) y)
+  counted-in : (tok : Token) (s e : ℕ) (b : Bool) → ltb c tokenLimit ≡ b → Inside t at (found tok s e) → Flat (found tok s e) → (y : Parsed Token) → TokenIn t at c y → TokenIn t at c (cond b (read tok e (c + 1)) y)
   unfolding TokenIn Inside Flat
-  counted-in tok s e true q h l y k = let u = ltb-true c 512 q in record { moved = omega arith; inside = h .2; counted = omega arith; within = omega arith; room = omega arith }
+  counted-in tok s e true q h l y k = let u = ltb-true c tokenLimit q in record { moved = omega arith; inside = h .2; counted = omega arith; within = omega arith; room = omega arith }
   counted-in tok s e false q h l y k = k
 
   or-in : (x : Seen Token) (y : Parsed Token) → Inside t at x → Flat x → TokenIn t at c y → TokenIn t at c (tokenOr at c x y)
   unfolding tokenOr TokenIn
-  or-in (found tok s e) y h l k = counted-in tok s e (ltb c 512) refl h l _ tt
+  or-in (found tok s e) y h l k = counted-in tok s e (ltb c tokenLimit) refl h l _ tt
   or-in absent y h l k = k
   or-in (refused r p) y h l k = tt
 
@@ -67,7 +69,7 @@ module _ (t : List ℕ) (at c : ℕ) where
 
   bracketed-in : (y : Parsed Lists) → ListsIn t (skip t (at + 1)) (c + 1) y → TokenIn t at c (bracketed t at c y)
   unfolding bracketed TokenIn
-  bracketed-in y k = go (eqb (getD t at 0) 40) (ltb c 512)
+  bracketed-in y k = go (eqb (getD t at 0) (code "(")) (ltb c tokenLimit)
     where
       go : (a b : Bool) → TokenIn t at c (cond a (cond b (asToken y) (stopped TooManyTokens at)) missing)
       go true true = as-in (skip t (at + 1)) y (omega (arith, skip-from t (at + 1))) k
@@ -112,12 +114,12 @@ module _ (t : List ℕ) (at c : ℕ) where
 
   lists-in-of : (miss : ℕ) (x : Parsed Tokens) (more : ℕ → ℕ → ℕ → Parsed Lists) → ListIn t at c x → ((d e m : ℕ) → ListsIn t e d (more d e m)) → ListsIn t at c (thenLists t miss x more)
   unfolding thenLists ListIn ListsIn listEntries
-  lists-in-of miss (read ts e d) more g k = go (eqb (getD t e 0) 41) (eqb (getD t e 0) 124) refl
+  lists-in-of miss (read ts e d) more g k = go (eqb (getD t e 0) (code ")")) (eqb (getD t e 0) (code "|")) refl
     where
-      go : (a b : Bool) → eqb (getD t e 0) 41 ≡ a → ListsIn t at c (cond a (read (ts or neither) (skip t (e + 1)) d) (cond b (beside ts (more d (skip t (e + 1)) e)) (stopped Unexpected e)))
+      go : (a b : Bool) → eqb (getD t e 0) (code ")") ≡ a → ListsIn t at c (cond a (read (ts or neither) (skip t (e + 1)) d) (cond b (beside ts (more d (skip t (e + 1)) e)) (stopped Unexpected e)))
       go true b q =
           let l = length-append (entries ts) (listEntries neither) in
-          let h : e < length t = here-at t e 41 (eqb-true (getD t e 0) 41 q) (omega arith) in
+          let h : e < length t = here-at t e (code ")") (eqb-true (getD t e 0) (code ")") q) (omega arith) in
           record { moved = omega (arith, skip-from t (e + 1)); inside = skip-in t (e + 1) (omega arith); counted = g .counted; within = g .within; room = omega arith }
       go false true q = beside-in ts e d (skip t (e + 1)) (more d (skip t (e + 1)) e) g (omega (arith, skip-from t (e + 1))) (k d (skip t (e + 1)) e)
       go false false q = tt
@@ -142,7 +144,7 @@ mutual
 
   pub list-in : (f : ℕ) (t : List ℕ) (l c at : ℕ) → ListIn t at c (listF f t l c at)
   list-in zero t l c at = tt
-  list-in (suc f) t l c at = deep-in t at c (ltb 8 l) _ (of-in t at c (moreF f t l c at) (more-in f t l c at))
+  list-in (suc f) t l c at = deep-in t at c (ltb levelLimit l) _ (of-in t at c (moreF f t l c at) (more-in f t l c at))
 
   pub lists-in : (f : ℕ) (t : List ℕ) (l c at miss : ℕ) → ListsIn t at c (listsF f t l c at miss)
   lists-in zero t l c at miss = tt

@@ -2,6 +2,7 @@
 use mathlib.Core.Path.{_≡_, refl, ap, _∙_, subst}
 use mathlib.Core.Bool.{Bool, true, false, cond}
 use mathlib.Core.List.{List}
+use Prim.Native.Char.{code}
 use Prim.Native.Nat.{ℕ, zero, suc, _+_, _-_, _*_, _≤_, _<_}
 use native.Mathlib.Omega.{arith}
 use borrow.Author.Tests.{eqb-true, ne-eqb, lt-ltb, le-ltb}
@@ -9,6 +10,7 @@ use lib.Dec.{eqb, ltb}
 use lib.ListN.{length, getD}
 use Rattle.base.specs.declared.Refusal.{Refusal}
 use Rattle.base.specs.declared.Refusal.the-variants.{Unexpected, HexStringTooDeep, TooManyTokens}
+use Rattle.meaning.specs.Limits.{tokenLimit, levelLimit}
 use Rattle.meaning.specs.Tokens.{Token, Tokens, Lists, nothing, _then_, neither, _or_}
 use Rattle.meaning.specs.Entries.{entriesOf, entries}
 use Rattle.reading.specs.Blanks.{skip}
@@ -26,12 +28,12 @@ module _ (f : ℕ) (t : List ℕ) (l c at : ℕ) where
   unfolding ListIn
   gone-list q = subst (λ (x : Parsed Tokens). ListIn t at c x) q (list-in f t l c at)
 
-bracketed-same : (t : List ℕ) (at c : ℕ) (y z : Parsed Lists) → (getD t at 0 ≡ 40 → y ≡ z) → bracketed t at c y ≡ bracketed t at c z
+bracketed-same : (t : List ℕ) (at c : ℕ) (y z : Parsed Lists) → (getD t at 0 ≡ code "(" → y ≡ z) → bracketed t at c y ≡ bracketed t at c z
 unfolding bracketed
-bracketed-same t at c y z h = go (eqb (getD t at 0) 40) refl
+bracketed-same t at c y z h = go (eqb (getD t at 0) (code "(")) refl
   where
-    go : (b : Bool) → eqb (getD t at 0) 40 ≡ b → _≡_ {A = Parsed Token} (cond b (cond (ltb c 512) (asToken y) (stopped TooManyTokens at)) missing) (cond b (cond (ltb c 512) (asToken z) (stopped TooManyTokens at)) missing)
-    go true q = ap (λ (x : Parsed Lists). cond (ltb c 512) (asToken x) (stopped TooManyTokens at)) (h (eqb-true (getD t at 0) 40 q))
+    go : (b : Bool) → eqb (getD t at 0) (code "(") ≡ b → _≡_ {A = Parsed Token} (cond b (cond (ltb c tokenLimit) (asToken y) (stopped TooManyTokens at)) missing) (cond b (cond (ltb c tokenLimit) (asToken z) (stopped TooManyTokens at)) missing)
+    go true q = ap (λ (x : Parsed Lists). cond (ltb c tokenLimit) (asToken x) (stopped TooManyTokens at)) (h (eqb-true (getD t at 0) (code "(") q))
     go false q = refl
 
 then-same : (at c : ℕ) (x : Parsed Token) (m n : ℕ → ℕ → Parsed Tokens) → ((tok : Token) (e d : ℕ) → x ≡ read tok e d → m d e ≡ n d e) → thenMore at c x m ≡ thenMore at c x n
@@ -43,7 +45,7 @@ then-same at c (stopped r p) m n h = refl
 lists-same : (t : List ℕ) (miss : ℕ) (x : Parsed Tokens) (m n : ℕ → ℕ → ℕ → Parsed Lists) → ((ts : Tokens) (e d : ℕ) → x ≡ read ts e d → m d (skip t (e + 1)) e ≡ n d (skip t (e + 1)) e) → thenLists t miss x m ≡ thenLists t miss x n
 unfolding thenLists
 lists-same t miss (read ts e d) m n h =
-    ap (λ (y : Parsed Lists). cond (eqb (getD t e 0) 41) (read (ts or neither) (skip t (e + 1)) d) (cond (eqb (getD t e 0) 124) (beside ts y) (stopped Unexpected e))) (h ts e d refl)
+    ap (λ (y : Parsed Lists). cond (eqb (getD t e 0) (code ")")) (read (ts or neither) (skip t (e + 1)) d) (cond (eqb (getD t e 0) (code "|")) (beside ts y) (stopped Unexpected e))) (h ts e d refl)
 lists-same t miss missing m n h = refl
 lists-same t miss (stopped r p) m n h = refl
 
@@ -56,7 +58,7 @@ mutual
   same-token (suc f) zero t l c at h k = absurd (omega arith)
   same-token (suc f) (suc g) t l c at h k =
       ap (tokenOr at c (plainAt t (ltb 1 l) at)) (bracketed-same t at c _ _ (λ q.
-      let i = here-at t at 40 q (omega arith) in
+      let i = here-at t at (code "(") q (omega arith) in
       let s = skip-from t (at + 1) in
       same-lists f g t (l + 1) (c + 1) (skip t (at + 1)) (skip t (at + 1)) (omega arith) (omega arith)))
 
@@ -74,7 +76,7 @@ mutual
   same-list zero zero t l c at h k = refl
   same-list zero (suc g) t l c at h k = absurd (omega arith)
   same-list (suc f) zero t l c at h k = absurd (omega arith)
-  same-list (suc f) (suc g) t l c at h k = ap (λ (x : Parsed Tokens). cond (ltb 8 l) (stopped HexStringTooDeep at) (listOf at x)) (same-more f g t l c at (omega arith) (omega arith))
+  same-list (suc f) (suc g) t l c at h k = ap (λ (x : Parsed Tokens). cond (ltb levelLimit l) (stopped HexStringTooDeep at) (listOf at x)) (same-more f g t l c at (omega arith) (omega arith))
 
   same-lists : (f g : ℕ) (t : List ℕ) (l c at miss : ℕ) → 4 * (length t - at) + 3 < f → 4 * (length t - at) + 3 < g → listsF f t l c at miss ≡ listsF g t l c at miss
   same-lists zero zero t l c at miss h k = refl
@@ -102,7 +104,7 @@ module _ (t : List ℕ) (l c at : ℕ) where
       let n : enough t at ≡ suc (4 * (length t - at) + 3) = omega arith in
       ap (λ (f : ℕ). tokenF f t l c at) n
       ∙ ap (tokenOr at c (plainAt t (ltb 1 l) at)) (bracketed-same t at c _ _ (λ q.
-      let i = here-at t at 40 q (omega arith) in
+      let i = here-at t at (code "(") q (omega arith) in
       let s = skip-from t (at + 1) in
       same-lists (4 * (length t - at) + 3) (enough t (skip t (at + 1))) t (l + 1) (c + 1) (skip t (at + 1)) (skip t (at + 1)) (omega arith) (omega arith)))
 
@@ -128,18 +130,18 @@ module _ (t : List ℕ) (l c at : ℕ) where
   unfolding thenMore
   more-stopped q = more-step ∙ ap (λ (x : Parsed Token). thenMore at c x (λ d y. more t l d y)) q
 
-  list-step : list t l c at ≡ cond (ltb 8 l) (stopped HexStringTooDeep at) (listOf at (more t l c at))
+  list-step : list t l c at ≡ cond (ltb levelLimit l) (stopped HexStringTooDeep at) (listOf at (more t l c at))
   unfolding listF
   list-step =
       let n : enough t at ≡ suc (4 * (length t - at) + 3) = omega arith in
       ap (λ (f : ℕ). listF f t l c at) n
-      ∙ ap (λ (x : Parsed Tokens). cond (ltb 8 l) (stopped HexStringTooDeep at) (listOf at x)) (same-more (4 * (length t - at) + 3) (enough t at) t l c at (omega arith) (omega arith))
+      ∙ ap (λ (x : Parsed Tokens). cond (ltb levelLimit l) (stopped HexStringTooDeep at) (listOf at x)) (same-more (4 * (length t - at) + 3) (enough t at) t l c at (omega arith) (omega arith))
 
-  pub list-deep : 8 < l → list t l c at ≡ stopped HexStringTooDeep at
-  list-deep h = list-step ∙ ap (λ (b : Bool). cond b (stopped HexStringTooDeep at) (listOf at (more t l c at))) (lt-ltb 8 l h)
+  pub list-deep : levelLimit < l → list t l c at ≡ stopped HexStringTooDeep at
+  list-deep h = list-step ∙ ap (λ (b : Bool). cond b (stopped HexStringTooDeep at) (listOf at (more t l c at))) (lt-ltb levelLimit l h)
 
-  pub list-of : l ≤ 8 → list t l c at ≡ listOf at (more t l c at)
-  list-of h = list-step ∙ ap (λ (b : Bool). cond b (stopped HexStringTooDeep at) (listOf at (more t l c at))) (le-ltb 8 l h)
+  pub list-of : l ≤ levelLimit → list t l c at ≡ listOf at (more t l c at)
+  list-of h = list-step ∙ ap (λ (b : Bool). cond b (stopped HexStringTooDeep at) (listOf at (more t l c at))) (le-ltb levelLimit l h)
 
   module _ (miss : ℕ) where
     lists-step : lists t l c at miss ≡ thenLists t miss (list t l c at) (λ d y m. lists t l d y m)
@@ -156,17 +158,17 @@ module _ (t : List ℕ) (l c at : ℕ) where
     lists-of : {x : Parsed Tokens} → list t l c at ≡ x → lists t l c at miss ≡ thenLists t miss x (λ d y m. lists t l d y m)
     lists-of q = lists-step ∙ ap (λ (x : Parsed Tokens). thenLists t miss x (λ d y m. lists t l d y m)) q
 
-    pub lists-closed : {ts : Tokens} {e d : ℕ} → list t l c at ≡ read ts e d → getD t e 0 ≡ 41 → lists t l c at miss ≡ read (ts or neither) (skip t (e + 1)) d
+    pub lists-closed : {ts : Tokens} {e d : ℕ} → list t l c at ≡ read ts e d → getD t e 0 ≡ code ")" → lists t l c at miss ≡ read (ts or neither) (skip t (e + 1)) d
     unfolding thenLists
     lists-closed {ts} {e} {d} q h = lists-of q ∙ rw h
 
-    pub lists-barred : {ts : Tokens} {e d : ℕ} → list t l c at ≡ read ts e d → getD t e 0 ≡ 124 → lists t l c at miss ≡ beside ts (lists t l d (skip t (e + 1)) e)
+    pub lists-barred : {ts : Tokens} {e d : ℕ} → list t l c at ≡ read ts e d → getD t e 0 ≡ code "|" → lists t l c at miss ≡ beside ts (lists t l d (skip t (e + 1)) e)
     unfolding thenLists
     lists-barred {ts} {e} {d} q h = lists-of q ∙ rw h
 
-    pub lists-else : {ts : Tokens} {e d : ℕ} → list t l c at ≡ read ts e d → (getD t e 0 ≡ 41 → ⊥) → (getD t e 0 ≡ 124 → ⊥) → lists t l c at miss ≡ stopped Unexpected e
+    pub lists-else : {ts : Tokens} {e d : ℕ} → list t l c at ≡ read ts e d → (getD t e 0 ≡ code ")" → ⊥) → (getD t e 0 ≡ code "|" → ⊥) → lists t l c at miss ≡ stopped Unexpected e
     unfolding thenLists
-    lists-else {ts} {e} {d} q h k = lists-of q ∙ simp (ne-eqb (getD t e 0) 41 h, ne-eqb (getD t e 0) 124 k)
+    lists-else {ts} {e} {d} q h k = lists-of q ∙ simp (ne-eqb (getD t e 0) (code ")") h, ne-eqb (getD t e 0) (code "|") k)
 
     pub lists-missing : list t l c at ≡ missing → lists t l c at miss ≡ stopped Unexpected miss
     unfolding thenLists

@@ -3,15 +3,17 @@ use mathlib.Core.Path.{_≡_, refl}
 use mathlib.Core.Bool.{Bool, true, false, cond, _&&_}
 use mathlib.Core.Option.{Option, none, some}
 use mathlib.Core.List.{List}
+use Prim.Native.Char.{code}
 use Prim.Native.Nat.{ℕ, _+_, _-_, _*_, _≤_, _<_}
 use native.Mathlib.Omega.{arith}
 use borrow.Author.Tests.{eqb-true}
 use lib.Dec.{eqb, ltb, leb}
 use lib.ListN.{length, drop, getD, length-drop}
+use Rattle.meaning.specs.Limits.{numberLimit, innerJumpLimit}
 use Rattle.meaning.specs.Tokens.{Mask, left, right, all, Token, MaskedByte, Jump}
 use Rattle.meaning.specs.Entries.{entriesOf}
 use Rattle.reading.specs.Blanks.{skip}
-use Rattle.reading.specs.Pieces.{Seen, found, absent, refused, upTo, Hex, whole, masked, Range, between, within, digit, twoDigits, byteAt, oneDigit, maskedAt, hexAt, negated, notAt, decimals, numeral, numberAt, checked, closedAt, upperAt, dashAt, lowerAt, rangeAt, jumpToken, jumped, plainly, plainAt, _else_}
+use Rattle.reading.specs.Pieces.{Seen, found, absent, refused, upTo, Hex, whole, masked, Range, between, digit, twoDigits, byteAt, oneDigit, maskedAt, hexAt, negated, notAt, decimals, numeral, numberAt, checked, closedAt, upperAt, dashAt, lowerAt, rangeAt, jumpToken, jumped, plainly, plainAt, _else_, decimal}
 use Rattle.reading.proofs.PieceLaws.{here-at, here-in, within-true, skip-from, skip-in, decimals-le, number-next, digit-small}
 
 -- what is found begins at `at`, is not empty, and ends inside the text
@@ -58,15 +60,15 @@ module _ (t : List ℕ) (at : ℕ) where
   left-in (some v) e = up-to t at (at + 2) (masked v left) (omega arith) (second v e)
   left-in none e = tt
 
-  question : eqb (getD t (at + 1) 0) 63 ≡ true → at + 2 ≤ length t
-  question h = omega (arith, here-at t (at + 1) 63 (eqb-true (getD t (at + 1) 0) 63 h) (omega arith))
+  question : eqb (getD t (at + 1) 0) (code "?") ≡ true → at + 2 ≤ length t
+  question h = omega (arith, here-at t (at + 1) (code "?") (eqb-true (getD t (at + 1) 0) (code "?") h) (omega arith))
 
   masked-in : Inside t at (maskedAt t at)
   unfolding maskedAt Inside
   masked-in =
-      by t at (eqb (getD t at 0) 63) _ _
-      (λ z. by t at (eqb (getD t (at + 1) 0) 63) _ _ (λ h. up-to t at (at + 2) (masked 0 all) (omega arith) (question h)) (left-in (digit (getD t (at + 1) 0)) refl))
-      (by t at (eqb (getD t (at + 1) 0) 63) _ _ (λ h. one-in right (digit (getD t at 0)) (question h)) tt)
+      by t at (eqb (getD t at 0) (code "?")) _ _
+      (λ z. by t at (eqb (getD t (at + 1) 0) (code "?")) _ _ (λ h. up-to t at (at + 2) (masked 0 all) (omega arith) (question h)) (left-in (digit (getD t (at + 1) 0)) refl))
+      (by t at (eqb (getD t (at + 1) 0) (code "?")) _ _ (λ h. one-in right (digit (getD t at 0)) (question h)) tt)
 
   pub hex-in : Inside t at (hexAt t at)
   unfolding hexAt
@@ -90,16 +92,16 @@ module _ (t : List ℕ) (at : ℕ) where
 
 pub not-in : (t : List ℕ) (at : ℕ) → Inside t at (notAt t at)
 unfolding notAt Inside
-not-in t at = by t at (eqb (getD t at 0) 126) _ _ (λ z. negated-in t at (hexAt t (at + 1)) (hex-in t (at + 1))) tt
+not-in t at = by t at (eqb (getD t at 0) (code "~")) _ _ (λ z. negated-in t at (hexAt t (at + 1)) (hex-in t (at + 1))) tt
 
 pub number-in : (t : List ℕ) (at : ℕ) → Inside t at (numberAt t at)
 unfolding numberAt Inside
 number-in t at =
-    by t at (within 48 57 (getD t at 0)) _ _
-    (λ h. by t at (leb (numeral 0 (drop at t)) 4294967295) _ _
+    by t at (decimal (getD t at 0)) _ _
+    (λ h. by t at (leb (numeral 0 (drop at t)) numberLimit) _ _
     (λ z. let d = number-next t 0 at h in
     up-to t at (at + decimals (drop at t)) (numeral 0 (drop at t)) (omega arith)
-    (omega (arith, decimals-le (drop at t), length-drop at t, here-in t at (omega (arith, within-true 48 57 (getD t at 0) h))))) tt)
+    (omega (arith, decimals-le (drop at t), length-drop at t, here-in t at (omega (arith, within-true (code "0") (code "9") (getD t at 0) h))))) tt)
     tt
 
 module _ (t : List ℕ) (at : ℕ) where
@@ -111,8 +113,8 @@ module _ (t : List ℕ) (at : ℕ) where
   closed-in : (from : ℕ) (to : Option ℕ) (x : ℕ) → at < x → Inside t at (closedAt t at from to x)
   unfolding closedAt Inside
   closed-in from to x h =
-      by t at (eqb (getD t x 0) 93) _ _
-      (λ z. checked-in from to (x + 1) (omega arith) (omega (arith, here-at t x 93 (eqb-true (getD t x 0) 93 z) (omega arith)))) tt
+      by t at (eqb (getD t x 0) (code "]")) _ _
+      (λ z. checked-in from to (x + 1) (omega arith) (omega (arith, here-at t x (code "]") (eqb-true (getD t x 0) (code "]") z) (omega arith)))) tt
 
   upper-in : (from x : ℕ) (n : Seen ℕ) → at < x → Inside t x n → Inside t at (upperAt t at from x n)
   unfolding upperAt Inside
@@ -123,27 +125,27 @@ module _ (t : List ℕ) (at : ℕ) where
   dash-in : (from x : ℕ) → at < x → Inside t at (dashAt t at from x)
   unfolding dashAt Inside
   dash-in from x h =
-      by t at (eqb (getD t x 0) 45) _ _
+      by t at (eqb (getD t x 0) (code "-")) _ _
       (λ z. upper-in from (skip t (x + 1)) (numberAt t (skip t (x + 1))) (omega (arith, skip-from t (x + 1))) (number-in t (skip t (x + 1)))) tt
 
   lower-in : (x : ℕ) (n : Seen ℕ) → at < x → Inside t x n → Inside t at (lowerAt t at x n)
   unfolding lowerAt Inside
   lower-in x (found n s e) h k =
-      by t at (eqb (getD t e 0) 93) _ _
-      (λ z. checked-in n (some n) (e + 1) (omega arith) (omega (arith, here-at t e 93 (eqb-true (getD t e 0) 93 z) (omega arith)))) (dash-in n e (omega arith))
+      by t at (eqb (getD t e 0) (code "]")) _ _
+      (λ z. checked-in n (some n) (e + 1) (omega arith) (omega (arith, here-at t e (code "]") (eqb-true (getD t e 0) (code "]") z) (omega arith)))) (dash-in n e (omega arith))
   lower-in x absent h k = dash-in 0 x h
   lower-in x (refused r p) h k = tt
 
   pub range-in : Inside t at (rangeAt t at)
   unfolding rangeAt Inside
   range-in =
-      by t at (eqb (getD t at 0) 91) _ _
+      by t at (eqb (getD t at 0) (code "[")) _ _
       (λ z. lower-in (skip t (at + 1)) (numberAt t (skip t (at + 1))) (omega (arith, skip-from t (at + 1))) (number-in t (skip t (at + 1)))) tt
 
   jumped-in : (inside : Bool) (x : Seen Range) → Inside t at x → Inside t at (jumped inside at x)
   unfolding jumped Inside
   jumped-in inside (found (between from none) s e) h = by t at inside _ _ (λ z. tt) h
-  jumped-in inside (found (between from (some to)) s e) h = by t at (inside && ltb 200 to) _ _ (λ z. tt) h
+  jumped-in inside (found (between from (some to)) s e) h = by t at (inside && ltb innerJumpLimit to) _ _ (λ z. tt) h
   jumped-in inside absent h = tt
   jumped-in inside (refused r p) h = tt
 
@@ -187,7 +189,7 @@ flat-negated at (refused r p) = tt
 
 flat-not : (t : List ℕ) (at : ℕ) → Flat (notAt t at)
 unfolding notAt Flat
-flat-not t at = flat-by (eqb (getD t at 0) 126) _ _ (flat-negated at (hexAt t (at + 1))) tt
+flat-not t at = flat-by (eqb (getD t at 0) (code "~")) _ _ (flat-negated at (hexAt t (at + 1))) tt
 
 flat-token : (from to s e : ℕ) → Flat (found (jumpToken from to) s e)
 unfolding jumpToken Flat entriesOf
@@ -200,7 +202,7 @@ flat-token from to s e = go (eqb from 1 && eqb to 1)
 flat-jumped : (inside : Bool) (at : ℕ) (x : Seen Range) → Flat (jumped inside at x)
 unfolding jumped Flat entriesOf
 flat-jumped inside at (found (between from none) s e) = flat-by inside _ _ tt refl
-flat-jumped inside at (found (between from (some to)) s e) = flat-by (inside && ltb 200 to) _ _ tt (flat-token from to s e)
+flat-jumped inside at (found (between from (some to)) s e) = flat-by (inside && ltb innerJumpLimit to) _ _ tt (flat-token from to s e)
 flat-jumped inside at absent = tt
 flat-jumped inside at (refused r p) = tt
 

@@ -3,6 +3,7 @@ use mathlib.Core.Path.{_≡_, refl, ap, ap₂, _∙_}
 use mathlib.Core.Bool.{Bool, true, false, cond, _&&_}
 use mathlib.Core.Option.{none, some}
 use mathlib.Core.List.{List, [], _∷_}
+use Prim.Native.Char.{code}
 use Prim.Native.Nat.{ℕ, zero, suc, _+_, _-_, _*_, _≤_, _<_}
 use native.Mathlib.Omega.{arith}
 use borrow.Author.Tests.{ltb-true, ltb-false, leb-true}
@@ -10,7 +11,7 @@ use lib.Dec.{ltb, leb}
 use lib.ListN.{length, drop, getD, length-drop, List·getD-eq-default}
 use lib.Seq.{getD-drop, drop-drop}
 use Rattle.reading.specs.Blanks.{blank, blanks, skip}
-use Rattle.reading.specs.Pieces.{within, digit, decimals, numeral}
+use Rattle.reading.specs.Pieces.{within, digit, decimals, numeral, decimal}
 
 pub never : {A : Type 0} → _≡_ {A = ℕ} 0 1 → A
 never z = absurd (let y : _≡_ {A = ℕ} 0 1 = z in omega arith)
@@ -91,56 +92,56 @@ unfolding skip
 skip-in t at h = omega (arith, blanks-le (drop at t), length-drop at t)
 
 -- decimal digits
-decimals-none : (s : List ℕ) → within 48 57 (getD s 0 0) ≡ false → decimals s ≡ 0
+decimals-none : (s : List ℕ) → decimal (getD s 0 0) ≡ false → decimals s ≡ 0
 unfolding decimals
 decimals-none [] h = refl
 decimals-none (c ∷ s) h = rw h refl
 
-within-zero : within 48 57 0 ≡ false
+within-zero : decimal 0 ≡ false
 unfolding within
 within-zero = refl
 
-decimals-next : (s : List ℕ) → within 48 57 (getD s 0 0) ≡ true → decimals s ≡ suc (decimals (drop 1 s))
+decimals-next : (s : List ℕ) → decimal (getD s 0 0) ≡ true → decimals s ≡ suc (decimals (drop 1 s))
 unfolding decimals
 decimals-next [] h = never (cc (within-zero))
 decimals-next (c ∷ s) h = rw h refl
 
-numeral-none : (n : ℕ) (s : List ℕ) → within 48 57 (getD s 0 0) ≡ false → numeral n s ≡ n
+numeral-none : (n : ℕ) (s : List ℕ) → decimal (getD s 0 0) ≡ false → numeral n s ≡ n
 unfolding numeral
 numeral-none n [] h = refl
 numeral-none n (c ∷ s) h = rw h refl
 
-numeral-next : (n : ℕ) (s : List ℕ) → within 48 57 (getD s 0 0) ≡ true → numeral n s ≡ numeral (10 * n + (getD s 0 0 - 48)) (drop 1 s)
+numeral-next : (n : ℕ) (s : List ℕ) → decimal (getD s 0 0) ≡ true → numeral n s ≡ numeral (10 * n + (getD s 0 0 - code "0")) (drop 1 s)
 unfolding numeral
 numeral-next n [] h = never (cc (within-zero))
 numeral-next n (c ∷ s) h = rw h refl
 
-pub number-none : (t : List ℕ) (n at : ℕ) → within 48 57 (getD t at 0) ≡ false → (decimals (drop at t) ≡ 0) × (numeral n (drop at t) ≡ n)
+pub number-none : (t : List ℕ) (n at : ℕ) → decimal (getD t at 0) ≡ false → (decimals (drop at t) ≡ 0) × (numeral n (drop at t) ≡ n)
 number-none t n at h =
-    let e : within 48 57 (getD (drop at t) 0 0) ≡ false = ap (within 48 57) (first-drop t at) ∙ h in
+    let e : decimal (getD (drop at t) 0 0) ≡ false = ap decimal (first-drop t at) ∙ h in
     (decimals-none (drop at t) e, numeral-none n (drop at t) e)
 
-pub number-next : (t : List ℕ) (n at : ℕ) → within 48 57 (getD t at 0) ≡ true → (decimals (drop at t) ≡ suc (decimals (drop (at + 1) t))) × (numeral n (drop at t) ≡ numeral (10 * n + (getD t at 0 - 48)) (drop (at + 1) t))
+pub number-next : (t : List ℕ) (n at : ℕ) → decimal (getD t at 0) ≡ true → (decimals (drop at t) ≡ suc (decimals (drop (at + 1) t))) × (numeral n (drop at t) ≡ numeral (10 * n + (getD t at 0 - code "0")) (drop (at + 1) t))
 number-next t n at h =
-    let e : within 48 57 (getD (drop at t) 0 0) ≡ true = ap (within 48 57) (first-drop t at) ∙ h in (
+    let e : decimal (getD (drop at t) 0 0) ≡ true = ap decimal (first-drop t at) ∙ h in (
       decimals-next (drop at t) e ∙ ap (λ (s : List ℕ). suc (decimals s)) (next-drop t at),
-      numeral-next n (drop at t) e ∙ ap₂ (λ (c : ℕ) (s : List ℕ). numeral (10 * n + (c - 48)) s) (first-drop t at) (next-drop t at),
+      numeral-next n (drop at t) e ∙ ap₂ (λ (c : ℕ) (s : List ℕ). numeral (10 * n + (c - code "0")) s) (first-drop t at) (next-drop t at),
     )
 
 -- more digits make no number smaller
 pub numeral-from : (n : ℕ) (s : List ℕ) → n ≤ numeral n s
 unfolding numeral
 numeral-from n [] = omega arith
-numeral-from n (c ∷ s) = go (within 48 57 c) (numeral-from (10 * n + (c - 48)) s)
+numeral-from n (c ∷ s) = go (decimal c) (numeral-from (10 * n + (c - code "0")) s)
   where
-    go : (b : Bool) → 10 * n + (c - 48) ≤ numeral (10 * n + (c - 48)) s → n ≤ cond b (numeral (10 * n + (c - 48)) s) n
+    go : (b : Bool) → 10 * n + (c - code "0") ≤ numeral (10 * n + (c - code "0")) s → n ≤ cond b (numeral (10 * n + (c - code "0")) s) n
     go true h = omega arith
     go false h = omega arith
 
 pub decimals-le : (s : List ℕ) → decimals s ≤ length s
 unfolding decimals
 decimals-le [] = omega arith
-decimals-le (c ∷ s) = go (within 48 57 c) (decimals-le s)
+decimals-le (c ∷ s) = go (decimal c) (decimals-le s)
   where
     go : (b : Bool) → decimals s ≤ length s → cond b (suc (decimals s)) 0 ≤ suc (length s)
     go true h = omega arith
@@ -149,11 +150,11 @@ decimals-le (c ∷ s) = go (within 48 57 c) (decimals-le s)
 -- a digit's value is below 16, and the digit is not 0
 pub digit-small : (c v : ℕ) → digit c ≡ some v → (v < 16) × (0 < c)
 unfolding digit
-digit-small c v h = go (within 48 57 c) (within 65 70 c) (within 97 102 c) refl refl refl h
+digit-small c v h = go (decimal c) (within (code "A") (code "F") c) (within (code "a") (code "f") c) refl refl refl h
   where
-    go : (x y z : Bool) → within 48 57 c ≡ x → within 65 70 c ≡ y → within 97 102 c ≡ z
-        → cond x (some (c - 48)) (cond y (some (c - 55)) (cond z (some (c - 87)) none)) ≡ some v → (v < 16) × (0 < c)
-    go true y z d e f h = let w = within-true 48 57 c d in let q : c - 48 ≡ v = cc in (omega arith, omega arith)
-    go false true z d e f h = let w = within-true 65 70 c e in let q : c - 55 ≡ v = cc in (omega arith, omega arith)
-    go false false true d e f h = let w = within-true 97 102 c f in let q : c - 87 ≡ v = cc in (omega arith, omega arith)
+    go : (x y z : Bool) → decimal c ≡ x → within (code "A") (code "F") c ≡ y → within (code "a") (code "f") c ≡ z
+        → cond x (some (c - code "0")) (cond y (some (c - (code "A" - 10))) (cond z (some (c - (code "a" - 10))) none)) ≡ some v → (v < 16) × (0 < c)
+    go true y z d e f h = let w = within-true (code "0") (code "9") c d in let q : c - code "0" ≡ v = cc in (omega arith, omega arith)
+    go false true z d e f h = let w = within-true (code "A") (code "F") c e in let q : c - (code "A" - 10) ≡ v = cc in (omega arith, omega arith)
+    go false false true d e f h = let w = within-true (code "a") (code "f") c f in let q : c - (code "a" - 10) ≡ v = cc in (omega arith, omega arith)
     go false false false d e f h = never (cc)

@@ -3,14 +3,16 @@ use mathlib.Core.Path.{_≡_, refl, sym}
 use mathlib.Core.Bool.{Bool, true, false, cond, _&&_}
 use mathlib.Core.Option.{Option, none, some}
 use mathlib.Core.List.{List}
+use Prim.Native.Char.{code}
 use Prim.Native.Nat.{ℕ, _+_, _-_, _*_, _≤_, _<_}
 use borrow.Author.Tests.{ne-eqb, lt-ltb, le-ltb, le-leb, lt-leb}
 use lib.Dec.{eqb, ltb}
 use lib.ListN.{drop, getD}
 use Rattle.base.specs.declared.Refusal.the-variants.{NumberTooBig, JumpEmpty, JumpRangeInvalid, JumpUnboundedInAlternation, JumpTooBigInAlternation}
+use Rattle.meaning.specs.Limits.{numberLimit, innerJumpLimit}
 use Rattle.meaning.specs.Tokens.{left, right, all, Token, Jump}
 use Rattle.reading.specs.Blanks.{skip}
-use Rattle.reading.specs.Pieces.{Seen, found, absent, refused, Hex, whole, masked, between, within, digit, twoDigits, byteAt, oneDigit, maskedAt, hexAt, negated, notAt, decimals, numeral, numberAt, checked, closedAt, upperAt, dashAt, lowerAt, rangeAt, jumpToken, jumped, plainly, plainAt, _else_}
+use Rattle.reading.specs.Pieces.{Seen, found, absent, refused, Hex, whole, masked, between, digit, twoDigits, byteAt, oneDigit, maskedAt, hexAt, negated, notAt, decimals, numeral, numberAt, checked, closedAt, upperAt, dashAt, lowerAt, rangeAt, jumpToken, jumped, plainly, plainAt, _else_, decimal}
 
 module _ (t : List ℕ) (at : ℕ) where
   pub byte-none : digit (getD t at 0) ≡ none → byteAt t at ≡ absent
@@ -25,33 +27,33 @@ module _ (t : List ℕ) (at : ℕ) where
   unfolding byteAt twoDigits
   byte-both d e = rw (d, e)
 
-  pub masked-all : getD t at 0 ≡ 63 → getD t (at + 1) 0 ≡ 63 → maskedAt t at ≡ found (masked 0 all) (at + 2) (skip t (at + 2))
+  pub masked-all : getD t at 0 ≡ code "?" → getD t (at + 1) 0 ≡ code "?" → maskedAt t at ≡ found (masked 0 all) (at + 2) (skip t (at + 2))
   unfolding maskedAt
   masked-all d e = rw (d, e)
 
-  pub masked-left : {v : ℕ} → getD t at 0 ≡ 63 → (getD t (at + 1) 0 ≡ 63 → ⊥) → digit (getD t (at + 1) 0) ≡ some v → maskedAt t at ≡ found (masked v left) (at + 2) (skip t (at + 2))
+  pub masked-left : {v : ℕ} → getD t at 0 ≡ code "?" → (getD t (at + 1) 0 ≡ code "?" → ⊥) → digit (getD t (at + 1) 0) ≡ some v → maskedAt t at ≡ found (masked v left) (at + 2) (skip t (at + 2))
   unfolding maskedAt oneDigit
-  masked-left d e f = rw (d, ne-eqb (getD t (at + 1) 0) 63 e, f)
+  masked-left d e f = rw (d, ne-eqb (getD t (at + 1) 0) (code "?") e, f)
 
-  pub masked-no-left : getD t at 0 ≡ 63 → (getD t (at + 1) 0 ≡ 63 → ⊥) → digit (getD t (at + 1) 0) ≡ none → maskedAt t at ≡ absent
+  pub masked-no-left : getD t at 0 ≡ code "?" → (getD t (at + 1) 0 ≡ code "?" → ⊥) → digit (getD t (at + 1) 0) ≡ none → maskedAt t at ≡ absent
   unfolding maskedAt oneDigit
-  masked-no-left d e f = rw (d, ne-eqb (getD t (at + 1) 0) 63 e, f)
+  masked-no-left d e f = rw (d, ne-eqb (getD t (at + 1) 0) (code "?") e, f)
 
-  pub masked-right : {v : ℕ} → (getD t at 0 ≡ 63 → ⊥) → digit (getD t at 0) ≡ some v → getD t (at + 1) 0 ≡ 63 → maskedAt t at ≡ found (masked v right) (at + 2) (skip t (at + 2))
+  pub masked-right : {v : ℕ} → (getD t at 0 ≡ code "?" → ⊥) → digit (getD t at 0) ≡ some v → getD t (at + 1) 0 ≡ code "?" → maskedAt t at ≡ found (masked v right) (at + 2) (skip t (at + 2))
   unfolding maskedAt oneDigit
-  masked-right d e f = rw (ne-eqb (getD t at 0) 63 d, f, e)
+  masked-right d e f = rw (ne-eqb (getD t at 0) (code "?") d, f, e)
 
-  pub masked-no-right : (getD t at 0 ≡ 63 → ⊥) → digit (getD t at 0) ≡ none → maskedAt t at ≡ absent
+  pub masked-no-right : (getD t at 0 ≡ code "?" → ⊥) → digit (getD t at 0) ≡ none → maskedAt t at ≡ absent
   unfolding maskedAt oneDigit
-  masked-no-right d e = rw (ne-eqb (getD t at 0) 63 d, e) (go (eqb (getD t (at + 1) 0) 63))
+  masked-no-right d e = rw (ne-eqb (getD t at 0) (code "?") d, e) (go (eqb (getD t (at + 1) 0) (code "?")))
     where
       go : (b : Bool) → _≡_ {A = Seen Hex} (cond b absent absent) absent
       go true = refl
       go false = refl
 
-  pub masked-other : (getD t at 0 ≡ 63 → ⊥) → (getD t (at + 1) 0 ≡ 63 → ⊥) → maskedAt t at ≡ absent
+  pub masked-other : (getD t at 0 ≡ code "?" → ⊥) → (getD t (at + 1) 0 ≡ code "?" → ⊥) → maskedAt t at ≡ absent
   unfolding maskedAt
-  masked-other d e = simp (ne-eqb (getD t at 0) 63 d, ne-eqb (getD t (at + 1) 0) 63 e)
+  masked-other d e = simp (ne-eqb (getD t at 0) (code "?") d, ne-eqb (getD t (at + 1) 0) (code "?") e)
 
   pub hex-byte : {h : Hex} {s e : ℕ} → byteAt t at ≡ found h s e → hexAt t at ≡ found h s e
   unfolding hexAt _else_
@@ -61,25 +63,25 @@ module _ (t : List ℕ) (at : ℕ) where
   unfolding hexAt _else_
   hex-masked d = rw d
 
-  pub not-else : (getD t at 0 ≡ 126 → ⊥) → notAt t at ≡ absent
+  pub not-else : (getD t at 0 ≡ code "~" → ⊥) → notAt t at ≡ absent
   unfolding notAt
-  not-else d = simp (ne-eqb (getD t at 0) 126 d)
+  not-else d = simp (ne-eqb (getD t at 0) (code "~") d)
 
-  pub not-hex : getD t at 0 ≡ 126 → {x : Seen Hex} → hexAt t (at + 1) ≡ x → notAt t at ≡ negated at x
+  pub not-hex : getD t at 0 ≡ code "~" → {x : Seen Hex} → hexAt t (at + 1) ≡ x → notAt t at ≡ negated at x
   unfolding notAt
   not-hex d e = rw (d, e)
 
-  pub number-absent : within 48 57 (getD t at 0) ≡ false → numberAt t at ≡ absent
+  pub number-absent : decimal (getD t at 0) ≡ false → numberAt t at ≡ absent
   unfolding numberAt
   number-absent d = rw d
 
-  pub number-found : {v i : ℕ} → within 48 57 (getD t at 0) ≡ true → numeral 0 (drop at t) ≡ v → at + decimals (drop at t) ≡ i → v ≤ 4294967295 → numberAt t at ≡ found v i (skip t i)
+  pub number-found : {v i : ℕ} → decimal (getD t at 0) ≡ true → numeral 0 (drop at t) ≡ v → at + decimals (drop at t) ≡ i → v ≤ numberLimit → numberAt t at ≡ found v i (skip t i)
   unfolding numberAt
-  number-found {v} d e f g = rw (d, e, f, le-leb v 4294967295 g)
+  number-found {v} d e f g = rw (d, e, f, le-leb v numberLimit g)
 
-  pub number-big : within 48 57 (getD t at 0) ≡ true → 4294967295 < numeral 0 (drop at t) → numberAt t at ≡ refused NumberTooBig at
+  pub number-big : decimal (getD t at 0) ≡ true → numberLimit < numeral 0 (drop at t) → numberAt t at ≡ refused NumberTooBig at
   unfolding numberAt
-  number-big d e = rw (d, lt-leb (numeral 0 (drop at t)) 4294967295 e)
+  number-big d e = rw (d, lt-leb (numeral 0 (drop at t)) numberLimit e)
 
   pub checked-open : (from stop : ℕ) → checked t at from none stop ≡ found (between from none) stop (skip t stop)
   unfolding checked
@@ -97,37 +99,37 @@ module _ (t : List ℕ) (at : ℕ) where
   unfolding checked
   checked-both from to stop d e = rw (d, le-ltb to from e)
 
-  pub closed-else : (from : ℕ) (to : Option ℕ) (x : ℕ) → (getD t x 0 ≡ 93 → ⊥) → closedAt t at from to x ≡ absent
+  pub closed-else : (from : ℕ) (to : Option ℕ) (x : ℕ) → (getD t x 0 ≡ code "]" → ⊥) → closedAt t at from to x ≡ absent
   unfolding closedAt
-  closed-else from to x d = simp (ne-eqb (getD t x 0) 93 d)
+  closed-else from to x d = simp (ne-eqb (getD t x 0) (code "]") d)
 
-  pub closed-at : (from : ℕ) (to : Option ℕ) (x : ℕ) → getD t x 0 ≡ 93 → closedAt t at from to x ≡ checked t at from to (x + 1)
+  pub closed-at : (from : ℕ) (to : Option ℕ) (x : ℕ) → getD t x 0 ≡ code "]" → closedAt t at from to x ≡ checked t at from to (x + 1)
   unfolding closedAt
   closed-at from to x d = rw d
 
-  pub dash-else : (from x : ℕ) → (getD t x 0 ≡ 45 → ⊥) → dashAt t at from x ≡ absent
+  pub dash-else : (from x : ℕ) → (getD t x 0 ≡ code "-" → ⊥) → dashAt t at from x ≡ absent
   unfolding dashAt
-  dash-else from x d = simp (ne-eqb (getD t x 0) 45 d)
+  dash-else from x d = simp (ne-eqb (getD t x 0) (code "-") d)
 
-  pub dash-at : (from x y : ℕ) → getD t x 0 ≡ 45 → y ≡ skip t (x + 1) → {n : Seen ℕ} → numberAt t y ≡ n → dashAt t at from x ≡ upperAt t at from y n
+  pub dash-at : (from x y : ℕ) → getD t x 0 ≡ code "-" → y ≡ skip t (x + 1) → {n : Seen ℕ} → numberAt t y ≡ n → dashAt t at from x ≡ upperAt t at from y n
   unfolding dashAt
   dash-at from x y d f e = rw (d, sym f, e)
 
-  pub range-else : (getD t at 0 ≡ 91 → ⊥) → rangeAt t at ≡ absent
+  pub range-else : (getD t at 0 ≡ code "[" → ⊥) → rangeAt t at ≡ absent
   unfolding rangeAt
-  range-else d = simp (ne-eqb (getD t at 0) 91 d)
+  range-else d = simp (ne-eqb (getD t at 0) (code "[") d)
 
-  pub range-at : (y : ℕ) → getD t at 0 ≡ 91 → y ≡ skip t (at + 1) → {n : Seen ℕ} → numberAt t y ≡ n → rangeAt t at ≡ lowerAt t at y n
+  pub range-at : (y : ℕ) → getD t at 0 ≡ code "[" → y ≡ skip t (at + 1) → {n : Seen ℕ} → numberAt t y ≡ n → rangeAt t at ≡ lowerAt t at y n
   unfolding rangeAt
   range-at y d f e = rw (d, sym f, e)
 
-  pub lower-closed : (x n s e : ℕ) → getD t e 0 ≡ 93 → lowerAt t at x (found n s e) ≡ checked t at n (some n) (e + 1)
+  pub lower-closed : (x n s e : ℕ) → getD t e 0 ≡ code "]" → lowerAt t at x (found n s e) ≡ checked t at n (some n) (e + 1)
   unfolding lowerAt
   lower-closed x n s e d = rw d
 
-  pub lower-dash : (x n s e : ℕ) → (getD t e 0 ≡ 93 → ⊥) → lowerAt t at x (found n s e) ≡ dashAt t at n e
+  pub lower-dash : (x n s e : ℕ) → (getD t e 0 ≡ code "]" → ⊥) → lowerAt t at x (found n s e) ≡ dashAt t at n e
   unfolding lowerAt
-  lower-dash x n s e d = simp (ne-eqb (getD t e 0) 93 d)
+  lower-dash x n s e d = simp (ne-eqb (getD t e 0) (code "]") d)
 
   pub plain-not : (inside : Bool) {x : Seen Token} → notAt t at ≡ x → plainAt t inside at ≡ (x else (plainly (hexAt t at) else jumped inside at (rangeAt t at)))
   unfolding plainAt
@@ -145,10 +147,10 @@ module _ (at from s e : ℕ) where
   unfolding jumped
   jumped-open inside d = rw d
 
-  pub jumped-big : (inside : Bool) (to : ℕ) → inside && ltb 200 to ≡ true → jumped inside at (found (between from (some to)) s e) ≡ refused JumpTooBigInAlternation at
+  pub jumped-big : (inside : Bool) (to : ℕ) → inside && ltb innerJumpLimit to ≡ true → jumped inside at (found (between from (some to)) s e) ≡ refused JumpTooBigInAlternation at
   unfolding jumped
   jumped-big inside to d = rw d
 
-  pub jumped-found : (inside : Bool) (to : ℕ) → inside && ltb 200 to ≡ false → jumped inside at (found (between from (some to)) s e) ≡ found (jumpToken from to) s e
+  pub jumped-found : (inside : Bool) (to : ℕ) → inside && ltb innerJumpLimit to ≡ false → jumped inside at (found (between from (some to)) s e) ≡ found (jumpToken from to) s e
   unfolding jumped
   jumped-found inside to d = rw d

@@ -5,6 +5,7 @@ use mathlib.Core.List.{List, [], _∷_}
 use Prim.Native.Nat.{ℕ}
 use lib.Dec.{eqb}
 use Rattle.base.specs.Refusals.{numberOf}
+use Rattle.base.specs.Text.{ascii}
 use Rattle.reading.specs.Blanks.{blank, blanks, skip}
 use Rattle.reading.specs.Pieces.{within, digit, twoDigits, byteAt, oneDigit, maskedAt, hexAt, plainly, negated, notAt, decimals, numeral, numberAt, checked, closedAt, upperAt, dashAt, lowerAt, rangeAt, jumpToken, jumped, plainAt, _else_}
 use Rattle.reading.specs.Lists.{tokenOr, asToken, bracketed, before, thenMore, isJump, begins, endsIn, ends, atBound, listOf, beside, thenLists, tokenF, moreF, listF, listsF, closing, reading, Outcome, accepted, rejected}
@@ -27,30 +28,18 @@ every (s ∷ ss) = right s && every ss
 
 pub samples : List Sample
 samples =
-    -- `{ AB [0] CD }`
-    gives (123 ∷ 32 ∷ 65 ∷ 66 ∷ 32 ∷ 91 ∷ 48 ∷ 93 ∷ 32 ∷ 67 ∷ 68 ∷ 32 ∷ 125 ∷ []) 4 5 ∷
-    -- `{ [5] AB }`
-    gives (123 ∷ 32 ∷ 91 ∷ 53 ∷ 93 ∷ 32 ∷ 65 ∷ 66 ∷ 32 ∷ 125 ∷ []) 6 2 ∷
-    -- `{ AB (CD [200] EF) }`
-    gives (123 ∷ 32 ∷ 65 ∷ 66 ∷ 32 ∷ 40 ∷ 67 ∷ 68 ∷ 32 ∷ 91 ∷ 50 ∷ 48 ∷ 48 ∷ 93 ∷ 32 ∷ 69 ∷ 70 ∷ 41 ∷ 32 ∷ 125 ∷ []) 0 20 ∷
-    -- `{ AB (CD [201] EF) }`
-    gives (123 ∷ 32 ∷ 65 ∷ 66 ∷ 32 ∷ 40 ∷ 67 ∷ 68 ∷ 32 ∷ 91 ∷ 50 ∷ 48 ∷ 49 ∷ 93 ∷ 32 ∷ 69 ∷ 70 ∷ 41 ∷ 32 ∷ 125 ∷ []) 8 9 ∷
-    -- `{ ~?? }`
-    gives (123 ∷ 32 ∷ 126 ∷ 63 ∷ 63 ∷ 32 ∷ 125 ∷ []) 9 2 ∷
-    -- `{ ??? }`
-    gives (123 ∷ 32 ∷ 63 ∷ 63 ∷ 63 ∷ 32 ∷ 125 ∷ []) 2 4 ∷
-    -- `{ AB [2-3] [x }`
-    gives (123 ∷ 32 ∷ 65 ∷ 66 ∷ 32 ∷ 91 ∷ 50 ∷ 45 ∷ 51 ∷ 93 ∷ 32 ∷ 91 ∷ 120 ∷ 32 ∷ 125 ∷ []) 6 2 ∷
-    -- `{ AB [x }`
-    gives (123 ∷ 32 ∷ 65 ∷ 66 ∷ 32 ∷ 91 ∷ 120 ∷ 32 ∷ 125 ∷ []) 2 5 ∷
-    -- `{ (AB|) }`
-    gives (123 ∷ 32 ∷ 40 ∷ 65 ∷ 66 ∷ 124 ∷ 41 ∷ 32 ∷ 125 ∷ []) 2 5 ∷
-    -- `{ AB } zz`
-    gives (123 ∷ 32 ∷ 65 ∷ 66 ∷ 32 ∷ 125 ∷ 32 ∷ 122 ∷ 122 ∷ []) 0 7 ∷
-    -- `{ AB [4294967296] CD }`
-    gives (123 ∷ 32 ∷ 65 ∷ 66 ∷ 32 ∷ 91 ∷ 52 ∷ 50 ∷ 57 ∷ 52 ∷ 57 ∷ 54 ∷ 55 ∷ 50 ∷ 57 ∷ 54 ∷ 93 ∷ 32 ∷ 67 ∷ 68 ∷ 32 ∷ 125 ∷ []) 3 6 ∷
-    -- `{ AB [4294967295] CD }`
-    gives (123 ∷ 32 ∷ 65 ∷ 66 ∷ 32 ∷ 91 ∷ 52 ∷ 50 ∷ 57 ∷ 52 ∷ 57 ∷ 54 ∷ 55 ∷ 50 ∷ 57 ∷ 53 ∷ 93 ∷ 32 ∷ 67 ∷ 68 ∷ 32 ∷ 125 ∷ []) 0 22 ∷ []
+    gives (ascii "{ AB [0] CD }") 4 5 ∷
+    gives (ascii "{ [5] AB }") 6 2 ∷
+    gives (ascii "{ AB (CD [200] EF) }") 0 20 ∷
+    gives (ascii "{ AB (CD [201] EF) }") 8 9 ∷
+    gives (ascii "{ ~?? }") 9 2 ∷
+    gives (ascii "{ ??? }") 2 4 ∷
+    gives (ascii "{ AB [2-3] [x }") 6 2 ∷
+    gives (ascii "{ AB [x }") 2 5 ∷
+    gives (ascii "{ (AB|) }") 2 5 ∷
+    gives (ascii "{ AB } zz") 0 7 ∷
+    gives (ascii "{ AB [4294967296] CD }") 3 6 ∷
+    gives (ascii "{ AB [4294967295] CD }") 0 22 ∷ []
 
 pub samples-hold : every samples ≡ true
 unfolding samples every right answered blank blanks skip within digit twoDigits byteAt oneDigit maskedAt hexAt plainly negated notAt decimals numeral numberAt checked closedAt upperAt dashAt lowerAt rangeAt jumpToken jumped plainAt _else_ tokenOr asToken bracketed before thenMore isJump begins endsIn ends atBound listOf beside thenLists tokenF moreF listF listsF closing reading tokenCount

@@ -1,4 +1,5 @@
 -- Whole texts: what each test decides, and what an accepted text needs. Assumes nothing.
+use Prim.Native.Char.{code}
 use Prim.Native.Nat.{ℕ, _+_, _-_, _≤_, _<_}
 use mathlib.Core.Path.{_≡_, refl, sym, ap, _∙_}
 use mathlib.Core.Bool.{Bool, true, false, cond}
@@ -8,6 +9,7 @@ use borrow.Author.Tests.{eqb-true, leb-true, ne-eqb, le-leb, lt-leb}
 use lib.Dec.{eqb, leb}
 use lib.ListN.{length, getD}
 use Rattle.base.specs.declared.Refusal.the-variants.{TextTooLong, Unexpected}
+use Rattle.meaning.specs.Limits.{textLimit}
 use Rattle.meaning.specs.Tokens.{Tokens}
 use Rattle.meaning.specs.Entries.{entries}
 use Rattle.reading.specs.Blanks.{skip}
@@ -16,51 +18,51 @@ use Rattle.reading.proofs.PieceLaws.{never, here-at, skip-in}
 use Rattle.reading.proofs.ListSteps.{list-gone}
 
 module _ (t : List ℕ) where
-  pub text-long : 4096 < length t → reading t ≡ rejected TextTooLong 0
+  pub text-long : textLimit < length t → reading t ≡ rejected TextTooLong 0
   unfolding reading
-  text-long h = rw (lt-leb (length t) 4096 h)
+  text-long h = rw (lt-leb (length t) textLimit h)
 
-  pub text-unopened : length t ≤ 4096 → (getD t 0 0 ≡ 123 → ⊥) → reading t ≡ rejected Unexpected 0
+  pub text-unopened : length t ≤ textLimit → (getD t 0 0 ≡ code "{" → ⊥) → reading t ≡ rejected Unexpected 0
   unfolding reading
-  text-unopened h k = simp (le-leb (length t) 4096 h, ne-eqb (getD t 0 0) 123 k)
+  text-unopened h k = simp (le-leb (length t) textLimit h, ne-eqb (getD t 0 0) (code "{") k)
 
-  pub text-opened : length t ≤ 4096 → getD t 0 0 ≡ 123 → (at : ℕ) → at ≡ skip t 1 → {x : Parsed Tokens} → list t 1 0 at ≡ x → reading t ≡ closing t at x
+  pub text-opened : length t ≤ textLimit → getD t 0 0 ≡ code "{" → (at : ℕ) → at ≡ skip t 1 → {x : Parsed Tokens} → list t 1 0 at ≡ x → reading t ≡ closing t at x
   unfolding reading
-  text-opened h k at s q = rw (le-leb (length t) 4096 h, k, sym s, q)
+  text-opened h k at s q = rw (le-leb (length t) textLimit h, k, sym s, q)
 
   module _ (at : ℕ) (ts : Tokens) (e c : ℕ) where
-    pub text-closed : getD t e 0 ≡ 125 → closing t at (read ts e c) ≡ accepted (skip t (e + 1)) ts
+    pub text-closed : getD t e 0 ≡ code "}" → closing t at (read ts e c) ≡ accepted (skip t (e + 1)) ts
     unfolding closing
     text-closed h = rw h
 
-    pub text-unclosed : (getD t e 0 ≡ 125 → ⊥) → closing t at (read ts e c) ≡ rejected Unexpected e
+    pub text-unclosed : (getD t e 0 ≡ code "}" → ⊥) → closing t at (read ts e c) ≡ rejected Unexpected e
     unfolding closing
-    text-unclosed h = simp (ne-eqb (getD t e 0) 125 h)
+    text-unclosed h = simp (ne-eqb (getD t e 0) (code "}") h)
 
 -- an accepted text is at most 4,096 bytes long, is opened, and its outer list is read up to a `}`
 pub record Accepted (t : List ℕ) (e : ℕ) (ts : Tokens) : Type 0 where
-  pub short : length t ≤ 4096
-  pub opened : getD t 0 0 ≡ 123
+  pub short : length t ≤ textLimit
+  pub opened : getD t 0 0 ≡ code "{"
   pub stop : ℕ
   pub count : ℕ
   pub inner : list t 1 0 (skip t 1) ≡ read ts stop count
-  pub closed : getD t stop 0 ≡ 125
+  pub closed : getD t stop 0 ≡ code "}"
   pub reached : e ≡ skip t (stop + 1)
 
-closes : (t : List ℕ) (e : ℕ) (ts us : Tokens) (s c : ℕ) (d : Bool) → length t ≤ 4096 → getD t 0 0 ≡ 123 → list t 1 0 (skip t 1) ≡ read us s c → eqb (getD t s 0) 125 ≡ d
+closes : (t : List ℕ) (e : ℕ) (ts us : Tokens) (s c : ℕ) (d : Bool) → length t ≤ textLimit → getD t 0 0 ≡ code "{" → list t 1 0 (skip t 1) ≡ read us s c → eqb (getD t s 0) (code "}") ≡ d
     → _≡_ {A = Outcome} (cond d (accepted (skip t (s + 1)) us) (rejected Unexpected s)) (accepted e ts) → Accepted t e ts
 closes t e ts us s c true a b i w h =
     let q : us ≡ ts = cc in
     let r : skip t (s + 1) ≡ e = cc in
-    record { short = a; opened = b; stop = s; count = c; inner = i ∙ ap (λ (u : Tokens). read u s c) q; closed = eqb-true (getD t s 0) 125 w; reached = sym r }
+    record { short = a; opened = b; stop = s; count = c; inner = i ∙ ap (λ (u : Tokens). read u s c) q; closed = eqb-true (getD t s 0) (code "}") w; reached = sym r }
 closes t e ts us s c false a b i w h = never (cc)
 
 pub accepted-is : (t : List ℕ) (e : ℕ) (ts : Tokens) → reading t ≡ accepted e ts → Accepted t e ts
 unfolding reading closing
-accepted-is t e ts h = go (leb (length t) 4096) (eqb (getD t 0 0) 123) (list t 1 0 (skip t 1)) refl refl refl h
+accepted-is t e ts h = go (leb (length t) textLimit) (eqb (getD t 0 0) (code "{")) (list t 1 0 (skip t 1)) refl refl refl h
   where
-    go : (a b : Bool) (x : Parsed Tokens) → leb (length t) 4096 ≡ a → eqb (getD t 0 0) 123 ≡ b → list t 1 0 (skip t 1) ≡ x → cond a (cond b (closing t (skip t 1) x) (rejected Unexpected 0)) (rejected TextTooLong 0) ≡ accepted e ts → Accepted t e ts
-    go true true (read us s c) q r i h = closes t e ts us s c (eqb (getD t s 0) 125) (leb-true (length t) 4096 q) (eqb-true (getD t 0 0) 123 r) i refl h
+    go : (a b : Bool) (x : Parsed Tokens) → leb (length t) textLimit ≡ a → eqb (getD t 0 0) (code "{") ≡ b → list t 1 0 (skip t 1) ≡ x → cond a (cond b (closing t (skip t 1) x) (rejected Unexpected 0)) (rejected TextTooLong 0) ≡ accepted e ts → Accepted t e ts
+    go true true (read us s c) q r i h = closes t e ts us s c (eqb (getD t s 0) (code "}")) (leb-true (length t) textLimit q) (eqb-true (getD t 0 0) (code "{") r) i refl h
     go true true missing q r i h = never (cc)
     go true true (stopped u v) q r i h = never (cc)
     go true false x q r i h = never (cc)
@@ -77,5 +79,5 @@ accepted-words t e ts h =
 pub accepted-end : (t : List ℕ) (e : ℕ) (ts : Tokens) → reading t ≡ accepted e ts → e ≤ length t
 accepted-end t e ts h =
     let a = accepted-is t e ts h in
-    let i = here-at t (a .stop) 125 (a .closed) (omega arith) in
+    let i = here-at t (a .stop) (code "}") (a .closed) (omega arith) in
     omega (arith, a .reached, skip-in t (a .stop + 1) (omega arith))

@@ -1,6 +1,7 @@
 -- Blanks. Assumes nothing: these are definitions.
 use mathlib.Core.Bool.{Bool, cond, _||_}
 use mathlib.Core.List.{List, [], _∷_}
+use Prim.Native.Char.{code}
 use Prim.Native.Nat.{ℕ, suc, _+_}
 use lib.Dec.{eqb}
 use lib.ListN.{drop, getD}
@@ -11,7 +12,7 @@ here t at = getD t at 0
 
 -- space, tab, CR, LF
 unfoldable pub blank : ℕ → Bool
-blank c = eqb c 32 || (eqb c 9 || (eqb c 13 || eqb c 10))
+blank c = eqb c (code " ") || (eqb c (code "\t") || (eqb c (code "\r") || eqb c (code "\n")))
 
 -- how many blanks stand at the front
 unfoldable pub blanks : List ℕ → ℕ

@@ -1,11 +1,13 @@
 -- Tokens, lists, alternatives, and the whole text. Assumes nothing: these are definitions.
 use mathlib.Core.Bool.{Bool, true, false, cond, _&&_, _||_}
 use mathlib.Core.List.{List}
+use Prim.Native.Char.{code}
 use Prim.Native.Nat.{ℕ, zero, suc, _+_, _-_, _*_}
 use lib.Dec.{eqb, leb, ltb}
 use lib.ListN.{length}
 use Rattle.base.specs.declared.Refusal.{Refusal}
 use Rattle.base.specs.declared.Refusal.the-variants.{TextTooLong, Unexpected, JumpAtBound, HexStringTooDeep, TooManyTokens}
+use Rattle.meaning.specs.Limits.{textLimit, tokenLimit, levelLimit}
 use Rattle.meaning.specs.Tokens.{Token, Tokens, Lists, Byte, NotByte, MaskedByte, NotMaskedByte, Jump, Alternatives, nothing, _then_, neither, _or_}
 use Rattle.meaning.specs.Entries.{tokenCount}
 use Rattle.reading.specs.Blanks.{here, skip}
@@ -19,7 +21,7 @@ pub data Parsed (A : Type 0) : Type 0 where
 
 -- a token counts when read whole, and the 513th is refused at its first byte; where none is, alternatives are tried
 unfoldable pub tokenOr : ℕ → ℕ → Seen Token → Parsed Token → Parsed Token
-tokenOr at count (found tok s e) other = cond (ltb count 512) (read tok e (count + 1)) (stopped TooManyTokens at)
+tokenOr at count (found tok s e) other = cond (ltb count tokenLimit) (read tok e (count + 1)) (stopped TooManyTokens at)
 tokenOr at count absent other = other
 tokenOr at count (refused r p) other = stopped r p
 
@@ -30,7 +32,7 @@ asToken (stopped r p) = stopped r p
 
 -- alternatives count at their `(`
 unfoldable pub bracketed : List ℕ → ℕ → ℕ → Parsed Lists → Parsed Token
-bracketed t at count lists = cond (eqb (here t at) 40) (cond (ltb count 512) (asToken lists) (stopped TooManyTokens at)) missing
+bracketed t at count lists = cond (eqb (here t at) (code "(")) (cond (ltb count tokenLimit) (asToken lists) (stopped TooManyTokens at)) missing
 
 -- a token before those that follow it
 unfoldable pub before : Token → Parsed Tokens → Parsed Tokens
@@ -84,8 +86,8 @@ beside ts (stopped r p) = stopped r p
 -- a list in brackets, then `)`, or `|` and more lists; `miss` is where it is missed: where it should begin, or at the `|` before it
 unfoldable pub thenLists : List ℕ → ℕ → Parsed Tokens → (ℕ → ℕ → ℕ → Parsed Lists) → Parsed Lists
 thenLists t miss (read ts e count) more =
-    cond (eqb (here t e) 41) (read (ts or neither) (skip t (e + 1)) count)
-    (cond (eqb (here t e) 124) (beside ts (more count (skip t (e + 1)) e)) (stopped Unexpected e))
+    cond (eqb (here t e) (code ")")) (read (ts or neither) (skip t (e + 1)) count)
+    (cond (eqb (here t e) (code "|")) (beside ts (more count (skip t (e + 1)) e)) (stopped Unexpected e))
 thenLists t miss missing more = stopped Unexpected miss
 thenLists t miss (stopped r p) more = stopped r p
 
@@ -104,7 +106,7 @@ unfoldable mutual
 
   pub listF : ℕ → List ℕ → ℕ → ℕ → ℕ → Parsed Tokens
   listF zero t level count at = missing
-  listF (suc f) t level count at = cond (ltb 8 level) (stopped HexStringTooDeep at) (listOf at (moreF f t level count at))
+  listF (suc f) t level count at = cond (ltb levelLimit level) (stopped HexStringTooDeep at) (listOf at (moreF f t level count at))
 
   pub listsF : ℕ → List ℕ → ℕ → ℕ → ℕ → ℕ → Parsed Lists
   listsF zero t level count at miss = missing
@@ -133,13 +135,13 @@ pub data Outcome : Type 0 where
 
 -- after the outer list that begins at `at`: `}` and blanks, and the rest is ignored
 unfoldable pub closing : List ℕ → ℕ → Parsed Tokens → Outcome
-closing t at (read ts e count) = cond (eqb (here t e) 125) (accepted (skip t (e + 1)) ts) (rejected Unexpected e)
+closing t at (read ts e count) = cond (eqb (here t e) (code "}")) (accepted (skip t (e + 1)) ts) (rejected Unexpected e)
 closing t at missing = rejected Unexpected at
 closing t at (stopped r p) = rejected r p
 
 -- a whole text, of at most 4,096 bytes: `{` with nothing before it, and the outer list
 unfoldable pub reading : List ℕ → Outcome
 reading t =
-    cond (leb (length t) 4096)
-    (cond (eqb (here t 0) 123) (closing t (skip t 1) (list t 1 0 (skip t 1))) (rejected Unexpected 0))
+    cond (leb (length t) textLimit)
+    (cond (eqb (here t 0) (code "{")) (closing t (skip t 1) (list t 1 0 (skip t 1))) (rejected Unexpected 0))
     (rejected TextTooLong 0)

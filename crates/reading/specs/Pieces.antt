@@ -2,11 +2,13 @@
 use mathlib.Core.Bool.{Bool, cond, _&&_}
 use mathlib.Core.Option.{Option, none, some}
 use mathlib.Core.List.{List, [], _∷_}
+use Prim.Native.Char.{code}
 use Prim.Native.Nat.{ℕ, suc, _+_, _-_, _*_}
 use lib.Dec.{eqb, leb, ltb}
 use lib.ListN.{drop}
 use Rattle.base.specs.declared.Refusal.{Refusal}
 use Rattle.base.specs.declared.Refusal.the-variants.{Unexpected, NumberTooBig, JumpEmpty, JumpRangeInvalid, JumpUnboundedInAlternation, JumpTooBigInAlternation, CannotNegateMaskAll}
+use Rattle.meaning.specs.Limits.{numberLimit, innerJumpLimit}
 use Rattle.meaning.specs.Tokens.{Mask, left, right, all, Token, Byte, NotByte, MaskedByte, NotMaskedByte, Jump}
 use Rattle.reading.specs.Blanks.{here, skip}
 
@@ -34,7 +36,7 @@ within a b c = leb a c && leb c b
 
 -- the value of a hexadecimal digit, in either case
 unfoldable pub digit : ℕ → Option ℕ
-digit c = cond (within 48 57 c) (some (c - 48)) (cond (within 65 70 c) (some (c - 55)) (cond (within 97 102 c) (some (c - 87)) none))
+digit c = cond (within (code "0") (code "9") c) (some (c - code "0")) (cond (within (code "A") (code "F") c) (some (c - (code "A" - 10))) (cond (within (code "a") (code "f") c) (some (c - (code "a" - 10))) none))
 
 -- a byte as it is spelled, whole or masked: `AB`; `?X`, `X?`, `??`
 pub data Hex : Type 0 where
@@ -57,9 +59,9 @@ oneDigit t at m none = absent
 -- a masked byte: `??`, `?X` or `X?`
 unfoldable pub maskedAt : List ℕ → ℕ → Seen Hex
 maskedAt t at =
-    cond (eqb (here t at) 63)
-    (cond (eqb (here t (at + 1)) 63) (upTo t (masked 0 all) (at + 2)) (oneDigit t at left (digit (here t (at + 1)))))
-    (cond (eqb (here t (at + 1)) 63) (oneDigit t at right (digit (here t at))) absent)
+    cond (eqb (here t at) (code "?"))
+    (cond (eqb (here t (at + 1)) (code "?")) (upTo t (masked 0 all) (at + 2)) (oneDigit t at left (digit (here t (at + 1)))))
+    (cond (eqb (here t (at + 1)) (code "?")) (oneDigit t at right (digit (here t at))) absent)
 
 unfoldable pub hexAt : List ℕ → ℕ → Seen Hex
 hexAt t at = byteAt t at else maskedAt t at
@@ -80,10 +82,10 @@ negated at absent = refused Unexpected (at + 1)
 negated at (refused r p) = refused r p
 
 unfoldable pub notAt : List ℕ → ℕ → Seen Token
-notAt t at = cond (eqb (here t at) 126) (negated at (hexAt t (at + 1))) absent
+notAt t at = cond (eqb (here t at) (code "~")) (negated at (hexAt t (at + 1))) absent
 
 abbrev pub decimal : ℕ → Bool
-decimal c = within 48 57 c
+decimal c = within (code "0") (code "9") c
 
 -- how many decimal digits stand at the front
 unfoldable pub decimals : List ℕ → ℕ
@@ -93,13 +95,13 @@ decimals (c ∷ s) = cond (decimal c) (suc (decimals s)) 0
 -- the number that they spell after `n` has been read
 unfoldable pub numeral : ℕ → List ℕ → ℕ
 numeral n [] = n
-numeral n (c ∷ s) = cond (decimal c) (numeral (10 * n + (c - 48)) s) n
+numeral n (c ∷ s) = cond (decimal c) (numeral (10 * n + (c - code "0")) s) n
 
 -- a number: one digit or more, any count of leading zeros; above 4,294,967,295 it is refused at its first digit
 unfoldable pub numberAt : List ℕ → ℕ → Seen ℕ
 numberAt t at =
     cond (decimal (here t at))
-    (cond (leb (numeral 0 (drop at t)) 4294967295) (upTo t (numeral 0 (drop at t)) (at + decimals (drop at t))) (refused NumberTooBig at))
+    (cond (leb (numeral 0 (drop at t)) numberLimit) (upTo t (numeral 0 (drop at t)) (at + decimals (drop at t))) (refused NumberTooBig at))
     absent
 
 -- a jump's bounds, as spelled
@@ -113,7 +115,7 @@ checked t at from (some to) stop =
     cond (eqb from 0 && eqb to 0) (refused JumpEmpty at) (cond (ltb to from) (refused JumpRangeInvalid at) (upTo t (between from (some to)) stop))
 
 unfoldable pub closedAt : List ℕ → ℕ → ℕ → Option ℕ → ℕ → Seen Range
-closedAt t at from to x = cond (eqb (here t x) 93) (checked t at from to (x + 1)) absent
+closedAt t at from to x = cond (eqb (here t x) (code "]")) (checked t at from to (x + 1)) absent
 
 -- perhaps a number at `x`, then `]`
 unfoldable pub upperAt : List ℕ → ℕ → ℕ → ℕ → Seen ℕ → Seen Range
@@ -123,17 +125,17 @@ upperAt t at from x (refused r p) = refused r p
 
 -- `-`, perhaps a number, `]`
 unfoldable pub dashAt : List ℕ → ℕ → ℕ → ℕ → Seen Range
-dashAt t at from x = cond (eqb (here t x) 45) (upperAt t at from (skip t (x + 1)) (numberAt t (skip t (x + 1)))) absent
+dashAt t at from x = cond (eqb (here t x) (code "-")) (upperAt t at from (skip t (x + 1)) (numberAt t (skip t (x + 1)))) absent
 
 -- what follows the `[` at `at`: a number and `]`, or perhaps a number and a dash with what follows it
 unfoldable pub lowerAt : List ℕ → ℕ → ℕ → Seen ℕ → Seen Range
-lowerAt t at x (found n s e) = cond (eqb (here t e) 93) (checked t at n (some n) (e + 1)) (dashAt t at n e)
+lowerAt t at x (found n s e) = cond (eqb (here t e) (code "]")) (checked t at n (some n) (e + 1)) (dashAt t at n e)
 lowerAt t at x absent = dashAt t at 0 x
 lowerAt t at x (refused r p) = refused r p
 
 -- `[n]`, `[a-b]`, `[a-]`, `[-b]`, `[-]`; a badly spelled one is absent
 unfoldable pub rangeAt : List ℕ → ℕ → Seen Range
-rangeAt t at = cond (eqb (here t at) 91) (lowerAt t at (skip t (at + 1)) (numberAt t (skip t (at + 1)))) absent
+rangeAt t at = cond (eqb (here t at) (code "[")) (lowerAt t at (skip t (at + 1)) (numberAt t (skip t (at + 1)))) absent
 
 -- `[1]` and `[1-1]` become `??`
 unfoldable pub jumpToken : ℕ → ℕ → Token
@@ -142,7 +144,7 @@ jumpToken from to = cond (eqb from 1 && eqb to 1) (MaskedByte 0 all) (Jump from 
 -- in alternatives a jump has a bound, of at most 200
 unfoldable pub jumped : Bool → ℕ → Seen Range → Seen Token
 jumped inside at (found (between from none) s e) = cond inside (refused JumpUnboundedInAlternation at) (found (Jump from none) s e)
-jumped inside at (found (between from (some to)) s e) = cond (inside && ltb 200 to) (refused JumpTooBigInAlternation at) (found (jumpToken from to) s e)
+jumped inside at (found (between from (some to)) s e) = cond (inside && ltb innerJumpLimit to) (refused JumpTooBigInAlternation at) (found (jumpToken from to) s e)
 jumped inside at absent = absent
 jumped inside at (refused r p) = refused r p
 

@@ -5,6 +5,7 @@ use mathlib.Core.List.{List, []}
 use Prim.Native.Nat.{ℕ, _+_, _-_, _*_, _≤_}
 use lib.Dec.{eqb}
 use lib.ListN.{length, getD, take, drop}
+use Rattle.meaning.specs.Limits.{tokenPool}
 use Rattle.meaning.specs.Tokens.{Tokens, nothing, _then_}
 use Rattle.picking.specs.Runs.{closes, segments}
 use Rattle.entries.specs.Words.{walk, width, tokenIn}
@@ -29,7 +30,7 @@ partEnd ws = cond (eqb (getD ws 0 0) 0) (byteEnd ws) (width ws)
 
 -- a part of a run begins at `at`, and from `prior` to `at` stands the literal part before it, or nothing
 pub record Placed (run : List ℕ) (prior at : ℕ) : Type 0 where
-  pub few : length run ≤ 4096
+  pub few : length run ≤ tokenPool
   pub behind : prior ≤ at
   pub here : at + 4 ≤ length run
   pub before-whole : Whole (take (at - prior) (drop prior run))

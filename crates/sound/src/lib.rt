@@ -1,4 +1,5 @@
 // The soundness test of node words: any words at all are sound or not. Each function is one loop, linear in the words.
+use base::NODE_LIMIT;
 use nodes::Count;
 use nodes::NextWord;
 use nodes::Node;
@@ -157,7 +158,7 @@ fn sound_words(words: &[NodeWord]) -> bool
 pub fn is_sound(words: &[NodeWord]) -> bool
     ensures { λ r. ⌜ r ≡ sound (now (words .entry)) ⌝ }
 {
-    if words.len() <= 512 {
+    if words.len() <= NODE_LIMIT {
         sound_words(words)
     } else {
         false

@@ -6,6 +6,8 @@ use native.Mathlib.Omega.{arith}
 use native.Mathlib.Nat.{one-mul, mul-comm, div-one, div-div-eq-div-mul, mul-div-cancel-left, mod-lt, mod-one}
 use lib.ListN.{length, getD, take, drop}
 use borrow.Author.Tests.{lt-ltb, le-ltb}
+use Rattle.meaning.specs.Limits.{literalLimit}
+use Rattle.tallies.specs.Tallies.{countTop}
 use Rattle.meaning.specs.Tokens.{Token, Tokens}
 use Rattle.picking.specs.Literals.{taken}
 use Rattle.picking.specs.Numbers.{countOf, count, countIn, prefixOf, prefixed, pieceOf, ending, pieceIn, literalAt}
@@ -112,12 +114,12 @@ ending-step ws h p k = rw (tokens-step ws h)
 
 -- ---- numbers
 
-pub cap-exact : (r c : ℕ) → r ≡ min 257 c → c ≤ 256 → r ≡ c
+pub cap-exact : (r c : ℕ) → r ≡ min countTop c → c ≤ literalLimit → r ≡ c
 cap-exact r c e l = omega arith
 
 -- ---- in the words of the code
 
-module _ (ws : List ℕ) (h : 4 ≤ length ws) (n e : ℕ) (ends-at : e ≡ ends ws) (counted : n ≡ min 257 (count (flatIn (take (e - 4) (drop 4 ws))))) (few : countIn (listsIn ws) ≤ 256) where
+module _ (ws : List ℕ) (h : 4 ≤ length ws) (n e : ℕ) (ends-at : e ≡ ends ws) (counted : n ≡ min countTop (count (flatIn (take (e - 4) (drop 4 ws))))) (few : countIn (listsIn ws) ≤ literalLimit) where
   exact : n ≡ count (flatIn (inside ws))
   exact = list-exact ws h n e ends-at counted few
 
@@ -131,17 +133,17 @@ module _ (ws : List ℕ) (h : 4 ≤ length ws) (n e : ℕ) (ends-at : e ≡ ends
       piece-later ws h p q (subst (λ (x : ℕ). p * x ≤ q) exact l)
       ∙ ap (λ (x : ℕ). pieceIn (listsIn (drop (ends ws) ws)) p (q - p * x)) (sym exact)
 
-  pub within-list : (p q : ℕ) → q < p * n → (q % n < count (flatIn (take (e - 4) (drop 4 ws)))) × (count (flatIn (take (e - 4) (drop 4 ws))) ≤ 256)
+  pub within-list : (p q : ℕ) → q < p * n → (q % n < count (flatIn (take (e - 4) (drop 4 ws)))) × (count (flatIn (take (e - 4) (drop 4 ws))) ≤ literalLimit)
   within-list p q l =
       let z : 0 < n = pos-right q p n l in
       let m : q % n < n = mod-lt q z in
       let f : count (flatIn (take (e - 4) (drop 4 ws))) ≡ count (flatIn (inside ws)) = ap (λ (x : ℕ). count (flatIn (take (x - 4) (drop 4 ws)))) ends-at in
       let g = exact in
-      let k : count (flatIn (inside ws)) ≤ 256 = omega (arith, count-lists ws h) in
+      let k : count (flatIn (inside ws)) ≤ literalLimit = omega (arith, count-lists ws h) in
       (omega arith, omega arith)
 
 -- one byte of a list: c bytes are taken by the first entry, n literals are left
-module _ (ws : List ℕ) (h : 4 ≤ length ws) (c n : ℕ) (c-is : c ≡ length (taken (firstEntry ws))) (n-is : n ≡ count (flatIn ws)) (some : 0 < n) (few : n ≤ 256) where
+module _ (ws : List ℕ) (h : 4 ≤ length ws) (c n : ℕ) (c-is : c ≡ length (taken (firstEntry ws))) (n-is : n ≡ count (flatIn ws)) (some : 0 < n) (few : n ≤ literalLimit) where
   product : c * count (flatIn (drop 4 ws)) ≡ n
   product =
       ap (λ (x : ℕ). x * count (flatIn (drop 4 ws))) (c-is ∙ sym (entry-count (getD ws 0 0) (getD ws 1 0) (getD ws 2 0))) ∙ sym (flat-count ws h) ∙ sym n-is
@@ -152,7 +154,7 @@ module _ (ws : List ℕ) (h : 4 ≤ length ws) (c n : ℕ) (c-is : c ≡ length 
   pub rest-some : 0 < count (flatIn (drop 4 ws))
   rest-some = factor-le c (count (flatIn (drop 4 ws))) n product some .1
 
-  pub rest-few : count (flatIn (drop 4 ws)) ≤ 256
+  pub rest-few : count (flatIn (drop 4 ws)) ≤ literalLimit
   rest-few = let l = factor-le c (count (flatIn (drop 4 ws))) n product some .3 in omega arith
 
   pub rest-is : n / c ≡ count (flatIn (drop 4 ws))
@@ -186,7 +188,7 @@ entry-some ws f n e h = let a = token-count-entry ws f in omega arith
 pub one-below : (n k : ℕ) → k < n → k < 1 * n
 one-below n k h = let e : 1 * n ≡ n = one-mul n in omega arith
 
-pub one-numerable : (n k : ℕ) → k < n → n ≤ 256 → Numerable 1 n
+pub one-numerable : (n k : ℕ) → k < n → n ≤ literalLimit → Numerable 1 n
 one-numerable n k h l = let e : 1 * n ≡ n = one-mul n in record { some = (omega arith); few = (omega arith) }
 
 -- a piece of one byte

@@ -3,6 +3,7 @@ use mathlib.Core.Path.{_≡_}
 use mathlib.Core.List.{List, _++_}
 use Prim.Native.Nat.{ℕ, _≤_, _<_}
 use lib.ListN.{length, drop}
+use Rattle.meaning.specs.Limits.{literalLimit}
 use Rattle.meaning.specs.Tokens.{Token}
 use Rattle.picking.specs.Numbers.{countOf, pieceOf}
 
@@ -14,7 +15,7 @@ pub record Written (r : ℕ) (literal was is : List ℕ) : Type 0 where
 -- what a writer of one token's piece needs
 pub record Pieced (p : ℕ) (t : Token) (q words room : ℕ) : Type 0 where
   pub entry : 4 ≤ words
-  pub prefixes : p ≤ 256
+  pub prefixes : p ≤ literalLimit
   pub some : 0 < countOf t
-  pub few : countOf t ≤ 256
+  pub few : countOf t ≤ literalLimit
   pub fits : length (pieceOf t p q) ≤ room

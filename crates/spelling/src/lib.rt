@@ -2,13 +2,14 @@
 // The writing of literal number k of token entries.
 ghost use Prim.Native.Nat.{_≤_, _<_};
 ghost use lib.ListN.{length};
+ghost use Rattle.meaning.specs.Limits.{literalLimit};
 ghost use Rattle.picking.specs.Numbers.{count, countIn, pieceOf, pieceIn, literalAt};
 ghost use Rattle.entries.specs.Words.{flatIn, listsIn, tokenIn, tokensIn};
 ghost use Rattle.spelling.specs.Writing.{Written, Pieced};
 
 // Writes literal number k of a list without alternatives.
 fn write_list(ws: &[u32], k: usize, dst: &mut [u8]) -> usize
-    requires { ⌜ (k < count (flatIn (now ws))) × (count (flatIn (now ws)) ≤ 256) × (length (literalAt (flatIn (now ws)) k) ≤ length (now dst)) ⌝ }
+    requires { ⌜ (k < count (flatIn (now ws))) × (count (flatIn (now ws)) ≤ literalLimit) × (length (literalAt (flatIn (now ws)) k) ≤ length (now dst)) ⌝ }
     ensures { λ r. ⌜ Written r (literalAt (flatIn (now (ws .entry))) k) (now (dst .entry)) (now (dst .exit)) ⌝ }
 {
     let mut rest = ws;
@@ -27,7 +28,7 @@ fn write_list(ws: &[u32], k: usize, dst: &mut [u8]) -> usize
 
 // Writes what literal number q of some lists has after its prefix.
 fn write_branch(ls: &[u32], p: usize, q: usize, dst: &mut [u8]) -> usize
-    requires { ⌜ (p ≤ 256) × (countIn (listsIn (now ls)) ≤ 256) × (length (pieceIn (listsIn (now ls)) p q) ≤ length (now dst)) ⌝ }
+    requires { ⌜ (p ≤ literalLimit) × (countIn (listsIn (now ls)) ≤ literalLimit) × (length (pieceIn (listsIn (now ls)) p q) ≤ length (now dst)) ⌝ }
     ensures { λ r. ⌜ Written r (pieceIn (listsIn (now (ls .entry))) p q) (now (dst .entry)) (now (dst .exit)) ⌝ }
 {
     let mut rest = ls;
@@ -66,7 +67,7 @@ fn write_piece(ws: &[u32], p: usize, q: usize, dst: &mut [u8]) -> usize
 
 // Writes literal number k of tokens.
 pub fn write_literal(ws: &[u32], k: usize, dst: &mut [u8]) -> usize
-    requires { ⌜ (k < count (tokensIn (now ws))) × (count (tokensIn (now ws)) ≤ 256) × (length (literalAt (tokensIn (now ws)) k) ≤ length (now dst)) ⌝ }
+    requires { ⌜ (k < count (tokensIn (now ws))) × (count (tokensIn (now ws)) ≤ literalLimit) × (length (literalAt (tokensIn (now ws)) k) ≤ length (now dst)) ⌝ }
     ensures { λ r. ⌜ Written r (literalAt (tokensIn (now (ws .entry))) k) (now (dst .entry)) (now (dst .exit)) ⌝ }
 {
     let mut rest = ws;

@@ -8,6 +8,7 @@ use native.Mathlib.Omega.{arith}
 use native.Mathlib.Nat.{mul-zero, mul-one, mul-comm, mul-assoc, le-mul-of-pos-right}
 use lib.Dec.{ltb}
 use lib.ListN.{length, getD, take, drop, length-take, length-drop}
+use Rattle.tallies.specs.Tallies.{countTop}
 use Rattle.picking.specs.Literals.{taken, combinationsOf, combinations, combinationsIn, lengthOf, lengthIn, shortest, shorter}
 use Rattle.picking.specs.Numbers.{countOf, count, countIn}
 use Rattle.classes.specs.Entry.{entryToken}
@@ -27,33 +28,33 @@ le-or a b = go (ltb b a) refl
     go true e = inr (borrow.Author.Tests.ltb-true b a e)
     go false e = inl (borrow.Author.Tests.ltb-false b a e)
 
-pub cap-left : (x y : ℕ) → min 257 (x * y) ≡ min 257 (min 257 x * y)
-cap-left x zero = ap (min 257) (mul-zero x ∙ sym (mul-zero (min 257 x)))
+pub cap-left : (x y : ℕ) → min countTop (x * y) ≡ min countTop (min countTop x * y)
+cap-left x zero = ap (min countTop) (mul-zero x ∙ sym (mul-zero (min countTop x)))
 cap-left x (suc y) =
-    ⊎-elim (λ (l : x ≤ 257). let e : min 257 x ≡ x = omega arith in ap (λ (n : ℕ). min 257 (n * suc y)) (sym e))
-    (λ (l : 257 < x).
-    let e : min 257 x ≡ 257 = omega arith in
+    ⊎-elim (λ (l : x ≤ countTop). let e : min countTop x ≡ x = omega arith in ap (λ (n : ℕ). min countTop (n * suc y)) (sym e))
+    (λ (l : countTop < x).
+    let e : min countTop x ≡ countTop = omega arith in
     let a : x ≤ x * suc y = le-mul-of-pos-right x (omega arith) in
-    let b : 257 ≤ 257 * suc y = le-mul-of-pos-right 257 (omega arith) in
-    let f : min 257 (x * suc y) ≡ 257 = omega arith in
-    let g : min 257 (257 * suc y) ≡ 257 = omega arith in
-    f ∙ sym (ap (λ (n : ℕ). min 257 (n * suc y)) e ∙ g))
-    (le-or x 257)
+    let b : countTop ≤ countTop * suc y = le-mul-of-pos-right countTop (omega arith) in
+    let f : min countTop (x * suc y) ≡ countTop = omega arith in
+    let g : min countTop (countTop * suc y) ≡ countTop = omega arith in
+    f ∙ sym (ap (λ (n : ℕ). min countTop (n * suc y)) e ∙ g))
+    (le-or x countTop)
 
-pub cap-right : (x y : ℕ) → min 257 (x * y) ≡ min 257 (x * min 257 y)
-cap-right x y = ap (min 257) (mul-comm x y) ∙ cap-left y x ∙ ap (min 257) (mul-comm (min 257 y) x)
+pub cap-right : (x y : ℕ) → min countTop (x * y) ≡ min countTop (x * min countTop y)
+cap-right x y = ap (min countTop) (mul-comm x y) ∙ cap-left y x ∙ ap (min countTop) (mul-comm (min countTop y) x)
 
 -- one more factor, itself capped
-pub cap-more : (n c r : ℕ) → min 257 (n * (c * r)) ≡ min 257 (min 257 (n * min 257 c) * r)
-cap-more n c r = ap (min 257) (sym (mul-assoc n c r)) ∙ cap-left (n * c) r ∙ ap (λ (x : ℕ). min 257 (x * r)) (cap-right n c)
+pub cap-more : (n c r : ℕ) → min countTop (n * (c * r)) ≡ min countTop (min countTop (n * min countTop c) * r)
+cap-more n c r = ap (min countTop) (sym (mul-assoc n c r)) ∙ cap-left (n * c) r ∙ ap (λ (x : ℕ). min countTop (x * r)) (cap-right n c)
 
-pub cap-small : (n : ℕ) → n ≤ 257 → min 257 (n * 1) ≡ n
+pub cap-small : (n : ℕ) → n ≤ countTop → min countTop (n * 1) ≡ n
 cap-small n h = let e : n * 1 ≡ n = mul-one n in omega arith
 
-pub cap-none : (n : ℕ) → n ≤ 257 → min 257 (n + 0) ≡ n
+pub cap-none : (n : ℕ) → n ≤ countTop → min countTop (n + 0) ≡ n
 cap-none n h = omega arith
 
-pub cap-sum : (n c r : ℕ) → min 257 (n + (c + r)) ≡ min 257 (min 257 (n + min 257 c) + r)
+pub cap-sum : (n c r : ℕ) → min countTop (n + (c + r)) ≡ min countTop (min countTop (n + min countTop c) + r)
 cap-sum n c r = omega arith
 
 -- ---- an entry
@@ -72,11 +73,11 @@ entry-length = entry-cases (λ t. lengthOf t ≡ 1) (λ v. refl) (λ v. refl) (�
 
 -- ---- lists without alternatives
 
-pub flat-count-end : (n : ℕ) (ws : List ℕ) → n ≤ 257 → length ws < 4 → min 257 (n * count (flatIn ws)) ≡ n
+pub flat-count-end : (n : ℕ) (ws : List ℕ) → n ≤ countTop → length ws < 4 → min countTop (n * count (flatIn ws)) ≡ n
 unfolding count
 flat-count-end n ws h l = rw (flat-end ws l) (cap-small n h)
 
-pub flat-count-more : (n : ℕ) (ws : List ℕ) → 4 ≤ length ws → min 257 (n * count (flatIn ws)) ≡ min 257 (min 257 (n * min 257 (countOf (firstEntry ws))) * count (flatIn (drop 4 ws)))
+pub flat-count-more : (n : ℕ) (ws : List ℕ) → 4 ≤ length ws → min countTop (n * count (flatIn ws)) ≡ min countTop (min countTop (n * min countTop (countOf (firstEntry ws))) * count (flatIn (drop 4 ws)))
 unfolding count
 flat-count-more n ws h = rw (flat-step ws h) (cap-more n (countOf (firstEntry ws)) (count (flatIn (drop 4 ws))))
 
@@ -95,15 +96,15 @@ flat-length =
 -- ---- lists after their marks
 
 module _ (ws : List ℕ) (h : 4 ≤ length ws) where
-  pub lists-count-more : (n : ℕ) → min 257 (n + countIn (listsIn ws)) ≡ min 257 (min 257 (n + min 257 (count (flatIn (inside ws)))) + countIn (listsIn (drop (ends ws) ws)))
+  pub lists-count-more : (n : ℕ) → min countTop (n + countIn (listsIn ws)) ≡ min countTop (min countTop (n + min countTop (count (flatIn (inside ws)))) + countIn (listsIn (drop (ends ws) ws)))
   unfolding count
   lists-count-more n = rw (lists-step ws h) (cap-sum n (count (flatIn (inside ws))) (countIn (listsIn (drop (ends ws) ws))))
 
-  pub lists-combinations-more : (n : ℕ) → min 257 (n * combinationsIn (listsIn ws)) ≡ min 257 (min 257 (n * min 257 (count (flatIn (inside ws)))) * combinationsIn (listsIn (drop (ends ws) ws)))
+  pub lists-combinations-more : (n : ℕ) → min countTop (n * combinationsIn (listsIn ws)) ≡ min countTop (min countTop (n * min countTop (count (flatIn (inside ws)))) * combinationsIn (listsIn (drop (ends ws) ws)))
   unfolding combinations
   lists-combinations-more n =
       rw (lists-step ws h) (cap-more n (combinations (flatIn (inside ws))) (combinationsIn (listsIn (drop (ends ws) ws)))
-      ∙ ap (λ (x : ℕ). min 257 (min 257 (n * min 257 x) * combinationsIn (listsIn (drop (ends ws) ws)))) (flat-combinations (inside ws)))
+      ∙ ap (λ (x : ℕ). min countTop (min countTop (n * min countTop x) * combinationsIn (listsIn (drop (ends ws) ws)))) (flat-combinations (inside ws)))
 
   pub lists-shorter : (n : ℕ) → shorter (listsIn ws) n ≡ shorter (listsIn (drop (ends ws) ws)) (min n (length (inside ws) / 4))
   unfolding shorter
@@ -117,11 +118,11 @@ module _ (ws : List ℕ) (h : 4 ≤ length ws) where
   length-inside = length-take (ends ws - 4) (drop 4 ws) ∙ (let a = length-drop 4 ws in let b = ends-le ws in omega arith)
 
 module _ (ws : List ℕ) (h : length ws < 4) where
-  pub lists-count-end : (n : ℕ) → n ≤ 257 → min 257 (n + countIn (listsIn ws)) ≡ n
+  pub lists-count-end : (n : ℕ) → n ≤ countTop → min countTop (n + countIn (listsIn ws)) ≡ n
   unfolding count
   lists-count-end n l = rw (lists-end ws h) (cap-none n l)
 
-  pub lists-combinations-end : (n : ℕ) → n ≤ 257 → min 257 (n * combinationsIn (listsIn ws)) ≡ n
+  pub lists-combinations-end : (n : ℕ) → n ≤ countTop → min countTop (n * combinationsIn (listsIn ws)) ≡ n
   unfolding combinations
   lists-combinations-end n l = rw (lists-end ws h) (cap-small n l)
 
@@ -158,11 +159,11 @@ pub token-length-entry : (ws : List ℕ) → (getD ws 0 0 ≡ 5 → ⊥) → len
 token-length-entry ws f = ap lengthOf (token-entry ws f) ∙ entry-length (getD ws 0 0) (getD ws 1 0) (getD ws 2 0)
 
 module _ (ws : List ℕ) (h : 4 ≤ length ws) where
-  pub tokens-count-more : (n : ℕ) → min 257 (n * count (tokensIn ws)) ≡ min 257 (min 257 (n * min 257 (countOf (tokenIn ws))) * count (tokensIn (drop (width ws) ws)))
+  pub tokens-count-more : (n : ℕ) → min countTop (n * count (tokensIn ws)) ≡ min countTop (min countTop (n * min countTop (countOf (tokenIn ws))) * count (tokensIn (drop (width ws) ws)))
   unfolding count
   tokens-count-more n = rw (tokens-step ws h) (cap-more n (countOf (tokenIn ws)) (count (tokensIn (drop (width ws) ws))))
 
-  pub tokens-combinations-more : (n : ℕ) → min 257 (n * combinations (tokensIn ws)) ≡ min 257 (min 257 (n * min 257 (combinationsOf (tokenIn ws))) * combinations (tokensIn (drop (width ws) ws)))
+  pub tokens-combinations-more : (n : ℕ) → min countTop (n * combinations (tokensIn ws)) ≡ min countTop (min countTop (n * min countTop (combinationsOf (tokenIn ws))) * combinations (tokensIn (drop (width ws) ws)))
   unfolding combinations
   tokens-combinations-more n = rw (tokens-step ws h) (cap-more n (combinationsOf (tokenIn ws)) (combinations (tokensIn (drop (width ws) ws))))
 
@@ -171,11 +172,11 @@ module _ (ws : List ℕ) (h : 4 ≤ length ws) where
   tokens-length-more = rw (tokens-step ws h)
 
 module _ (ws : List ℕ) (h : length ws < 4) where
-  pub tokens-count-end : (n : ℕ) → n ≤ 257 → min 257 (n * count (tokensIn ws)) ≡ n
+  pub tokens-count-end : (n : ℕ) → n ≤ countTop → min countTop (n * count (tokensIn ws)) ≡ n
   unfolding count
   tokens-count-end n l = rw (tokens-end ws h) (cap-small n l)
 
-  pub tokens-combinations-end : (n : ℕ) → n ≤ 257 → min 257 (n * combinations (tokensIn ws)) ≡ n
+  pub tokens-combinations-end : (n : ℕ) → n ≤ countTop → min countTop (n * combinations (tokensIn ws)) ≡ n
   unfolding combinations
   tokens-combinations-end n l = rw (tokens-end ws h) (cap-small n l)
 
@@ -185,14 +186,14 @@ module _ (ws : List ℕ) (h : length ws < 4) where
 
 -- ---- in the words of the code
 
-pub taken-capped : (ws : List ℕ) (c : ℕ) → c ≡ length (taken (firstEntry ws)) → c ≤ 256 → c ≡ min 257 (countOf (firstEntry ws))
+pub taken-capped : (ws : List ℕ) (c : ℕ) → c ≡ length (taken (firstEntry ws)) → c ≤ 256 → c ≡ min countTop (countOf (firstEntry ws))
 taken-capped ws c e l = let f = entry-count (getD ws 0 0) (getD ws 1 0) (getD ws 2 0) in omega arith
 
 pub token-tallied : (ws : List ℕ) (t : Tally) → getD ws 0 0 ≡ 5 → Tallied t (countIn (listsIn (inside ws))) (combinationsIn (listsIn (inside ws))) → Tallied t (countOf (tokenIn ws)) (combinationsOf (tokenIn ws))
 token-tallied ws t k h =
     record {
-      literals-are = h .literals-are ∙ ap (min 257) (sym (token-count-inside ws k));
-      combinations-are = h .combinations-are ∙ ap (min 257) (sym (token-combinations-inside ws k));
+      literals-are = h .literals-are ∙ ap (min countTop) (sym (token-count-inside ws k));
+      combinations-are = h .combinations-are ∙ ap (min countTop) (sym (token-combinations-inside ws k));
     }
 
 pub entry-tallied : (ws : List ℕ) (n : ℕ) → (getD ws 0 0 ≡ 5 → ⊥) → n ≡ length (taken (firstEntry ws)) → n ≤ 256 → Tallied (record { literals = n; combinations = n }) (countOf (tokenIn ws)) (combinationsOf (tokenIn ws))

@@ -3,13 +3,15 @@
 ghost use mathlib.Core.Path.{_≡_};
 ghost use Prim.Native.Nat.{_+_, _*_, _≤_, min};
 ghost use lib.ListN.{length};
+ghost use Rattle.tallies.specs.Tallies.{countTop};
 ghost use Rattle.picking.specs.Literals.{combinationsOf, combinations, combinationsIn, lengthOf, lengthIn, shortest};
 ghost use Rattle.picking.specs.Numbers.{countOf, count, countIn};
 ghost use Rattle.entries.specs.Words.{flatIn, listsIn, tokenIn, width, tokensIn};
 ghost use Rattle.tallies.specs.Tallies.{Tallied};
+use base::LITERAL_LIMIT;
 
-// Counts above 256 are all one to the picker, so they stop at 257.
-const TOP: usize = 257;
+// Counts above the limit, which combinations share with literals, are all one to the picker, so they stop right above it.
+const COUNT_TOP: usize = LITERAL_LIMIT + 1;
 
 fn smaller(a: usize, b: usize) -> usize
     ensures { λ r. ⌜ r ≡ min a b ⌝ }
@@ -18,14 +20,14 @@ fn smaller(a: usize, b: usize) -> usize
 }
 
 fn times(a: usize, b: usize) -> usize
-    requires { ⌜ (a ≤ 257) × (b ≤ 257) ⌝ }
-    ensures { λ r. ⌜ r ≡ min 257 (a * b) ⌝ }
+    requires { ⌜ (a ≤ countTop) × (b ≤ countTop) ⌝ }
+    ensures { λ r. ⌜ r ≡ min countTop (a * b) ⌝ }
 {
-    smaller(TOP, a * b)
+    smaller(COUNT_TOP, a * b)
 }
 
 pub fn count_list(ws: &[u32]) -> usize
-    ensures { λ r. ⌜ r ≡ min 257 (count (flatIn (now (ws .entry)))) ⌝ }
+    ensures { λ r. ⌜ r ≡ min countTop (count (flatIn (now (ws .entry)))) ⌝ }
 {
     let mut rest = ws;
     let mut n = 1;
@@ -37,7 +39,7 @@ pub fn count_list(ws: &[u32]) -> usize
     n
 }
 
-// How many literals, and how many combinations by 01's count, each up to 257.
+// How many literals, and how many combinations by 01's count, each up to that.
 pub struct Tally {
     pub literals: usize,
     pub combinations: usize,
@@ -52,7 +54,7 @@ fn tally_lists(ws: &[u32]) -> Tally
     while 4 <= rest.len() {
         let e = entries::end_of(rest);
         let n = count_list(&rest[4..e]);
-        literals = smaller(TOP, literals + n);
+        literals = smaller(COUNT_TOP, literals + n);
         combinations = times(combinations, n);
         rest = &rest[e..];
     }

@@ -1,4 +1,5 @@
 -- `compiledoor::compile_text` meets its contract. Assumes nothing.
+use Rattle.meaning.specs.Limits.{tokenPool}
 use Rattle.compiledoor.proofs.DoorLaws as law
 use Rattle.compiledoor.specs.Door.{said}
 use lib.ListN.{length}
@@ -31,8 +32,8 @@ part-compile-tokens-end c =
     let at-start = c .before .before .before .before .before .before .before .before .before .before in
     let g = (law.got (at-start .args .text .now) _ (at-read .last .1 .0)
     (at-read .result) (at-read .ensures .0) (at-read .ensures .1)
-    (le-refl 4096) (at-r .given .0 .0) (at-r .given .0 .1 .0) (at-r .given .1)) .fits in
-    let k : length (at-read .last .1 .0) ≡ 4096 = at-read .kept .1 .0 in omega arith
+    (le-refl tokenPool) (at-r .given .0 .0) (at-r .given .0 .1 .0) (at-r .given .1)) .fits in
+    let k : length (at-read .last .1 .0) ≡ tokenPool = at-read .kept .1 .0 in omega arith
 
 compile-tokens-requires : tie.Need-compile-tokens-requires
 compile-tokens-requires c κs =
@@ -41,7 +42,7 @@ compile-tokens-requires c κs =
     let at-start = c .before .before .before .before .before .before .before .before .before .before .before .before .before in (
       (law.got (at-start .args .text .now) _
           (at-read .last .1 .0) (at-read .result)
-          (at-read .ensures .0) (at-read .ensures .1) (le-refl 4096)
+          (at-read .ensures .0) (at-read .ensures .1) (le-refl tokenPool)
           (at-r .given .0 .0) (at-r .given .0 .1 .0)
           (at-r .given .1)) .whole,
       at-start .pre .0,
@@ -74,7 +75,7 @@ returns c =
     (at-read .last .1 .0)
     (at-read .result)
     (at-read .ensures .0)
-    (at-read .ensures .1) (le-refl 4096)
+    (at-read .ensures .1) (le-refl tokenPool)
     (at-r .given .0 .0)
     (at-r .given .0 .1 .0)
     (at-r .given .1) in law.text-compiled
@@ -108,7 +109,7 @@ returns-2 c =
     (at-read .last .1 .0)
     (at-read .result)
     (at-read .ensures .0)
-    (at-read .ensures .1) (le-refl 4096)
+    (at-read .ensures .1) (le-refl tokenPool)
     (at-r2 .given .0 .0) (at-r2 .given .0 .1 .0)
     (at-r2 .given .1)) (at-clear .ensures .0) (at-clear .ensures .1)
 

@@ -1,4 +1,5 @@
 -- `compiler::clear` meets its contract. Assumes nothing.
+use Rattle.meaning.specs.Limits.{nodePool}
 use Rattle.base.proofs.PoolLaws as pool
 use mathlib.Core.Path.{_∙_}
 use borrow.Author.Needs.{needs}
@@ -22,7 +23,7 @@ returns c =
     let at-zero-nodes2 = c .before .before .zero-nodes2 in
     let at-zero-nodes = c .before .before .before .before .before .before .zero-nodes in
     let at-start = c .before .before .before .before .before .before .before .before .before .before in
-    (at-zero-nodes .ensures ∙ pool.zeroed-cleared 512 (at-start .args .forward .now), at-zero-nodes2 .ensures ∙ pool.zeroed-cleared 512 (at-start .args .reverse .now))
+    (at-zero-nodes .ensures ∙ pool.zeroed-cleared nodePool (at-start .args .forward .now), at-zero-nodes2 .ensures ∙ pool.zeroed-cleared nodePool (at-start .args .reverse .now))
 
 pub clear-spec : {M : Type 1} → statement M
 clear-spec =

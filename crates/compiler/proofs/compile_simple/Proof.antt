@@ -1,4 +1,5 @@
 -- `compiler::compile_simple` meets its contract. Assumes nothing.
+use Rattle.meaning.specs.Limits.{entryLimit}
 use Rattle.compiler.proofs.ProgramLaws as law
 use Rattle.compiler.specs.Made.{Makes}
 use Rattle.compiling.specs.Compile.{Compiled}
@@ -26,7 +27,7 @@ part-add-tokens-end : tie.Need-part-add-tokens-end
 part-add-tokens-end c =
     let at-find-starts = c .before .before .find-starts in
     let at-start = c .before .before .before .before .before .before .before in
-    let k : length (at-find-starts .last .1 .0) ≡ 1024 = at-find-starts .kept .1 .0 in let c = law.count-fits (at-start .args .tokens .now) ((at-start .pre .0) .tokens) ((at-start .pre .0) .entered) ((at-start .pre .0) .short) (at-find-starts .result) ((at-find-starts .ensures ((at-start .pre .0) .tokens) ((at-start .pre .0) .entered)) .0) in omega arith
+    let k : length (at-find-starts .last .1 .0) ≡ entryLimit = at-find-starts .kept .1 .0 in let c = law.count-fits (at-start .args .tokens .now) ((at-start .pre .0) .tokens) ((at-start .pre .0) .entered) ((at-start .pre .0) .short) (at-find-starts .result) ((at-find-starts .ensures ((at-start .pre .0) .tokens) ((at-start .pre .0) .entered)) .0) in omega arith
 
 slice-aggregate-add-tokens : tie.Need-slice-aggregate-add-tokens
 slice-aggregate-add-tokens c = search needs
@@ -52,7 +53,7 @@ part-add-tokens-end-2 : tie.Need-part-add-tokens-end-2
 part-add-tokens-end-2 c =
     let at-find-starts = c .before .before .before .before .before .before .before .find-starts in
     let at-start = c .before .before .before .before .before .before .before .before .before .before .before .before in
-    let k : length (at-find-starts .last .1 .0) ≡ 1024 = at-find-starts .kept .1 .0 in let c = law.count-fits (at-start .args .tokens .now) ((at-start .pre .0) .tokens) ((at-start .pre .0) .entered) ((at-start .pre .0) .short) (at-find-starts .result) ((at-find-starts .ensures ((at-start .pre .0) .tokens) ((at-start .pre .0) .entered)) .0) in omega arith
+    let k : length (at-find-starts .last .1 .0) ≡ entryLimit = at-find-starts .kept .1 .0 in let c = law.count-fits (at-start .args .tokens .now) ((at-start .pre .0) .tokens) ((at-start .pre .0) .entered) ((at-start .pre .0) .short) (at-find-starts .result) ((at-find-starts .ensures ((at-start .pre .0) .tokens) ((at-start .pre .0) .entered)) .0) in omega arith
 
 slice-aggregate-add-tokens-2 : tie.Need-slice-aggregate-add-tokens-2
 slice-aggregate-add-tokens-2 c = search needs

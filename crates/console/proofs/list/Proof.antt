@@ -1,5 +1,7 @@
 -- What was read lies within the buffer. Assumes nothing.
+use Prim.Native.Nat.{_+_}
 use native.Mathlib.Omega.{arith}
+use Rattle.meaning.specs.Limits.{textLimit}
 use Rattle.console.proofs.InputLaws.{bytes-within}
 use borrow.Author.Needs.{needs}
 use Rattle.console.proofs.list.Statement.{statement}
@@ -39,7 +41,7 @@ part-show-end c =
     let d = at-fill in
     let g = at-r .given in
     let l = d .kept .1 .0 in
-    let f = bytes-within (d .result) (g .0 .0) 4097 (d .ensures) (g .1) in
+    let f = bytes-within (d .result) (g .0 .0) (textLimit + 1) (d .ensures) (g .1) in
     omega arith
 
 show-requires : tie.Need-show-requires

@@ -1,5 +1,6 @@
 -- Each way out gives what the definition gives there. Assumes nothing.
 use mathlib.Core.Path.{sym, _∙_}
+use Prim.Native.Char.{code}
 use Rattle.reading.proofs.PieceLaws.{here-at}
 use Rattle.digits.specs.Answers.{upperOf}
 use Rattle.reading.proofs.PieceSteps.{closed-else, closed-at}
@@ -24,7 +25,7 @@ add-checked-jump c =
     let at-if1 = c .if1 in
     let at-peek = c .before .peek in
     let at-start = c .before .before .before in
-    omega (arith, here-at (at-start .args .text .now) (at-start .args .x) 93 (sym (at-peek .ensures) ∙ at-if1 .left) (omega arith))
+    omega (arith, here-at (at-start .args .text .now) (at-start .args .x) (code "]") (sym (at-peek .ensures) ∙ at-if1 .left) (omega arith))
 
 checked-jump-requires : tie.Need-checked-jump-requires
 checked-jump-requires c κs = search needs

@@ -1,5 +1,6 @@
 -- Each way out gives what the definition gives there. Assumes nothing.
 use mathlib.Core.Path.{sym, _∙_}
+use Prim.Native.Char.{code}
 use Rattle.reading.specs.Pieces.{digit}
 use Rattle.reading.proofs.PieceLaws.{within-true}
 use Rattle.meaning.specs.Tokens.{left}
@@ -16,7 +17,7 @@ sub-t3 c =
     let at-if1 = c .if1 in
     let at-in-range = c .before .in-range in
     let at-start = c .before .before in
-    omega (arith, within-true 48 57 (at-start .args .c) (sym (at-in-range .ensures) ∙ at-if1 .taken))
+    omega (arith, within-true (code "0") (code "9") (at-start .args .c) (sym (at-in-range .ensures) ∙ at-if1 .taken))
 
 returns : tie.Need-returns
 unfolding digit
@@ -33,7 +34,7 @@ sub-t5 c =
     let at-if2 = c .if2 in
     let at-in-range2 = c .before .in-range2 in
     let at-start = c .before .before .before .before in
-    omega (arith, within-true 65 70 (at-start .args .c) (sym (at-in-range2 .ensures) ∙ at-if2 .taken))
+    omega (arith, within-true (code "A") (code "F") (at-start .args .c) (sym (at-in-range2 .ensures) ∙ at-if2 .taken))
 
 returns-2 : tie.Need-returns-2
 unfolding digit
@@ -52,7 +53,7 @@ sub-t7 c =
     let at-if3 = c .if3 in
     let at-in-range3 = c .before .in-range3 in
     let at-start = c .before .before .before .before .before .before in
-    omega (arith, within-true 97 102 (at-start .args .c) (sym (at-in-range3 .ensures) ∙ at-if3 .taken))
+    omega (arith, within-true (code "a") (code "f") (at-start .args .c) (sym (at-in-range3 .ensures) ∙ at-if3 .taken))
 
 returns-3 : tie.Need-returns-3
 unfolding digit

@@ -1,4 +1,5 @@
 -- Each way out gives what the definition gives there. Assumes nothing.
+use Prim.Native.Char.{code}
 use borrow.Author.Tests.{ne-eqb}
 use Rattle.reading.specs.Blanks.{blank}
 use Rattle.meaning.specs.Tokens.{left}
@@ -30,7 +31,7 @@ returns-4 c =
     let at-if2 = c .before .if2 in
     let at-if1 = c .before .before .if1 in
     let at-start = c .before .before .before in
-    simp (ne-eqb (at-start .args .c) 32 (at-if1 .left), ne-eqb (at-start .args .c) 9 (at-if2 .left), ne-eqb (at-start .args .c) 13 (at-if3 .left))
+    simp (ne-eqb (at-start .args .c) (code " ") (at-if1 .left), ne-eqb (at-start .args .c) (code "\t") (at-if2 .left), ne-eqb (at-start .args .c) (code "\r") (at-if3 .left))
 
 pub is-blank-spec : {M : Type 1} → statement M
 is-blank-spec = tie.close (tie.spec returns returns-2 returns-3 returns-4)

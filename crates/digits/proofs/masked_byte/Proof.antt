@@ -1,5 +1,6 @@
 -- Each way out gives what the definition gives there. Assumes nothing.
 use mathlib.Core.Path.{sym, ap, _∙_}
+use Prim.Native.Char.{code}
 use Prim.Native.Nat.{ℕ, _+_}
 use lib.ListN.{getD}
 use Rattle.reading.specs.Pieces.{found, digit}
@@ -21,7 +22,7 @@ add-peek c =
     let at-if1 = c .if1 in
     let at-peek = c .before .peek in
     let at-start = c .before .before .before in
-    omega (arith, here-at (at-start .args .text .now) (at-start .args .at) 63 (sym (at-peek .ensures) ∙ at-if1 .taken) (omega arith))
+    omega (arith, here-at (at-start .args .text .now) (at-start .args .at) (code "?") (sym (at-peek .ensures) ∙ at-if1 .taken) (omega arith))
 
 peek-requires-2 : tie.Need-peek-requires-2
 peek-requires-2 c κs = search needs
@@ -31,14 +32,14 @@ add-t11 c =
     let at-if2 = c .if2 in
     let at-peek2 = c .before .peek2 in
     let at-start = c .before .before .before .before .before in
-    omega (arith, here-at (at-start .args .text .now) ((at-start .args .at) + 1) 63 (sym (at-peek2 .ensures) ∙ at-if2 .taken) (omega arith))
+    omega (arith, here-at (at-start .args .text .now) ((at-start .args .at) + 1) (code "?") (sym (at-peek2 .ensures) ∙ at-if2 .taken) (omega arith))
 
 add-skip-blanks : tie.Need-add-skip-blanks
 add-skip-blanks c =
     let at-if2 = c .if2 in
     let at-peek2 = c .before .peek2 in
     let at-start = c .before .before .before .before .before in
-    omega (arith, here-at (at-start .args .text .now) ((at-start .args .at) + 1) 63 (sym (at-peek2 .ensures) ∙ at-if2 .taken) (omega arith))
+    omega (arith, here-at (at-start .args .text .now) ((at-start .args .at) + 1) (code "?") (sym (at-peek2 .ensures) ∙ at-if2 .taken) (omega arith))
 
 skip-blanks-requires : tie.Need-skip-blanks-requires
 skip-blanks-requires c κs = search needs
@@ -147,14 +148,14 @@ add-t20 c =
     let at-if3 = c .if3 in
     let at-peek3 = c .before .peek3 in
     let at-start = c .before .before .before .before .before .before .before .before .before in
-    omega (arith, here-at (at-start .args .text .now) ((at-start .args .at) + 1) 63 (sym (at-peek3 .ensures) ∙ at-if3 .left) (omega arith))
+    omega (arith, here-at (at-start .args .text .now) ((at-start .args .at) + 1) (code "?") (sym (at-peek3 .ensures) ∙ at-if3 .left) (omega arith))
 
 add-skip-blanks-3 : tie.Need-add-skip-blanks-3
 add-skip-blanks-3 c =
     let at-if3 = c .if3 in
     let at-peek3 = c .before .peek3 in
     let at-start = c .before .before .before .before .before .before .before .before .before in
-    omega (arith, here-at (at-start .args .text .now) ((at-start .args .at) + 1) 63 (sym (at-peek3 .ensures) ∙ at-if3 .left) (omega arith))
+    omega (arith, here-at (at-start .args .text .now) ((at-start .args .at) + 1) (code "?") (sym (at-peek3 .ensures) ∙ at-if3 .left) (omega arith))
 
 skip-blanks-requires-3 : tie.Need-skip-blanks-requires-3
 skip-blanks-requires-3 c κs = search needs

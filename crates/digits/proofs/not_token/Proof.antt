@@ -1,5 +1,6 @@
 -- Each way out gives what the definition gives there. Assumes nothing.
 use mathlib.Core.Path.{sym, ap, _∙_}
+use Prim.Native.Char.{code}
 use Rattle.reading.specs.Pieces.{negated}
 use Rattle.reading.proofs.PieceLaws.{here-at}
 use Rattle.digits.specs.Answers.{spelled}
@@ -27,7 +28,7 @@ add-hex-byte c =
     let at-if1 = c .if1 in
     let at-peek = c .before .peek in
     let at-start = c .before .before .before in
-    omega (arith, here-at (at-start .args .text .now) (at-start .args .at) 126 (sym (at-peek .ensures) ∙ at-if1 .left) (omega arith))
+    omega (arith, here-at (at-start .args .text .now) (at-start .args .at) (code "~") (sym (at-peek .ensures) ∙ at-if1 .left) (omega arith))
 
 hex-byte-requires : tie.Need-hex-byte-requires
 hex-byte-requires c κs = search needs
@@ -55,7 +56,7 @@ add-t23 c =
     let at-if1 = c .before .before .before .if1 in
     let at-peek = c .before .before .before .before .peek in
     let at-start = c .before .before .before .before .before .before in
-    omega (arith, here-at (at-start .args .text .now) (at-start .args .at) 126 (sym (at-peek .ensures) ∙ at-if1 .left) (omega arith))
+    omega (arith, here-at (at-start .args .text .now) (at-start .args .at) (code "~") (sym (at-peek .ensures) ∙ at-if1 .left) (omega arith))
 
 returns-2 : tie.Need-returns-2
 unfolding negated

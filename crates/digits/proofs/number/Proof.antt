@@ -1,11 +1,13 @@
 -- The digits from here spell, after the value so far, what all of them spell. Assumes nothing.
 use mathlib.Core.Path.{_≡_, refl, sym, ap, _∙_}
+use Prim.Native.Char.{code}
 use Prim.Native.Nat.{ℕ, _+_, _-_, _*_, _≤_, _<_}
 use lib.ListN.{length, drop, getD}
 use borrow.Author.Tests.{not-true, not-false}
-use Rattle.reading.specs.Pieces.{found, within, decimals, numeral}
+use Rattle.reading.specs.Pieces.{found, decimals, numeral, decimal}
 use Rattle.reading.proofs.PieceLaws.{here-in, within-true, number-none, number-next, numeral-from}
 use Rattle.reading.proofs.PieceSteps.{number-absent, number-found, number-big}
+use Rattle.meaning.specs.Limits.{numberLimit}
 use Rattle.meaning.specs.Tokens.{left}
 use native.Mathlib.Omega.{arith}
 use borrow.Author.Needs.{needs}
@@ -13,7 +15,7 @@ use Rattle.digits.proofs.number.Statement.{statement}
 use Rattle.digits.proofs.number.Tie as tie
 
 abbrev Inv-loop : tie.InvT-loop
-Inv-loop text at first value₀ i₀ value i = (numeral 0 (drop at text) ≡ numeral value (drop i text)) × (at + decimals (drop at text) ≡ i + decimals (drop i text)) × (value ≤ 4294967295)
+Inv-loop text at first value₀ i₀ value i = (numeral 0 (drop at text) ≡ numeral value (drop i text)) × (at + decimals (drop at text) ≡ i + decimals (drop i text)) × (value ≤ numberLimit)
 
 abbrev μ-loop : tie.MeasureT-loop
 μ-loop text at first value₀ i₀ value i = length text - i
@@ -30,7 +32,7 @@ returns c =
     let at-in-range = c .before .in-range in
     let at-peek = c .before .before .peek in
     let at-start = c .before .before .before .before in
-    sym (number-absent (at-start .args .text .now) (at-start .args .at) (ap (within 48 57) (sym (at-peek .ensures)) ∙ sym (at-in-range .ensures) ∙ not-true (at-in-range .result) (at-if1 .taken)))
+    sym (number-absent (at-start .args .text .now) (at-start .args .at) (ap decimal (sym (at-peek .ensures)) ∙ sym (at-in-range .ensures) ∙ not-true (at-in-range .result) (at-if1 .taken)))
 
 loop-holds : tie.Need-loop-holds Inv-loop μ-loop
 loop-holds c = (refl, refl, omega arith)
@@ -61,11 +63,11 @@ returns-2 c =
     let at-peek = c .before .before .before .before .before .before .before .peek in
     let at-start = c .before .before .before .before .before .before .before .before .before in
     let z = number-none (at-start .args .text .now) (at-loop .value) (at-loop .i)
-    (ap (within 48 57) (sym (at-peek2 .ensures)) ∙ sym (at-in-range2 .ensures) ∙ not-true (at-in-range2 .result) (at-if2 .taken)) in
+    (ap decimal (sym (at-peek2 .ensures)) ∙ sym (at-in-range2 .ensures) ∙ not-true (at-in-range2 .result) (at-if2 .taken)) in
     let w = at-loop .inv .1 in
     let q : (at-start .args .at) + decimals (drop (at-start .args .at) (at-start .args .text .now)) ≡ (at-loop .i) = omega arith in ap (λ (e : ℕ). found (at-loop .value) (at-loop .i) e)
     (at-skip-blanks .ensures)
-    ∙ sym (number-found (at-start .args .text .now) (at-start .args .at) (ap (within 48 57) (sym (at-peek .ensures)) ∙ sym (at-in-range .ensures) ∙ not-false (at-in-range .result) (at-if1 .left))
+    ∙ sym (number-found (at-start .args .text .now) (at-start .args .at) (ap decimal (sym (at-peek .ensures)) ∙ sym (at-in-range .ensures) ∙ not-false (at-in-range .result) (at-if1 .left))
     (at-loop .inv .0 ∙ z .1) q (at-loop .inv .2))
 
 mul-value : tie.Need-mul-value Inv-loop μ-loop
@@ -80,7 +82,7 @@ sub-wide c =
     let at-peek2 = c .before .before .peek2 in
     let at-loop = c .before .before .before .loop in
     let at-start = c .before .before .before .before .before .before .before .before in
-    let p = at-peek2 .ensures in let d = within-true 48 57 (getD (at-start .args .text .now) (at-loop .i) 0) (ap (within 48 57) (sym (at-peek2 .ensures)) ∙ sym (at-in-range2 .ensures) ∙ not-false (at-in-range2 .result) (at-if2 .left)) in let l = at-loop .inv .2 in omega arith
+    let p = at-peek2 .ensures in let d = within-true (code "0") (code "9") (getD (at-start .args .text .now) (at-loop .i) 0) (ap decimal (sym (at-peek2 .ensures)) ∙ sym (at-in-range2 .ensures) ∙ not-false (at-in-range2 .result) (at-if2 .left)) in let l = at-loop .inv .2 in omega arith
 
 wide-requires : tie.Need-wide-requires Inv-loop μ-loop
 wide-requires c κs = search needs
@@ -93,7 +95,7 @@ add-value c =
     let at-peek2 = c .before .before .before .peek2 in
     let at-loop = c .before .before .before .before .loop in
     let at-start = c .before .before .before .before .before .before .before .before .before in
-    let p = at-peek2 .ensures in let d = within-true 48 57 (getD (at-start .args .text .now) (at-loop .i) 0) (ap (within 48 57) (sym (at-peek2 .ensures)) ∙ sym (at-in-range2 .ensures) ∙ not-false (at-in-range2 .result) (at-if2 .left)) in let l = at-loop .inv .2 in let w = at-wide .ensures in omega arith
+    let p = at-peek2 .ensures in let d = within-true (code "0") (code "9") (getD (at-start .args .text .now) (at-loop .i) 0) (ap decimal (sym (at-peek2 .ensures)) ∙ sym (at-in-range2 .ensures) ∙ not-false (at-in-range2 .result) (at-if2 .left)) in let l = at-loop .inv .2 in let w = at-wide .ensures in omega arith
 
 returns-3 : tie.Need-returns-3 Inv-loop μ-loop
 returns-3 c =
@@ -108,17 +110,17 @@ returns-3 c =
     let at-peek = c .before .before .before .before .before .before .before .before .peek in
     let at-start = c .before .before .before .before .before .before .before .before .before .before in
     let p = at-peek2 .ensures in
-    let d = within-true 48 57 (getD (at-start .args .text .now) (at-loop .i) 0)
-    (ap (within 48 57) (sym (at-peek2 .ensures)) ∙ sym (at-in-range2 .ensures) ∙ not-false (at-in-range2 .result) (at-if2 .left)) in
+    let d = within-true (code "0") (code "9") (getD (at-start .args .text .now) (at-loop .i) 0)
+    (ap decimal (sym (at-peek2 .ensures)) ∙ sym (at-in-range2 .ensures) ∙ not-false (at-in-range2 .result) (at-if2 .left)) in
     let l = at-loop .inv .2 in
     let w = at-wide .ensures in
     let n = number-next (at-start .args .text .now) (at-loop .value) (at-loop .i)
-    (ap (within 48 57) (sym (at-peek2 .ensures)) ∙ sym (at-in-range2 .ensures) ∙ not-false (at-in-range2 .result) (at-if2 .left)) in
-    let m = numeral-from (10 * (at-loop .value) + (getD (at-start .args .text .now) (at-loop .i) 0 - 48)) (drop ((at-loop .i) + 1) (at-start .args .text .now)) in
+    (ap decimal (sym (at-peek2 .ensures)) ∙ sym (at-in-range2 .ensures) ∙ not-false (at-in-range2 .result) (at-if2 .left)) in
+    let m = numeral-from (10 * (at-loop .value) + (getD (at-start .args .text .now) (at-loop .i) 0 - code "0")) (drop ((at-loop .i) + 1) (at-start .args .text .now)) in
     let k = at-loop .inv .0 in
     let h = at-if3 .taken in
-    let b : 4294967295 < numeral 0 (drop (at-start .args .at) (at-start .args .text .now)) = omega arith in sym
-    (number-big (at-start .args .text .now) (at-start .args .at) (ap (within 48 57) (sym (at-peek .ensures)) ∙ sym (at-in-range .ensures) ∙ not-false (at-in-range .result) (at-if1 .left)) b)
+    let b : numberLimit < numeral 0 (drop (at-start .args .at) (at-start .args .text .now)) = omega arith in sym
+    (number-big (at-start .args .text .now) (at-start .args .at) (ap decimal (sym (at-peek .ensures)) ∙ sym (at-in-range .ensures) ∙ not-false (at-in-range .result) (at-if1 .left)) b)
 
 add-i : tie.Need-add-i Inv-loop μ-loop
 add-i c =
@@ -127,7 +129,7 @@ add-i c =
     let at-peek2 = c .before .before .before .before .peek2 in
     let at-loop = c .before .before .before .before .before .loop in
     let at-start = c .before .before .before .before .before .before .before .before .before .before in
-    omega (arith, here-in (at-start .args .text .now) (at-loop .i) (omega (arith, within-true 48 57 (getD (at-start .args .text .now) (at-loop .i) 0) (ap (within 48 57) (sym (at-peek2 .ensures)) ∙ sym (at-in-range2 .ensures) ∙ not-false (at-in-range2 .result) (at-if2 .left)))))
+    omega (arith, here-in (at-start .args .text .now) (at-loop .i) (omega (arith, within-true (code "0") (code "9") (getD (at-start .args .text .now) (at-loop .i) 0) (ap decimal (sym (at-peek2 .ensures)) ∙ sym (at-in-range2 .ensures) ∙ not-false (at-in-range2 .result) (at-if2 .left)))))
 
 loop-less : tie.Need-loop-less Inv-loop μ-loop
 loop-less c =
@@ -136,7 +138,7 @@ loop-less c =
     let at-peek2 = c .before .before .before .before .peek2 in
     let at-loop = c .before .before .before .before .before .loop in
     let at-start = c .before .before .before .before .before .before .before .before .before .before in
-    omega (arith, here-in (at-start .args .text .now) (at-loop .i) (omega (arith, within-true 48 57 (getD (at-start .args .text .now) (at-loop .i) 0) (ap (within 48 57) (sym (at-peek2 .ensures)) ∙ sym (at-in-range2 .ensures) ∙ not-false (at-in-range2 .result) (at-if2 .left)))))
+    omega (arith, here-in (at-start .args .text .now) (at-loop .i) (omega (arith, within-true (code "0") (code "9") (getD (at-start .args .text .now) (at-loop .i) 0) (ap decimal (sym (at-peek2 .ensures)) ∙ sym (at-in-range2 .ensures) ∙ not-false (at-in-range2 .result) (at-if2 .left)))))
 
 loop-again : tie.Need-loop-again Inv-loop μ-loop
 loop-again c =
@@ -148,14 +150,14 @@ loop-again c =
     let at-loop = c .before .before .before .before .before .loop in
     let at-start = c .before .before .before .before .before .before .before .before .before .before in
     let p = at-peek2 .ensures in
-    let d = within-true 48 57 (getD (at-start .args .text .now) (at-loop .i) 0)
-    (ap (within 48 57) (sym (at-peek2 .ensures)) ∙ sym (at-in-range2 .ensures) ∙ not-false (at-in-range2 .result) (at-if2 .left)) in
+    let d = within-true (code "0") (code "9") (getD (at-start .args .text .now) (at-loop .i) 0)
+    (ap decimal (sym (at-peek2 .ensures)) ∙ sym (at-in-range2 .ensures) ∙ not-false (at-in-range2 .result) (at-if2 .left)) in
     let l = at-loop .inv .2 in
     let w = at-wide .ensures in
     let n = number-next (at-start .args .text .now) (at-loop .value) (at-loop .i)
-    (ap (within 48 57) (sym (at-peek2 .ensures)) ∙ sym (at-in-range2 .ensures) ∙ not-false (at-in-range2 .result) (at-if2 .left)) in
+    (ap decimal (sym (at-peek2 .ensures)) ∙ sym (at-in-range2 .ensures) ∙ not-false (at-in-range2 .result) (at-if2 .left)) in
     let k = at-loop .inv .1 in
-    let q : 10 * (at-loop .value) + (getD (at-start .args .text .now) (at-loop .i) 0 - 48) ≡ 10 * (at-loop .value) + at-wide .result = omega arith in
+    let q : 10 * (at-loop .value) + (getD (at-start .args .text .now) (at-loop .i) 0 - code "0") ≡ 10 * (at-loop .value) + at-wide .result = omega arith in
     (at-loop .inv .0 ∙ n .1 ∙ ap (λ (m : ℕ). numeral m (drop ((at-loop .i) + 1) (at-start .args .text .now))) q, omega arith, at-if3 .left)
 
 pub number-spec : {M : Type 1} → statement M

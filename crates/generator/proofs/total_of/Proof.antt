@@ -3,6 +3,7 @@ use mathlib.Core.List.{flatten}
 use Prim.Native.Nat.{_+_, _-_, _*_, _≤_}
 use mathlib.Core.Path.{_≡_}
 use lib.ListN.{length, drop}
+use Rattle.meaning.specs.Limits.{entryLimit}
 use Rattle.picking.specs.Literals.{literals}
 use Rattle.entries.specs.Words.{tokensIn}
 use Rattle.generator.proofs.OutputLaws as law
@@ -12,7 +13,7 @@ use Rattle.generator.proofs.total_of.Statement.{statement}
 use Rattle.generator.proofs.total_of.Tie as tie
 
 abbrev Inv-loop : tie.InvT-loop
-Inv-loop ws n total₀ k₀ total k = (k ≤ n) × (total ≤ 1024 * k) × (total + length (flatten (drop k (literals (tokensIn ws)))) ≡ length (flatten (literals (tokensIn ws))))
+Inv-loop ws n total₀ k₀ total k = (k ≤ n) × (total ≤ entryLimit * k) × (total + length (flatten (drop k (literals (tokensIn ws)))) ≡ length (flatten (literals (tokensIn ws))))
 
 abbrev μ-loop : tie.MeasureT-loop
 μ-loop ws n total₀ k₀ total k = n - k

@@ -1,6 +1,7 @@
 -- What the compiling door answers is what the definition compiles. Assumes nothing.
 use mathlib.Core.Path.{ap, _∙_}
 use Prim.Native.Nat.{ℕ}
+use Rattle.meaning.specs.Limits.{nodePool}
 use Rattle.base.specs.Refusals.{numberOf}
 use Rattle.reading.specs.Lists.{reading}
 use Rattle.lines.specs.Lines.{refusedLine}
@@ -27,7 +28,7 @@ made-here : (c : lts.After-got claims reads.Pre reads.Post) → Made (reading (c
 made-here c =
     let k = c .before .before .before .before .compile in
     let g = c .got .given in
-    made-door (c .before .before .before .before .before .before .before .before .before .args .text .now) (zeros 512) (zeros 512) (k .last .1 .0) (k .last .1 .1 .0) (g .0 .0) (g .0 .1 .0) (g .0 .1 .1 .0) (k .result) (length-zeros 512) (length-zeros 512) (k .kept .1 .0 ∙ length-zeros 512) (k .kept .1 .1 .0 ∙ length-zeros 512) (g .1) (k .ensures .0) (k .ensures .1) (k .ensures .2)
+    made-door (c .before .before .before .before .before .before .before .before .before .args .text .now) (zeros nodePool) (zeros nodePool) (k .last .1 .0) (k .last .1 .1 .0) (g .0 .0) (g .0 .1 .0) (g .0 .1 .1 .0) (k .result) (length-zeros nodePool) (length-zeros nodePool) (k .kept .1 .0 ∙ length-zeros nodePool) (k .kept .1 .1 .0 ∙ length-zeros nodePool) (g .1) (k .ensures .0) (k .ensures .1) (k .ensures .2)
 
 slice-aggregate-compile : tie.Need-slice-aggregate-compile
 slice-aggregate-compile c = search needs
@@ -113,7 +114,7 @@ returns-2 c =
     let a = at-start .args in
     let k = at-compile in
     let g = at-got2 .given in
-    let e = refused-door (a .text .now) (zeros 512) (zeros 512) (g .0 .0) (g .0 .1 .0) (k .result) (length-zeros 512) (length-zeros 512) (g .1) (k .ensures .0) in
+    let e = refused-door (a .text .now) (zeros nodePool) (zeros nodePool) (g .0 .0) (g .0 .1 .0) (k .result) (length-zeros nodePool) (length-zeros nodePool) (g .1) (k .ensures .0) in
     put-same (listingOf (a .text .now)) (at-put-refused .ensures) (ap (λ (x : ℕ). refusedLine x (g .0 .1 .0)) (at-number .ensures) ∙ refused-lines (a .text .now) (numberOf (g .0 .0)) (g .0 .1 .0) e)
 
 pub put-listing-spec : {M : Type 1} → statement M

@@ -5,7 +5,7 @@ use Rattle.base.specs.Refusals.{numberOf}
 use Rattle.reading.specs.Lists.{reading}
 use Rattle.lines.specs.Lines.{literalsRefusedLine, pickedLines}
 use Rattle.printing.proofs.LaidLaws.{put-same}
-use Rattle.lister.specs.Listings.{pickedOf}
+use Rattle.lister.specs.Listings.{pickedOf, lentBytes, lentLengths}
 use Rattle.lister.proofs.DoorLaws.{Taken, taken-door, untaken-door, taken-lines, untaken-lines, taken-size, zeros, length-zeros}
 use native.Mathlib.Omega.{arith}
 use borrow.Author.Needs.{needs}
@@ -26,7 +26,7 @@ taken-here : (c : lts.After-got claims reads.Pre reads.Post) → Taken (reading 
 taken-here c =
     let k = c .before .before .before .before .literals in
     let g = c .got .given in
-    taken-door (zeros 32768) (zeros 256) (length-zeros 32768) (length-zeros 256) (c .before .before .before .before .before .before .before .before .before .args .text .now) (k .last .1 .0) (k .last .1 .1 .0) (g .0 .0) (g .0 .1 .0) (g .0 .1 .1 .0) (k .result) (g .1) (k .ensures .0) (k .ensures .1) (k .ensures .2)
+    taken-door (zeros lentBytes) (zeros lentLengths) (length-zeros lentBytes) (length-zeros lentLengths) (c .before .before .before .before .before .before .before .before .before .args .text .now) (k .last .1 .0) (k .last .1 .1 .0) (g .0 .0) (g .0 .1 .0) (g .0 .1 .1 .0) (k .result) (g .1) (k .ensures .0) (k .ensures .1) (k .ensures .2)
 
 slice-aggregate-literals : tie.Need-slice-aggregate-literals
 slice-aggregate-literals c = search needs
@@ -54,7 +54,7 @@ part-put-literals-end c =
     let at-literals = c .before .before .before .before .before .before .before .literals in
     let k = at-literals in
     let t = taken-here (c .before .before .before) in
-    omega (arith, t .few, k .kept .1 .1 .0, length-zeros 256)
+    omega (arith, t .few, k .kept .1 .1 .0, length-zeros lentLengths)
 
 slice-aggregate-put-literals : tie.Need-slice-aggregate-put-literals
 slice-aggregate-put-literals c = search needs
@@ -64,7 +64,7 @@ put-literals-requires c κs =
     let at-literals = c .before .before .before .before .before .before .before .before .before .literals in
     let k = at-literals in
     let t = taken-here (c .before .before .before .before .before) in
-    let b : length (k .last .1 .0) ≡ 32768 = k .kept .1 .0 ∙ length-zeros 32768 in
+    let b : length (k .last .1 .0) ≡ lentBytes = k .kept .1 .0 ∙ length-zeros lentBytes in
     let l = taken-size t in
     omega arith
 
@@ -103,7 +103,7 @@ returns-2 c =
     let a = at-start .args in
     let k = at-literals in
     let g = at-got2 .given in
-    let e = untaken-door (zeros 32768) (zeros 256) (length-zeros 32768) (length-zeros 256) (a .text .now) (g .0 .0) (g .0 .1 .0) (k .result) (g .1) (k .ensures .0) in
+    let e = untaken-door (zeros lentBytes) (zeros lentLengths) (length-zeros lentBytes) (length-zeros lentLengths) (a .text .now) (g .0 .0) (g .0 .1 .0) (k .result) (g .1) (k .ensures .0) in
     put-same (pickedLines (pickedOf (reading (a .text .now)))) (at-put-literals-refused .ensures) (ap literalsRefusedLine (at-number .ensures) ∙ untaken-lines (reading (a .text .now)) (numberOf (g .0 .0)) e)
 
 pub put-picked-spec : {M : Type 1} → statement M

@@ -1,6 +1,7 @@
 -- `literaldoor::literals` meets its contract. Assumes nothing.
 use native.Mathlib.Omega.{arith}
 use borrow.Author.Needs.{needs}
+use Rattle.meaning.specs.Limits.{tokenPool}
 use Rattle.literaldoor.proofs.DoorLaws as law
 use Rattle.literaldoor.proofs.ToldLaws as told
 use Rattle.literaldoor.specs.Door.{said}
@@ -32,14 +33,14 @@ part-pick-tokens-end c =
     let at-r = c .before .before .r in
     let at-read = c .before .before .before .before .before .read in
     let at-start = c .before .before .before .before .before .before .before .before .before .before in
-    let g = (into.got (at-start .args .text .now) _ (at-read .last .1 .0) (at-read .result) (at-read .ensures .0) (at-read .ensures .1) (le-refl 4096) (at-r .given .0 .0) (at-r .given .0 .1 .0) (at-r .given .1)) .fits in let k : length (at-read .last .1 .0) ≡ 4096 = at-read .kept .1 .0 in omega arith
+    let g = (into.got (at-start .args .text .now) _ (at-read .last .1 .0) (at-read .result) (at-read .ensures .0) (at-read .ensures .1) (le-refl tokenPool) (at-r .given .0 .0) (at-r .given .0 .1 .0) (at-r .given .1)) .fits in let k : length (at-read .last .1 .0) ≡ tokenPool = at-read .kept .1 .0 in omega arith
 
 pick-tokens-requires : tie.Need-pick-tokens-requires
 pick-tokens-requires c κs =
     let at-r = c .before .before .before .before .before .r in
     let at-read = c .before .before .before .before .before .before .before .before .read in
     let at-start = c .before .before .before .before .before .before .before .before .before .before .before .before .before in
-    let g = into.got (at-start .args .text .now) _ (at-read .last .1 .0) (at-read .result) (at-read .ensures .0) (at-read .ensures .1) (le-refl 4096) (at-r .given .0 .0) (at-r .given .0 .1 .0) (at-r .given .1) in told.entries-asked (at-start .args .text .now) _ (g .tokens) (g .outcome) _ (g .words) (g .few)
+    let g = into.got (at-start .args .text .now) _ (at-read .last .1 .0) (at-read .result) (at-read .ensures .0) (at-read .ensures .1) (le-refl tokenPool) (at-r .given .0 .0) (at-r .given .0 .1 .0) (at-r .given .1) in told.entries-asked (at-start .args .text .now) _ (g .tokens) (g .outcome) _ (g .words) (g .few)
 
 enum-known-r-2 : tie.Need-enum-known-r-2
 enum-known-r-2 c = search needs
@@ -56,7 +57,7 @@ returns c =
     let at-r = c .before .before .before .before .before .before .before .before .before .before .r in
     let at-read = c .before .before .before .before .before .before .before .before .before .before .before .before .before .read in
     let at-start = c .before .before .before .before .before .before .before .before .before .before .before .before .before .before .before .before .before .before in
-    let g = into.got (at-start .args .text .now) _ (at-read .last .1 .0) (at-read .result) (at-read .ensures .0) (at-read .ensures .1) (le-refl 4096) (at-r .given .0 .0) (at-r .given .0 .1 .0)
+    let g = into.got (at-start .args .text .now) _ (at-read .last .1 .0) (at-read .result) (at-read .ensures .0) (at-read .ensures .1) (le-refl tokenPool) (at-r .given .0 .0) (at-r .given .0 .1 .0)
     (at-r .given .1) in law.text-picked (at-start .args .text .now) _ (g .tokens) _ (said (at-pick-tokens .result)) (at-start .args .bytes .now) (at-start .args .lengths .now)
     (at-pick-tokens .last .1 .1 .0) (at-pick-tokens .last .1 .1 .1 .0) (g .outcome) (g .words) (at-pick-tokens .ensures)
 
@@ -65,7 +66,7 @@ returns-2 c =
     let at-r2 = c .before .r2 in
     let at-read = c .before .before .before .before .read in
     let at-start = c .before .before .before .before .before .before .before .before .before in
-    law.text-refused (at-start .args .text .now) (at-r2 .given .0 .0) (at-r2 .given .0 .1 .0) (at-start .args .bytes .now) (at-start .args .lengths .now) (into.got-refused (at-start .args .text .now) _ (at-read .last .1 .0) (at-read .result) (at-read .ensures .0) (at-read .ensures .1) (le-refl 4096) (at-r2 .given .0 .0) (at-r2 .given .0 .1 .0) (at-r2 .given .1))
+    law.text-refused (at-start .args .text .now) (at-r2 .given .0 .0) (at-r2 .given .0 .1 .0) (at-start .args .bytes .now) (at-start .args .lengths .now) (into.got-refused (at-start .args .text .now) _ (at-read .last .1 .0) (at-read .result) (at-read .ensures .0) (at-read .ensures .1) (le-refl tokenPool) (at-r2 .given .0 .0) (at-r2 .given .0 .1 .0) (at-r2 .given .1))
 
 pub literals-spec : {M : Type 1} → statement M
 literals-spec =

@@ -1,4 +1,5 @@
 -- `prefixes::prefix_in` meets its contract. Assumes nothing.
+use Rattle.meaning.specs.Limits.{literalLimit}
 use Rattle.picking.proofs.NumberLaws.{pos-right}
 use native.Mathlib.Nat.{mul-le-mul}
 use Rattle.picking.specs.Numbers.{countIn, prefixIn}
@@ -16,7 +17,7 @@ use Rattle.prefixes.proofs.prefix_in.Statement.{statement}
 use Rattle.prefixes.proofs.prefix_in.Tie as tie
 
 abbrev Inv-loop : tie.InvT-loop
-Inv-loop ls p q rest₀ left₀ rest left = (length rest ≤ length ls) × (countIn (listsIn rest) ≤ 256) × (prefixIn (listsIn ls) p q ≡ prefixIn (listsIn rest) p left)
+Inv-loop ls p q rest₀ left₀ rest left = (length rest ≤ length ls) × (countIn (listsIn rest) ≤ literalLimit) × (prefixIn (listsIn ls) p q ≡ prefixIn (listsIn rest) p left)
 
 abbrev μ-loop : tie.MeasureT-loop
 μ-loop ls p q rest₀ left₀ rest left = length rest
@@ -112,7 +113,7 @@ loop-again c =
     let at-loop = c .before .before .before .before .before .before .loop in
     let at-start = c .before .before .before .before .before .before .before .before in (
       omega (arith, part.part-le (at-end-of .result) (at-loop .rest .now)),
-      subst (λ (l : List ℕ). countIn (listsIn l) ≤ 256)
+      subst (λ (l : List ℕ). countIn (listsIn l) ≤ literalLimit)
           (ap (λ (x : ℕ). drop x (at-loop .rest .now)) (sym (at-end-of .ensures)) ∙ sym (part.part-all (at-end-of .result) (at-loop .rest .now)))
           (prefix.lists-few (at-loop .rest .now) (at-loop-test .taken) _ _ (at-end-of .ensures) (at-count-list .ensures) (at-loop .inv .1)),
       at-loop .inv .2

@@ -2,6 +2,7 @@
 use mathlib.Core.Path.{_≡_, _∙_}
 use lib.ListN.{length, drop, length-append}
 use lib.Seq.{length-take-le}
+use Rattle.meaning.specs.Limits.{tokenPool}
 use Rattle.readdoor.proofs.DoorLaws.{door-small, words-fit, door-read, door-refused}
 use native.Mathlib.Omega.{arith}
 use borrow.Author.Needs.{needs}
@@ -35,10 +36,10 @@ zero-words-requires c κs =
     let at-read-text = c .before .before .before .before .before .before .read-text in
     let at-if1 = c .before .before .before .before .before .before .before .before .if1 in
     let at-start = c .before .before .before .before .before .before .before .before .before .before .before in
-    let k : length (at-read-text .last .1 .0) ≡ 4096 = (at-read-text .kept .1 .0 ∙ length-take-le 4096 (at-start .args .pool .now) (at-if1 .left)) in
-    let a = length-append (at-read-text .last .1 .0) (drop 4096 (at-start .args .pool .now)) in (
+    let k : length (at-read-text .last .1 .0) ≡ tokenPool = (at-read-text .kept .1 .0 ∙ length-take-le tokenPool (at-start .args .pool .now) (at-if1 .left)) in
+    let a = length-append (at-read-text .last .1 .0) (drop tokenPool (at-start .args .pool .now)) in (
       words-fit (at-start .args .text .now) (at-start .args .pool .now) (at-read-text .last .1 .0) (at-read-text .result) (at-if1 .left)
-          (at-read-text .kept .1 .0 ∙ length-take-le 4096 (at-start .args .pool .now) (at-if1 .left)) (at-read-text .ensures) (at-r .given .0 .0) (at-r .given .0 .1 .0) (at-r .given .1),
+          (at-read-text .kept .1 .0 ∙ length-take-le tokenPool (at-start .args .pool .now) (at-if1 .left)) (at-read-text .ensures) (at-r .given .0 .0) (at-r .given .0 .1 .0) (at-r .given .1),
       omega arith,
     )
 
@@ -58,7 +59,7 @@ returns-2 c =
     let at-read-text = c .before .before .before .before .before .before .before .before .before .read-text in
     let at-if1 = c .before .before .before .before .before .before .before .before .before .before .before .if1 in
     let at-start = c .before .before .before .before .before .before .before .before .before .before .before .before .before .before in
-    door-read (at-start .args .text .now) (at-start .args .pool .now) (at-read-text .last .1 .0) (at-read-text .result) (at-if1 .left) (at-read-text .kept .1 .0 ∙ length-take-le 4096 (at-start .args .pool .now) (at-if1 .left)) (at-read-text .ensures) (at-r .given .0 .0) (at-r .given .0 .1 .0) (at-zero-words .last .0) (at-r .given .1) (at-zero-words .ensures)
+    door-read (at-start .args .text .now) (at-start .args .pool .now) (at-read-text .last .1 .0) (at-read-text .result) (at-if1 .left) (at-read-text .kept .1 .0 ∙ length-take-le tokenPool (at-start .args .pool .now) (at-if1 .left)) (at-read-text .ensures) (at-r .given .0 .0) (at-r .given .0 .1 .0) (at-zero-words .last .0) (at-r .given .1) (at-zero-words .ensures)
 
 same-length-2 : tie.Need-same-length-2
 same-length-2 c = search needs
@@ -70,7 +71,7 @@ returns-3 c =
     let at-read-text = c .before .before .before .before .before .before .before .before .before .read-text in
     let at-if1 = c .before .before .before .before .before .before .before .before .before .before .before .if1 in
     let at-start = c .before .before .before .before .before .before .before .before .before .before .before .before .before .before in
-    door-refused (at-start .args .text .now) (at-start .args .pool .now) (at-read-text .last .1 .0) (at-read-text .result) (at-if1 .left) (at-read-text .kept .1 .0 ∙ length-take-le 4096 (at-start .args .pool .now) (at-if1 .left)) (at-read-text .ensures) (at-r2 .given .0 .0) (at-r2 .given .0 .1 .0) (at-zero-words2 .last .0) (at-r2 .given .1) (at-zero-words2 .ensures)
+    door-refused (at-start .args .text .now) (at-start .args .pool .now) (at-read-text .last .1 .0) (at-read-text .result) (at-if1 .left) (at-read-text .kept .1 .0 ∙ length-take-le tokenPool (at-start .args .pool .now) (at-if1 .left)) (at-read-text .ensures) (at-r2 .given .0 .0) (at-r2 .given .0 .1 .0) (at-zero-words2 .last .0) (at-r2 .given .1) (at-zero-words2 .ensures)
 
 pub read-spec : {M : Type 1} → statement M
 read-spec =

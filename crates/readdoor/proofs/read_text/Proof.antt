@@ -1,5 +1,6 @@
 -- Each way out gives what the definition gives there. Assumes nothing.
 use mathlib.Core.Path.{sym, _∙_}
+use Prim.Native.Char.{code}
 use Rattle.base.specs.declared.Refusal.the-variants.{TextTooLong, Unexpected}
 use Rattle.reading.specs.Lists.{reading}
 use Rattle.reading.proofs.PieceLaws.{here-at, skip-in}
@@ -37,7 +38,7 @@ read-list-requires c κs =
     let at-peek = c .before .before .before .peek in
     let at-if1 = c .before .before .before .before .if1 in
     let at-start = c .before .before .before .before .before .before .before in
-    let i = here-at (at-start .args .text .now) 0 123 (sym (at-peek .ensures) ∙ at-if2 .left) (omega arith) in let e = at-skip-blanks .ensures in let j = skip-in (at-start .args .text .now) 1 (omega arith) in record { inside = omega arith; short = at-if1 .left; shallow = omega arith; few = omega arith; used = omega arith; pool = at-start .pre }
+    let i = here-at (at-start .args .text .now) 0 (code "{") (sym (at-peek .ensures) ∙ at-if2 .left) (omega arith) in let e = at-skip-blanks .ensures in let j = skip-in (at-start .args .text .now) 1 (omega arith) in record { inside = omega arith; short = at-if1 .left; shallow = omega arith; few = omega arith; used = omega arith; pool = at-start .pre }
 
 enum-known-got : tie.Need-enum-known-got
 enum-known-got c = search needs
@@ -69,7 +70,7 @@ add-skip-blanks c =
     let at-peek2 = c .before .peek2 in
     let at-got = c .before .before .before .got in
     let at-start = c .before .before .before .before .before .before .before .before .before .before .before .before .before .before .before in
-    omega (arith, here-at (at-start .args .text .now) (at-got .given .0 .0) 125 (sym (at-peek2 .ensures) ∙ at-if3 .left) (omega arith))
+    omega (arith, here-at (at-start .args .text .now) (at-got .given .0 .0) (code "}") (sym (at-peek2 .ensures) ∙ at-if3 .left) (omega arith))
 
 skip-blanks-requires-2 : tie.Need-skip-blanks-requires-2
 skip-blanks-requires-2 c κs = search needs

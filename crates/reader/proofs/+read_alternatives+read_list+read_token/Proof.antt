@@ -1,11 +1,13 @@
 -- The three readers together. A call falls in four times the bytes of text left, with a rank among calls that read nothing. Assumes nothing.
 use mathlib.Core.Path.{_≡_, sym, ap, _∙_, subst}
 use mathlib.Core.Bool.{Bool}
+use Prim.Native.Char.{code}
 use Prim.Native.Nat.{_+_, _-_, _*_, _≤_}
 use native.Mathlib.Omega.{arith}
 use borrow.Author.Needs.{needs}
 use lib.ListN.{length}
 use Rattle.base.specs.declared.Refusal.the-variants.{HexStringTooDeep, TooManyTokens}
+use Rattle.meaning.specs.Limits.{tokenPool}
 use Rattle.meaning.specs.Entries.{entriesOf}
 use Rattle.reading.specs.Lists.{token, list}
 use Rattle.reading.proofs.PieceLaws.{here-at, skip-from}
@@ -112,7 +114,7 @@ module _ (t : ℕ) where
       let at-if1 = c .before .if1 in
       let at-peek = c .before .before .peek in
       let at-start = c .before .before .before .before .before in
-      omega (arith, here-at (at-start .args .text .now) (at-start .args .at) 40 (sym (at-peek .ensures) ∙ at-if1 .left) (omega arith))
+      omega (arith, here-at (at-start .args .text .now) (at-start .args .at) (code "(") (sym (at-peek .ensures) ∙ at-if1 .left) (omega arith))
 
   read-alternatives-skip-blanks-requires : read-alternatives-lts.Need-skip-blanks-requires (read-alternatives-claims t) (read-alternatives-at t) read-alternatives.Post read-alternatives-Inv-loop read-alternatives-μ-loop
   read-alternatives-skip-blanks-requires c κs = search needs
@@ -139,7 +141,7 @@ module _ (t : ℕ) where
       subst (λ (x : ℕ). Listed (at-start .args .text .now) (at-start .args .level) (at-start .args .count) (at-start .args .at) (at-start .args .n) (at-start .args .pool .now)
       (at-start .args .pool .now) x x ((at-start .args .n) + 4) ((at-start .args .count) + 1) 0) (sym (at-skip-blanks .ensures))
       (listed-start (at-start .args .text .now) (at-start .args .level) (at-start .args .count) (at-start .args .at) (at-start .args .n) (at-start .args .pool .now)
-      (here-at (at-start .args .text .now) (at-start .args .at) 40 (sym (at-peek .ensures) ∙ at-if1 .left) (omega arith)) (at-start .pre .1 .0 .used) (at-if2 .left))
+      (here-at (at-start .args .text .now) (at-start .args .at) (code "(") (sym (at-peek .ensures) ∙ at-if1 .left) (omega arith)) (at-start .pre .1 .0 .used) (at-if2 .left))
 
   read-alternatives-add-read-list : read-alternatives-lts.Need-add-read-list (read-alternatives-claims t) (read-alternatives-at t) read-alternatives.Post read-alternatives-Inv-loop read-alternatives-μ-loop
   read-alternatives-add-read-list c =
@@ -177,7 +179,7 @@ module _ (t : ℕ) where
       let w = turned (at-start .args .text .now) (at-start .args .level) (at-start .args .count) (at-start .args .at) (at-start .args .n) (at-start .args .pool .now) (at-loop .pool) (at-loop .x)
       (at-loop .miss) (at-loop .m) (at-loop .c) (at-loop .k) (at-loop .inv) (at-read-list .result) (at-read-list .last .1 .1 .1 .1 .0) (at-read-list .ensures) (at-got .given .0 .0)
       (at-got .given .0 .1 .0) (at-got .given .0 .1 .1 .0) (at-got .given .0 .1 .1 .1 .0) (at-got .given .1) in
-      let z : length (at-read-list .last .1 .1 .1 .1 .0) ≡ 4096 = (at-read-list .kept .1 .1 .1 .1 .0 ∙ at-loop .inv .kept) ∙ o .pool in (w .more, omega arith, z, w .few)
+      let z : length (at-read-list .last .1 .1 .1 .1 .0) ≡ tokenPool = (at-read-list .kept .1 .1 .1 .1 .0 ∙ at-loop .inv .kept) ∙ o .pool in (w .more, omega arith, z, w .few)
 
   read-alternatives-add-k : read-alternatives-lts.Need-add-k (read-alternatives-claims t) (read-alternatives-at t) read-alternatives.Post read-alternatives-Inv-loop read-alternatives-μ-loop
   read-alternatives-add-k c =
@@ -203,7 +205,7 @@ module _ (t : ℕ) where
       let w = turned (at-start .args .text .now) (at-start .args .level) (at-start .args .count) (at-start .args .at) (at-start .args .n) (at-start .args .pool .now) (at-loop .pool) (at-loop .x)
       (at-loop .miss) (at-loop .m) (at-loop .c) (at-loop .k) (at-loop .inv) (at-read-list .result) (at-read-list .last .1 .1 .1 .1 .0) (at-read-list .ensures) (at-got .given .0 .0)
       (at-got .given .0 .1 .0) (at-got .given .0 .1 .1 .0) (at-got .given .0 .1 .1 .1 .0) (at-got .given .1) in
-      let z : length (at-put-head .last .0) ≡ 4096 = (at-put-head .kept .0 ∙ (at-read-list .kept .1 .1 .1 .1 .0 ∙ at-loop .inv .kept)) ∙ o .pool in (omega arith, omega arith, z, omega arith)
+      let z : length (at-put-head .last .0) ≡ tokenPool = (at-put-head .kept .0 ∙ (at-read-list .kept .1 .1 .1 .1 .0 ∙ at-loop .inv .kept)) ∙ o .pool in (omega arith, omega arith, z, omega arith)
 
   read-alternatives-add-skip-blanks-2 : read-alternatives-lts.Need-add-skip-blanks-2 (read-alternatives-claims t) (read-alternatives-at t) read-alternatives.Post read-alternatives-Inv-loop read-alternatives-μ-loop
   read-alternatives-add-skip-blanks-2 c =

@@ -1,5 +1,6 @@
 -- `spelling::write_branch` meets its contract. Assumes nothing.
 use Prim.Native.Nat.{_%_}
+use Rattle.meaning.specs.Limits.{literalLimit}
 use Rattle.spelling.specs.Writing.{Written}
 use Rattle.picking.proofs.NumberLaws.{pos-right}
 use native.Mathlib.Nat.{mul-le-mul}
@@ -20,7 +21,7 @@ use Rattle.spelling.proofs.write_branch.Statement.{statement}
 use Rattle.spelling.proofs.write_branch.Tie as tie
 
 abbrev Inv-loop : tie.InvT-loop
-Inv-loop ls p q dst₀ rest₀ left₀ dst rest left = (length rest ≤ length ls) × (dst ≡ dst₀) × (countIn (listsIn rest) ≤ 256) × (pieceIn (listsIn ls) p q ≡ pieceIn (listsIn rest) p left)
+Inv-loop ls p q dst₀ rest₀ left₀ dst rest left = (length rest ≤ length ls) × (dst ≡ dst₀) × (countIn (listsIn rest) ≤ literalLimit) × (pieceIn (listsIn ls) p q ≡ pieceIn (listsIn rest) p left)
 
 abbrev μ-loop : tie.MeasureT-loop
 μ-loop ls p q dst₀ rest₀ left₀ dst rest left = length rest
@@ -168,7 +169,7 @@ loop-again c =
     let at-start = c .before .before .before .before .before .before .before .before .before in (
       omega (arith, part.part-le (at-end-of .result) (at-loop .rest .now)),
       at-loop .inv .1,
-      subst (λ (l : List ℕ). countIn (listsIn l) ≤ 256)
+      subst (λ (l : List ℕ). countIn (listsIn l) ≤ literalLimit)
           (ap (λ (x : ℕ). drop x (at-loop .rest .now)) (sym (at-end-of .ensures)) ∙ sym (part.part-all (at-end-of .result) (at-loop .rest .now)))
           (prefix.lists-few (at-loop .rest .now) (at-loop-test .taken) _ _ (at-end-of .ensures) (at-count-list .ensures) (at-loop .inv .2)),
       at-loop .inv .3

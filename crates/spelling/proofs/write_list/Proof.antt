@@ -1,5 +1,6 @@
 -- `spelling::write_list` meets its contract. Assumes nothing.
 use lib.ListN.{set}
+use Rattle.meaning.specs.Limits.{literalLimit}
 use Rattle.spelling.proofs.WriteLaws.{Halfway}
 use Rattle.picking.specs.Numbers.{count, literalAt}
 use Rattle.spelling.proofs.WriteLaws as write
@@ -16,7 +17,7 @@ use Rattle.spelling.proofs.write_list.Statement.{statement}
 use Rattle.spelling.proofs.write_list.Tie as tie
 
 abbrev Inv-loop : tie.InvT-loop
-Inv-loop ws k dst₀ rest₀ n₀ i₀ dst rest n i = (n ≡ count (flatIn rest)) × (0 < n) × (n ≤ 256) × Halfway (literalAt (flatIn ws) k) (literalAt (flatIn rest) k) i dst₀ dst
+Inv-loop ws k dst₀ rest₀ n₀ i₀ dst rest n i = (n ≡ count (flatIn rest)) × (0 < n) × (n ≤ literalLimit) × Halfway (literalAt (flatIn ws) k) (literalAt (flatIn rest) k) i dst₀ dst
 
 abbrev μ-loop : tie.MeasureT-loop
 μ-loop ws k dst₀ rest₀ n₀ i₀ dst rest n i = length rest

@@ -1,5 +1,6 @@
 -- `tallies::count_list` meets its contract. Assumes nothing.
 use native.Mathlib.Nat.{one-mul}
+use Rattle.tallies.specs.Tallies.{countTop}
 use Rattle.picking.specs.Numbers.{count}
 use Rattle.entries.specs.Words.{flatIn}
 use lib.ListN.{length}
@@ -14,7 +15,7 @@ use Rattle.tallies.proofs.count_list.Statement.{statement}
 use Rattle.tallies.proofs.count_list.Tie as tie
 
 abbrev Inv-loop : tie.InvT-loop
-Inv-loop ws rest₀ n₀ rest n = (n ≤ 257) × (min 257 (count (flatIn ws)) ≡ min 257 (n * count (flatIn rest)))
+Inv-loop ws rest₀ n₀ rest n = (n ≤ countTop) × (min countTop (count (flatIn ws)) ≡ min countTop (n * count (flatIn rest)))
 
 abbrev μ-loop : tie.MeasureT-loop
 μ-loop ws rest₀ n₀ rest n = length rest
@@ -22,7 +23,7 @@ abbrev μ-loop : tie.MeasureT-loop
 loop-holds : tie.Need-loop-holds Inv-loop μ-loop
 loop-holds c =
     let at-start = c .before in
-    (omega arith, ap (min 257) (sym (one-mul (count (flatIn (at-start .args .ws .now))))))
+    (omega arith, ap (min countTop) (sym (one-mul (count (flatIn (at-start .args .ws .now))))))
 
 shared-slice-read-taken-count : tie.Need-shared-slice-read-taken-count Inv-loop μ-loop
 shared-slice-read-taken-count c = search needs
@@ -65,8 +66,8 @@ loop-again c =
     let at-loop = c .before .before .before .before .before .before .before .loop in (
       omega (arith, at-times .ensures),
       at-loop .inv .1 ∙ law.flat-count-more (at-loop .n) (at-loop .rest .now) (at-loop-test .taken)
-          ∙ ap₂ (λ (x : ℕ) (l : List ℕ). min 257 (x * count (flatIn l)))
-          (sym (at-times .ensures ∙ ap (λ (y : ℕ). min 257 (at-loop .n * y)) (law.taken-capped (at-loop .rest .now) _ (at-taken-count .ensures .0) (at-taken-count .ensures .1))))
+          ∙ ap₂ (λ (x : ℕ) (l : List ℕ). min countTop (x * count (flatIn l)))
+          (sym (at-times .ensures ∙ ap (λ (y : ℕ). min countTop (at-loop .n * y)) (law.taken-capped (at-loop .rest .now) _ (at-taken-count .ensures .0) (at-taken-count .ensures .1))))
           (sym (part.part-all 4 (at-loop .rest .now))),
     )
 

@@ -1,5 +1,6 @@
 -- `tallies::tally_lists` meets its contract. Assumes nothing.
 use native.Mathlib.Nat.{one-mul, zero-add}
+use Rattle.tallies.specs.Tallies.{countTop}
 use Rattle.picking.specs.Numbers.{count, countIn}
 use Rattle.picking.specs.Literals.{combinations, combinationsIn}
 use Rattle.entries.proofs.StepLaws as step
@@ -16,7 +17,7 @@ use Rattle.tallies.proofs.tally_lists.Statement.{statement}
 use Rattle.tallies.proofs.tally_lists.Tie as tie
 
 abbrev Inv-loop : tie.InvT-loop
-Inv-loop ws rest₀ literals₀ combinations₀ rest literals combinations = (length rest ≤ length ws) × (literals ≤ 257) × (combinations ≤ 257) × (min 257 (countIn (listsIn ws)) ≡ min 257 (literals + countIn (listsIn rest))) × (min 257 (combinationsIn (listsIn ws)) ≡ min 257 (combinations * combinationsIn (listsIn rest)))
+Inv-loop ws rest₀ literals₀ combinations₀ rest literals combinations = (length rest ≤ length ws) × (literals ≤ countTop) × (combinations ≤ countTop) × (min countTop (countIn (listsIn ws)) ≡ min countTop (literals + countIn (listsIn rest))) × (min countTop (combinationsIn (listsIn ws)) ≡ min countTop (combinations * combinationsIn (listsIn rest)))
 
 abbrev μ-loop : tie.MeasureT-loop
 μ-loop ws rest₀ literals₀ combinations₀ rest literals combinations = length rest
@@ -24,7 +25,7 @@ abbrev μ-loop : tie.MeasureT-loop
 loop-holds : tie.Need-loop-holds Inv-loop μ-loop
 loop-holds c =
     let at-start = c .before in
-    (omega arith, omega arith, omega arith, ap (min 257) (sym (zero-add (countIn (listsIn (at-start .args .ws .now))))), ap (min 257) (sym (one-mul (combinationsIn (listsIn (at-start .args .ws .now))))))
+    (omega arith, omega arith, omega arith, ap (min countTop) (sym (zero-add (countIn (listsIn (at-start .args .ws .now))))), ap (min countTop) (sym (one-mul (combinationsIn (listsIn (at-start .args .ws .now))))))
 
 end-of-requires : tie.Need-end-of-requires Inv-loop μ-loop
 end-of-requires c κs = search needs
@@ -107,17 +108,17 @@ loop-again c =
       omega (arith, at-times .ensures),
       at-loop .inv .3
           ∙ law.lists-count-more (at-loop .rest .now) (at-loop-test .taken) (at-loop .literals)
-          ∙ ap₂ (λ (x : ℕ) (l : List ℕ). min 257 (x + countIn (listsIn l)))
+          ∙ ap₂ (λ (x : ℕ) (l : List ℕ). min countTop (x + countIn (listsIn l)))
           (sym (at-smaller .ensures
-          ∙ ap (λ (y : ℕ). min 257 (at-loop .literals + y))
-          (at-count-list .ensures ∙ ap (λ (l : List ℕ). min 257 (count (flatIn l))) (ap (λ (x : ℕ). take (x - 4) (drop 4 (at-loop .rest .now))) (at-end-of .ensures)))))
+          ∙ ap (λ (y : ℕ). min countTop (at-loop .literals + y))
+          (at-count-list .ensures ∙ ap (λ (l : List ℕ). min countTop (count (flatIn l))) (ap (λ (x : ℕ). take (x - 4) (drop 4 (at-loop .rest .now))) (at-end-of .ensures)))))
           (ap (λ (x : ℕ). drop x (at-loop .rest .now)) (sym (at-end-of .ensures)) ∙ sym (part.part-all (at-end-of .result) (at-loop .rest .now))),
       at-loop .inv .4
           ∙ law.lists-combinations-more (at-loop .rest .now) (at-loop-test .taken) (at-loop .combinations)
-          ∙ ap₂ (λ (x : ℕ) (l : List ℕ). min 257 (x * combinationsIn (listsIn l)))
+          ∙ ap₂ (λ (x : ℕ) (l : List ℕ). min countTop (x * combinationsIn (listsIn l)))
           (sym (at-times .ensures
-          ∙ ap (λ (y : ℕ). min 257 (at-loop .combinations * y))
-          (at-count-list .ensures ∙ ap (λ (l : List ℕ). min 257 (count (flatIn l))) (ap (λ (x : ℕ). take (x - 4) (drop 4 (at-loop .rest .now))) (at-end-of .ensures)))))
+          ∙ ap (λ (y : ℕ). min countTop (at-loop .combinations * y))
+          (at-count-list .ensures ∙ ap (λ (l : List ℕ). min countTop (count (flatIn l))) (ap (λ (x : ℕ). take (x - 4) (drop 4 (at-loop .rest .now))) (at-end-of .ensures)))))
           (ap (λ (x : ℕ). drop x (at-loop .rest .now)) (sym (at-end-of .ensures)) ∙ sym (part.part-all (at-end-of .result) (at-loop .rest .now))),
     )
 

@@ -1,5 +1,6 @@
 -- `tallies::tally_tokens` meets its contract. Assumes nothing.
 use native.Mathlib.Nat.{one-mul}
+use Rattle.tallies.specs.Tallies.{countTop}
 use Rattle.picking.specs.Numbers.{count}
 use Rattle.picking.specs.Literals.{combinations as combinations·}
 use Rattle.entries.proofs.StepLaws as step
@@ -16,7 +17,7 @@ use Rattle.tallies.proofs.tally_tokens.Statement.{statement}
 use Rattle.tallies.proofs.tally_tokens.Tie as tie
 
 abbrev Inv-loop : tie.InvT-loop
-Inv-loop ws rest₀ literals₀ combinations₀ rest literals combinations = (length rest ≤ length ws) × (literals ≤ 257) × (combinations ≤ 257) × (min 257 (count (tokensIn ws)) ≡ min 257 (literals * count (tokensIn rest))) × (min 257 (combinations· (tokensIn ws)) ≡ min 257 (combinations * combinations· (tokensIn rest)))
+Inv-loop ws rest₀ literals₀ combinations₀ rest literals combinations = (length rest ≤ length ws) × (literals ≤ countTop) × (combinations ≤ countTop) × (min countTop (count (tokensIn ws)) ≡ min countTop (literals * count (tokensIn rest))) × (min countTop (combinations· (tokensIn ws)) ≡ min countTop (combinations * combinations· (tokensIn rest)))
 
 abbrev μ-loop : tie.MeasureT-loop
 μ-loop ws rest₀ literals₀ combinations₀ rest literals combinations = length rest
@@ -24,7 +25,7 @@ abbrev μ-loop : tie.MeasureT-loop
 loop-holds : tie.Need-loop-holds Inv-loop μ-loop
 loop-holds c =
     let at-start = c .before in
-    (omega arith, omega arith, omega arith, ap (min 257) (sym (one-mul (count (tokensIn (at-start .args .ws .now))))), ap (min 257) (sym (one-mul (combinations· (tokensIn (at-start .args .ws .now))))))
+    (omega arith, omega arith, omega arith, ap (min countTop) (sym (one-mul (count (tokensIn (at-start .args .ws .now))))), ap (min countTop) (sym (one-mul (combinations· (tokensIn (at-start .args .ws .now))))))
 
 tally-token-requires : tie.Need-tally-token-requires Inv-loop μ-loop
 tally-token-requires c κs = search needs
@@ -88,12 +89,12 @@ loop-again c =
       omega (arith, at-times2 .ensures),
       at-loop .inv .3
           ∙ law.tokens-count-more (at-loop .rest .now) (at-loop-test .taken) (at-loop .literals)
-          ∙ ap₂ (λ (x : ℕ) (l : List ℕ). min 257 (x * count (tokensIn l))) (sym (at-times .ensures ∙ ap (λ (y : ℕ). min 257 (at-loop .literals * y)) (at-tally-token .ensures .literals-are)))
+          ∙ ap₂ (λ (x : ℕ) (l : List ℕ). min countTop (x * count (tokensIn l))) (sym (at-times .ensures ∙ ap (λ (y : ℕ). min countTop (at-loop .literals * y)) (at-tally-token .ensures .literals-are)))
           (ap (λ (x : ℕ). drop x (at-loop .rest .now)) (sym (at-width-of .ensures)) ∙ sym (part.part-all (at-width-of .result) (at-loop .rest .now))),
       at-loop .inv .4
           ∙ law.tokens-combinations-more (at-loop .rest .now) (at-loop-test .taken) (at-loop .combinations)
-          ∙ ap₂ (λ (x : ℕ) (l : List ℕ). min 257 (x * combinations· (tokensIn l)))
-          (sym (at-times2 .ensures ∙ ap (λ (y : ℕ). min 257 (at-loop .combinations * y)) (at-tally-token .ensures .combinations-are)))
+          ∙ ap₂ (λ (x : ℕ) (l : List ℕ). min countTop (x * combinations· (tokensIn l)))
+          (sym (at-times2 .ensures ∙ ap (λ (y : ℕ). min countTop (at-loop .combinations * y)) (at-tally-token .ensures .combinations-are)))
           (ap (λ (x : ℕ). drop x (at-loop .rest .now)) (sym (at-width-of .ensures)) ∙ sym (part.part-all (at-width-of .result) (at-loop .rest .now))),
     )
 
