@@ -6,17 +6,22 @@ use digits::Nibble;
 use digits::Numeral;
 use libc::STDOUT_FILENO;
 use mirror::MirrorAnswer;
+use nodes::NodeWord;
 ghost use Prim.Native.Nat.{_≤_};
 ghost use lib.ListN.{length};
 
 // The mirror's pool holds this before each call, so that what stays shows.
-const OLD: u32 = 7;
+const OLD: NodeWord = 7;
 
 fn number(n: u64) {
     io::print_decimal(STDOUT_FILENO, n);
 }
 
 fn wide(w: u32) -> u64 {
+    w as u64
+}
+
+fn word_wide(w: NodeWord) -> u64 {
     w as u64
 }
 
@@ -54,12 +59,12 @@ fn found(r: Answer) {
 }
 
 // The first n words of a pool, in hex.
-fn words(pool: &[u32], n: usize) {
+fn words(pool: &[NodeWord], n: usize) {
     let mut i = 0;
     while i < n {
         if i < pool.len() {
             io::write_all(STDOUT_FILENO, b" ");
-            io::print_hex(STDOUT_FILENO, wide(pool[i]), 1);
+            io::print_hex(STDOUT_FILENO, word_wide(pool[i]), 1);
         }
         i += 1;
     }
@@ -75,14 +80,14 @@ fn part(bytes: &[u8]) {
     }
 }
 
-fn one_if(v: u32, w: u32) -> usize
+fn one_if(v: NodeWord, w: NodeWord) -> usize
     ensures { λ r. ⌜ r ≤ 1 ⌝ }
 {
     if v == w { 1 } else { 0 }
 }
 
 // How many words from `from` up to `to` hold `v`.
-fn holding(pool: &[u32], from: usize, to: usize, v: u32) -> usize {
+fn holding(pool: &[NodeWord], from: usize, to: usize, v: NodeWord) -> usize {
     let mut found = 0;
     let mut i = from;
     while i < to {
@@ -96,7 +101,7 @@ fn holding(pool: &[u32], from: usize, to: usize, v: u32) -> usize {
 }
 
 // How many of the first 512 words are 0 after the used ones, how many of the four beyond are as before, and the used ones.
-fn left(pool: &[u32], used: usize) {
+fn left(pool: &[NodeWord], used: usize) {
     io::write_all(STDOUT_FILENO, b" zeros ");
     number(holding(pool, used, 512, 0) as u64);
     io::write_all(STDOUT_FILENO, b" old ");
@@ -104,7 +109,7 @@ fn left(pool: &[u32], used: usize) {
     words(pool, used);
 }
 
-fn mirrored(program: &[u32], pool: &mut [u32]) {
+fn mirrored(program: &[NodeWord], pool: &mut [NodeWord]) {
     let r = mirror::mirror(program, pool);
     match r {
         MirrorAnswer::Mirrored(n) => {
@@ -120,16 +125,16 @@ fn mirrored(program: &[u32], pool: &mut [u32]) {
 }
 
 // Into a pool that has room, and into one that is a word too short.
-fn mirrors(program: &[u32]) {
-    let mut pool = [7u32; 516];
+fn mirrors(program: &[NodeWord]) {
+    let mut pool: [NodeWord; 516] = [7; 516];
     io::write_all(STDOUT_FILENO, b"\nmirror");
     mirrored(program, &mut pool);
-    let mut short = [7u32; 511];
+    let mut short: [NodeWord; 511] = [7; 511];
     io::write_all(STDOUT_FILENO, b"\nshort");
     mirrored(program, &mut short);
 }
 
-fn checks(program: &[u32], hay: &[u8], start: usize, end: usize) {
+fn checks(program: &[NodeWord], hay: &[u8], start: usize, end: usize) {
     io::write_all(STDOUT_FILENO, b"\nforward");
     found(checkdoors::forward(program, hay, start, end));
     io::write_all(STDOUT_FILENO, b"\nleft");
@@ -138,7 +143,7 @@ fn checks(program: &[u32], hay: &[u8], start: usize, end: usize) {
     found(checkdoors::reverse(program, hay, start, end));
 }
 
-fn answers(program: &[u32], hay: &[u8], start: usize, end: usize) {
+fn answers(program: &[NodeWord], hay: &[u8], start: usize, end: usize) {
     if sound::is_sound(program) {
         io::write_all(STDOUT_FILENO, b"sound");
     } else {
@@ -174,14 +179,14 @@ fn unhex(hex: &[u8], hay: &mut [u8]) -> usize {
 }
 
 // What a word becomes by one more hex digit.
-fn longer(w: u32, v: u8) -> u32
+fn longer(w: NodeWord, v: u8) -> NodeWord
     requires { ⌜ v ≤ 15 ⌝ }
 {
-    16 * (w % 268435456) + v as u32
+    16 * (w % 268435456) + v as NodeWord
 }
 
 // The word that is spelt in hex.
-fn word(hex: &[u8]) -> u32 {
+fn word(hex: &[u8]) -> NodeWord {
     let mut w = 0;
     let mut i = 0;
     while i < hex.len() {
@@ -192,7 +197,7 @@ fn word(hex: &[u8]) -> u32 {
 }
 
 // The words that are spelt in hex, a blank before each, as far as there is room; how many they are.
-fn unhex_words(text: &[u8], pool: &mut [u32]) -> usize {
+fn unhex_words(text: &[u8], pool: &mut [NodeWord]) -> usize {
     let mut at = 0;
     let mut n = 0;
     while n < pool.len() {
@@ -209,7 +214,7 @@ fn unhex_words(text: &[u8], pool: &mut [u32]) -> usize {
 
 // The words of a program, on the haystack's first n bytes.
 fn program(text: &[u8], hay: &[u8], n: usize, start: usize, end: usize) {
-    let mut pool = [0u32; 600];
+    let mut pool: [NodeWord; 600] = [0; 600];
     let count = least(unhex_words(text, &mut pool), 600);
     let m = least(n, hay.len());
     answers(&pool[0..count], &hay[0..m], start, end);

@@ -1,21 +1,22 @@
 // Compiles texts from standard input, one on each line, and writes what the compiling door answers and leaves.
 use compiledoor::CompileAnswer;
+use nodes::NodeWord;
 ghost use Prim.Native.Nat.{_≤_};
 
 const OUT: i32 = 1;
 
 // The pools hold this before each text, so that what stays shows.
-const OLD: u32 = 7;
+const OLD: NodeWord = 7;
 
 fn number(n: u64) {
     io::print_decimal(OUT, n);
 }
 
-fn wide(w: u32) -> u64 {
+fn wide(w: NodeWord) -> u64 {
     w as u64
 }
 
-fn fill(pool: &mut [u32]) {
+fn fill(pool: &mut [NodeWord]) {
     let mut i = 0;
     while i < pool.len() {
         pool[i] = OLD;
@@ -24,7 +25,7 @@ fn fill(pool: &mut [u32]) {
 }
 
 // The first n words, but no more than sixteen of them.
-fn list(pool: &[u32], n: usize) {
+fn list(pool: &[NodeWord], n: usize) {
     let mut i = 0;
     while i < n {
         if i < 16 {
@@ -38,14 +39,14 @@ fn list(pool: &[u32], n: usize) {
     io::write_all(OUT, b"\n");
 }
 
-fn one_if(v: u32, w: u32) -> usize
+fn one_if(v: NodeWord, w: NodeWord) -> usize
     ensures { λ r. ⌜ r ≤ 1 ⌝ }
 {
     if v == w { 1 } else { 0 }
 }
 
 // How many words from `from` up to `to` hold `v`.
-fn holding(pool: &[u32], from: usize, to: usize, v: u32) -> usize {
+fn holding(pool: &[NodeWord], from: usize, to: usize, v: NodeWord) -> usize {
     let mut found = 0;
     let mut i = from;
     while i < to {
@@ -59,7 +60,7 @@ fn holding(pool: &[u32], from: usize, to: usize, v: u32) -> usize {
 }
 
 // A pool: the used words, how many of its first 512 are 0 after them, and how many of the four beyond are as before.
-fn left(pool: &[u32], used: usize) {
+fn left(pool: &[NodeWord], used: usize) {
     number(used as u64);
     io::write_all(OUT, b" zeros ");
     number(holding(pool, used, 512, 0) as u64);
@@ -68,7 +69,7 @@ fn left(pool: &[u32], used: usize) {
     list(pool, used);
 }
 
-fn one(text: &[u8], forward: &mut [u32], reverse: &mut [u32]) {
+fn one(text: &[u8], forward: &mut [NodeWord], reverse: &mut [NodeWord]) {
     fill(forward);
     fill(reverse);
     let r = compiledoor::compile(text, forward, reverse);
@@ -97,8 +98,8 @@ fn one(text: &[u8], forward: &mut [u32], reverse: &mut [u32]) {
 }
 
 fn fresh(text: &[u8]) {
-    let mut forward = [0u32; 516];
-    let mut reverse = [0u32; 516];
+    let mut forward: [NodeWord; 516] = [0; 516];
+    let mut reverse: [NodeWord; 516] = [0; 516];
     one(text, &mut forward, &mut reverse);
 }
 
@@ -118,8 +119,8 @@ fn main() {
     let mut input = [0u8; 32768];
     let n = io::read_full(0, &mut input);
     run(&input[..n]);
-    let mut forward = [0u32; 516];
-    let mut short = [0u32; 511];
+    let mut forward: [NodeWord; 516] = [0; 516];
+    let mut short: [NodeWord; 511] = [0; 511];
     one(b"{ AB }", &mut forward, &mut short);
     one(b"{ AG }", &mut short, &mut forward);
 }

@@ -1,6 +1,7 @@
 // The listing of a text, as the listing program writes it.
 use compiledoor::CompileAnswer;
 use literaldoor::LiteralsAnswer;
+use nodes::NodeWord;
 use printing::Listed;
 ghost use mathlib.Core.Path.{_≡_};
 ghost use Prim.Native.Nat.{_<_, _^_};
@@ -35,8 +36,8 @@ fn put_picked(text: &[u8], out: &mut [u8], at: usize) -> usize
 fn put_listing(text: &[u8], out: &mut [u8]) -> usize
     ensures { λ r. ⌜ Put (now (out .entry)) 0 (listingOf (now (text .entry))) r (now (out .exit)) ⌝ }
 {
-    let mut forward = [0u32; 512];
-    let mut reverse = [0u32; 512];
+    let mut forward: [NodeWord; 512] = [0; 512];
+    let mut reverse: [NodeWord; 512] = [0; 512];
     let got = compiledoor::compile(text, &mut forward, &mut reverse);
     match got {
         CompileAnswer::Compiled {

@@ -3,14 +3,14 @@ use mathlib.Core.Path.{_≡_, refl, sym, ap, _∙_, subst}
 use mathlib.Core.Bool.{Bool, true, false, cond}
 use mathlib.Core.Logic.{_↔_}
 use mathlib.Core.List.{List, _∷_, _++_}
-use Prim.Native.Nat.{ℕ, _+_, _*_, _/_, _%_, _≤_, _<_}
+use Prim.Native.Nat.{ℕ, _/_, _%_, _≤_, _<_}
 use native.Mathlib.Omega.{arith}
 use lib.Dec.{eqb, ltb}
 use borrow.Author.Tests.{leb-true, le-leb}
 use lib.ListN.{length}
 use Rattle.meaning.specs.Programs.{Test, byte, mask, negatedMask, any, dot, Item, Prog, Branches, one, jump, range, alt, _▹_, stop, or}
 use Rattle.meaning.specs.Words as words
-use Rattle.meaning.specs.Words.{fieldSize, kindOf, firstOf, secondOf, Shape, item, opens, mark, wrong, shapeBy, shape, properBy, proper, plain, plainProg, Says, SaysIn, sound, prog}
+use Rattle.meaning.specs.Words.{fieldSize, kindOf, firstOf, secondOf, wordSize, countSize, countBy, Shape, item, opens, mark, wrong, shapeBy, shape, properBy, proper, plain, plainProg, Says, SaysIn, sound, prog}
 use Rattle.meaning.proofs.KindLaws.{Seen, seen, kind-range}
 use Rattle.meaning.proofs.MadeLaws.{made-shape, made-proper}
 use Rattle.meaning.proofs.SoundLaws.{and-left, and-right, and-both, false-true}
@@ -20,31 +20,31 @@ use Rattle.nodes.specs.declared.Node.the-variants.{One, Jump, JumpRange, Altern
 use Rattle.nodes.proofs.NodeLaws.{word-again}
 use Rattle.promise.specs.NodeWords.{word, Flat, kind-0, kind-1, kind-2, kind-3, kind-5, Flats, no-node, a-node, Branched, last, more, Nodes, nothing, flat, kind-4, kind-6, SoundWords}
 
--- the fields of a shape that a word says are below 256; no word says `any` or whole alternatives
+-- what a shape that a word says holds fits its fields; no word says `any` or whole alternatives
 OfTest : Test → Type 0
-OfTest (byte v) = v < 256
-OfTest (mask v m) = (v < 256) × (m < 256)
-OfTest (negatedMask v m) = (v < 256) × (m < 256)
+OfTest (byte v) = v < fieldSize
+OfTest (mask v m) = (v < fieldSize) × (m < fieldSize)
+OfTest (negatedMask v m) = (v < fieldSize) × (m < fieldSize)
 OfTest any = ⊥
 OfTest dot = Unit {0}
 
 OfItem : Item → Type 0
 OfItem (one t) = OfTest t
-OfItem (jump n) = n < 256
-OfItem (range a b) = b < 256
+OfItem (jump n) = n < fieldSize
+OfItem (range a b) = b < fieldSize
 OfItem (alt bs) = ⊥
 
 OfShape : Shape → Type 0
 OfShape (item i) = OfItem i
-OfShape (opens n) = n < 65536
-OfShape (mark n) = n < 256
+OfShape (opens n) = n < countSize
+OfShape (mark n) = n < fieldSize
 OfShape wrong = Unit {0}
 
 of-cond : (b : Bool) (x y : Shape) → OfShape x → OfShape y → OfShape (cond b x y)
 of-cond true x y p q = p
 of-cond false x y p q = q
 
-of-fields : (k a b : ℕ) → a < 256 → b < 256 → OfShape (shapeBy k a b)
+of-fields : (k a b : ℕ) → a < fieldSize → b < fieldSize → OfShape (shapeBy k a b)
 unfolding shapeBy OfShape OfItem OfTest
 of-fields k a b h g =
     of-cond (eqb k 0) _ _ h
@@ -64,11 +64,11 @@ of-item : (w : ℕ) (i : Item) → shape w ≡ item i → OfItem i
 unfolding OfShape
 of-item w i e = subst OfShape e (of-shape w)
 
-of-opens : (w n : ℕ) → shape w ≡ opens n → n < 65536
+of-opens : (w n : ℕ) → shape w ≡ opens n → n < countSize
 unfolding OfShape
 of-opens w n e = subst OfShape e (of-shape w)
 
-of-mark : (w n : ℕ) → shape w ≡ mark n → n < 256
+of-mark : (w n : ℕ) → shape w ≡ mark n → n < fieldSize
 unfolding OfShape
 of-mark w n e = subst OfShape e (of-shape w)
 
@@ -105,7 +105,7 @@ ordered w a b h e =
     let g : item (range (firstOf w) (secondOf w)) ≡ item (range a b) = sym (kind-range w s refl refl) ∙ e in
     let x : firstOf w ≡ a = cc in
     let y : secondOf w ≡ b = cc in
-    let f : properBy 4 (firstOf w) (secondOf w) ≡ true = sym (ap (λ (k : ℕ). properBy k (firstOf w) (secondOf w)) s) ∙ and-right (ltb w (256 * fieldSize * fieldSize)) (properBy (kindOf w) (firstOf w) (secondOf w)) h in
+    let f : properBy 4 (firstOf w) (secondOf w) ≡ true = sym (ap (λ (k : ℕ). properBy k (firstOf w) (secondOf w)) s) ∙ and-right (ltb w wordSize) (properBy (kindOf w) (firstOf w) (secondOf w)) h in
     let l : firstOf w ≤ secondOf w = leb-true (firstOf w) (secondOf w) f in
     omega arith
 
@@ -124,14 +124,14 @@ nodes-of (words.alternation {w = w} {bs = bs} {vs = vs} {b = b} {p = p} h e f q 
     let l = of-opens w (length bs) e in
     subst (λ (x : List ℕ). Nodes (w ∷ x) (alt b ▹ p)) (sym f)
     (subst (λ (x : ℕ). Nodes (x ∷ (bs ++ vs)) (alt b ▹ p)) (word-again w (Alternation (length bs)) h (sym e))
-    (kind-6 {a = length bs % 256} {b = length bs / 256} (omega arith) (omega arith) (omega arith) (branched-of q) (nodes-of r)))
+    (kind-6 {a = length bs % fieldSize} {b = length bs / fieldSize} (omega arith) (omega arith) (omega arith) (branched-of q) (nodes-of r)))
 
 -- and from the list to the test
 record Tested (w : ℕ) (s : Shape) : Type 0 where
   proper-word : proper w ≡ true
   says : shape w ≡ s
 
-made : (k a b : ℕ) → k < 256 → a < 256 → b < 256 → properBy k a b ≡ true → Tested (word k a b) (shapeBy k a b)
+made : (k a b : ℕ) → k < 256 → a < fieldSize → b < fieldSize → properBy k a b ≡ true → Tested (word k a b) (shapeBy k a b)
 made k a b h f g e = record { proper-word = made-proper k a b h f g e; says = made-shape k a b h f g }
 
 flat-tested : {w : ℕ} {i : Item} → Flat w i → Tested w (item i)
@@ -150,17 +150,17 @@ flat-plain (kind-2 h g) = refl
 flat-plain (kind-3 h) = refl
 flat-plain kind-5 = refl
 
-range-tested : (a b : ℕ) → a ≤ b → b < 256 → Tested (word 4 a b) (item (range a b))
+range-tested : (a b : ℕ) → a ≤ b → b < fieldSize → Tested (word 4 a b) (item (range a b))
 unfolding properBy shapeBy
 range-tested a b h g = made 4 a b (omega arith) (omega arith) g (le-leb a b h)
 
-mark-tested : (n : ℕ) → n < 256 → Tested (word 7 n 0) (mark n)
+mark-tested : (n : ℕ) → n < fieldSize → Tested (word 7 n 0) (mark n)
 unfolding properBy shapeBy
 mark-tested n h = made 7 n 0 (omega arith) h (omega arith) refl
 
-opens-tested : (a b n : ℕ) → a < 256 → b < 256 → n ≡ a + 256 * b → 1 ≤ n → Tested (word 6 a b) (opens n)
+opens-tested : (a b n : ℕ) → a < fieldSize → b < fieldSize → n ≡ countBy a b → 1 ≤ n → Tested (word 6 a b) (opens n)
 unfolding properBy shapeBy
-opens-tested a b n h g e l = subst (λ (x : ℕ). Tested (word 6 a b) (opens x)) (sym e) (made 6 a b (omega arith) h g (le-leb 1 (a + 256 * b) (omega arith)))
+opens-tested a b n h g e l = subst (λ (x : ℕ). Tested (word 6 a b) (opens x)) (sym e) (made 6 a b (omega arith) h g (le-leb 1 (countBy a b) (omega arith)))
 
 flats-say : {ns : List ℕ} {p : Prog} → Flats ns p → Says ns p × (plainProg p ≡ true)
 unfolding plainProg

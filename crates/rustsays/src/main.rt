@@ -6,6 +6,7 @@ use compiledoor::CompileAnswer;
 use digits::Nibble;
 use libc::STDOUT_FILENO;
 use literaldoor::LiteralsAnswer;
+use nodes::NodeWord;
 use readdoor::ReadAnswer;
 ghost use Prim.Native.Nat.{_≤_};
 ghost use lib.ListN.{length};
@@ -18,8 +19,25 @@ fn wide(w: u32) -> u64 {
     w as u64
 }
 
-// The first n words of a pool, on a line.
-fn words(pool: &[u32], n: usize) {
+fn word_wide(w: NodeWord) -> u64 {
+    w as u64
+}
+
+// The first n words of a program's pool, on a line.
+fn words(pool: &[NodeWord], n: usize) {
+    let mut i = 0;
+    while i < n {
+        if i < pool.len() {
+            io::write_all(STDOUT_FILENO, b" ");
+            number(word_wide(pool[i]));
+        }
+        i += 1;
+    }
+    io::write_all(STDOUT_FILENO, b"\n");
+}
+
+// The first n words of a tokens' pool, on a line.
+fn entries(pool: &[u32], n: usize) {
     let mut i = 0;
     while i < n {
         if i < pool.len() {
@@ -56,7 +74,7 @@ fn found(r: Answer) {
 }
 
 // The forward check from every start to the haystack's end.
-fn ends(program: &[u32], hay: &[u8]) {
+fn ends(program: &[NodeWord], hay: &[u8]) {
     io::write_all(STDOUT_FILENO, b"ends");
     let mut start = 0;
     while start <= hay.len() {
@@ -67,7 +85,7 @@ fn ends(program: &[u32], hay: &[u8]) {
 }
 
 // The reverse check from the haystack's start to every end.
-fn starts(program: &[u32], hay: &[u8]) {
+fn starts(program: &[NodeWord], hay: &[u8]) {
     io::write_all(STDOUT_FILENO, b"starts");
     let mut end = 0;
     while end <= hay.len() {
@@ -85,8 +103,8 @@ fn least(n: usize, most: usize) -> usize
 }
 
 fn programs(text: &[u8], hay: &[u8]) {
-    let mut forward = [0u32; 512];
-    let mut reverse = [0u32; 512];
+    let mut forward: [NodeWord; 512] = [0; 512];
+    let mut reverse: [NodeWord; 512] = [0; 512];
     let r = compiledoor::compile(text, &mut forward, &mut reverse);
     match r {
         CompileAnswer::Compiled {
@@ -179,7 +197,7 @@ fn answers(text: &[u8], hay: &[u8]) {
             io::write_all(STDOUT_FILENO, b"reached ");
             number(end as u64);
             io::write_all(STDOUT_FILENO, b"\ntokens");
-            words(&tokens, used);
+            entries(&tokens, used);
             programs(text, hay);
             picked(text);
         }
