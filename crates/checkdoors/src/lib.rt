@@ -2,6 +2,7 @@
 // The doors of the two checks: any words, any haystack and any window numbers are answered.
 use base::NODE_LIMIT;
 use base::Refusal;
+use nodes::NodeWord;
 use sound::is_sound;
 use steps::Found;
 ghost use mathlib.Core.Path.{_≡_};
@@ -21,7 +22,7 @@ pub enum Admitted {
 }
 
 // 16, then 13, then 15, as 01 orders the tests of a check; `len` is the haystack's length.
-fn admit(words: &[u32], len: usize, start: usize, end: usize) -> Admitted
+fn admit(words: &[NodeWord], len: usize, start: usize, end: usize) -> Admitted
     ensures { λ r. ⌜ whyNot r ≡ refusal (now (words .entry)) len start end ⌝ }
 {
     if end < start {
@@ -40,7 +41,7 @@ fn admit(words: &[u32], len: usize, start: usize, end: usize) -> Admitted
 }
 
 // The forward check of the window from start to end: the end of the first choice that fits at its start.
-pub fn forward(words: &[u32], hay: &[u8], start: usize, end: usize) -> Answer
+pub fn forward(words: &[NodeWord], hay: &[u8], start: usize, end: usize) -> Answer
     ensures { λ r. ⌜ Answered (forwardSays (now (words .entry)) (now (hay .entry)) start end) (now (hay .entry)) r ⌝ }
 {
     let test = admit(words, hay.len(), start, end);
@@ -55,7 +56,7 @@ pub fn forward(words: &[u32], hay: &[u8], start: usize, end: usize) -> Answer
 }
 
 // The reverse check of the window from start to end: the start of the first choice that fits at its end.
-pub fn reverse(words: &[u32], hay: &[u8], start: usize, end: usize) -> Answer
+pub fn reverse(words: &[NodeWord], hay: &[u8], start: usize, end: usize) -> Answer
     ensures { λ r. ⌜ Answered (reverseSays (now (words .entry)) (now (hay .entry)) start end) (now (hay .entry)) r ⌝ }
 {
     let test = admit(words, hay.len(), start, end);
@@ -70,7 +71,12 @@ pub fn reverse(words: &[u32], hay: &[u8], start: usize, end: usize) -> Answer
 }
 
 // The second forward door: what the match leaves of the window, as the caller's own bytes.
-pub fn left_forward<'n, 'h>(words: &'n [u32], hay: &'h [u8], start: usize, end: usize) -> &'h [u8]
+pub fn left_forward<'n, 'h>(
+    words: &'n [NodeWord],
+    hay: &'h [u8],
+    start: usize,
+    end: usize,
+) -> &'h [u8]
     ensures { λ r. ⌜ HandsBack (now (words .entry)) (hay .entry) start end r ⌝ }
 {
     let test = admit(words, hay.len(), start, end);

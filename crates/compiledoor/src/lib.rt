@@ -5,6 +5,7 @@ use base::TOKEN_POOL;
 use compiler::Made;
 use compiler::clear;
 use compiler::compile_tokens;
+use nodes::NodeWord;
 use readdoor::ReadAnswer;
 use readdoor::read;
 ghost use mathlib.Core.Path.{_≡_};
@@ -39,7 +40,7 @@ fn answer_of(reached: usize, made: Made) -> CompileAnswer
 }
 
 // With both pools long enough. The tokens are read into 4,096 words of the stack.
-fn compile_text(text: &[u8], forward: &mut [u32], reverse: &mut [u32]) -> CompileAnswer
+fn compile_text(text: &[u8], forward: &mut [NodeWord], reverse: &mut [NodeWord]) -> CompileAnswer
     requires { ⌜ (nodePool ≤ length (now forward)) × (nodePool ≤ length (now reverse)) ⌝ }
     ensures { λ r. ⌜ TextMakes (reading (now (text .entry))) (said r)
         (now (forward .entry)) (now (forward .exit)) (now (reverse .entry)) (now (reverse .exit)) ⌝ }
@@ -59,7 +60,7 @@ fn compile_text(text: &[u8], forward: &mut [u32], reverse: &mut [u32]) -> Compil
 }
 
 // Compiles a text into the first 512 words of each pool.
-pub fn compile(text: &[u8], forward: &mut [u32], reverse: &mut [u32]) -> CompileAnswer
+pub fn compile(text: &[u8], forward: &mut [NodeWord], reverse: &mut [NodeWord]) -> CompileAnswer
     ensures { λ r. ⌜ (said r ≡ compileSays (now (text .entry)) (now (forward .entry)) (now (reverse .entry)))
         × (now (forward .exit) ≡ forwardLeaves (now (text .entry)) (now (forward .entry)) (now (reverse .entry)))
         × (now (reverse .exit) ≡ reverseLeaves (now (text .entry)) (now (forward .entry)) (now (reverse .entry))) ⌝ }

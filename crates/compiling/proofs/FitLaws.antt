@@ -10,7 +10,7 @@ use Rattle.meaning.specs.Limits.{jumpLimit}
 use Rattle.meaning.specs.Tokens.{Mask, left, right, all, Token, Tokens, Lists, Byte, NotByte, MaskedByte, NotMaskedByte, Jump, Alternatives, nothing, _then_, neither, _or_}
 use Rattle.meaning.specs.Values.{SpelledOne, Spelled, SpelledFirst, SpelledMore}
 use Rattle.meaning.specs.Programs.{Item, Prog, one, jump, range, alt, end, _▹_}
-use Rattle.meaning.specs.Words.{plain, plainProg}
+use Rattle.meaning.specs.Words.{fieldSize, plain, plainProg}
 use Rattle.meaning.proofs.SoundLaws.{and-left, and-right, false-true}
 use Rattle.compiling.specs.Compiling.{jumpOf, pairBy, add, itemOf, added, branchesFor, forwardProgram}
 use Rattle.compiling.specs.Compile.{plainToken, plainTokens, plainBranches, simpleToken, simple}
@@ -83,10 +83,13 @@ not-mask-plain v left = refl
 not-mask-plain v right = refl
 not-mask-plain v all = refl
 
+byte-fits : (v : ℕ) → v < 256 → v < fieldSize
+byte-fits v h = omega arith
+
 plain-fits : (t : Token) → SpelledOne t → plainToken t ≡ true → FitOf (itemOf t) × (plain (itemOf t) ≡ true)
 unfolding Fit FitTest SpelledOne plainToken plain itemOf
-plain-fits (Byte v) h g = (h, refl)
-plain-fits (NotByte v) h g = ((h, omega arith), refl)
+plain-fits (Byte v) h g = (byte-fits v h, refl)
+plain-fits (NotByte v) h g = ((byte-fits v h, omega arith), refl)
 plain-fits (MaskedByte v m) h g = (mask-fits v m h, mask-plain v m)
 plain-fits (NotMaskedByte v m) h g = (not-mask-fits v m h, not-mask-plain v m)
 plain-fits (Jump from none) h g = false-true g
@@ -118,8 +121,8 @@ first-fit (ts or ls) h g =
 -- the outer list
 simple-fits : (t : Token) → SpelledOne t → simpleToken t ≡ true → FitOf (itemOf t)
 unfolding Fit FitTest SpelledOne simpleToken itemOf
-simple-fits (Byte v) h g = h
-simple-fits (NotByte v) h g = (h, omega arith)
+simple-fits (Byte v) h g = byte-fits v h
+simple-fits (NotByte v) h g = (byte-fits v h, omega arith)
 simple-fits (MaskedByte v m) h g = mask-fits v m h
 simple-fits (NotMaskedByte v m) h g = not-mask-fits v m h
 simple-fits (Jump from none) h g = false-true g

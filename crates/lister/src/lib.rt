@@ -5,6 +5,7 @@ use base::NODE_POOL;
 use compiledoor::CompileAnswer;
 use lines::Listed;
 use literaldoor::LiteralsAnswer;
+use nodes::NodeWord;
 ghost use mathlib.Core.Path.{_≡_};
 ghost use Prim.Native.Nat.{_<_, _^_};
 ghost use lib.ListN.{length};
@@ -38,8 +39,8 @@ fn put_picked(text: &[u8], out: &mut [u8], at: usize) -> usize
 fn put_listing(text: &[u8], out: &mut [u8]) -> usize
     ensures { λ r. ⌜ Put (now (out .entry)) 0 (listingOf (now (text .entry))) r (now (out .exit)) ⌝ }
 {
-    let mut forward = [0u32; NODE_POOL];
-    let mut reverse = [0u32; NODE_POOL];
+    let mut forward: [NodeWord; NODE_POOL] = [0; NODE_POOL];
+    let mut reverse: [NodeWord; NODE_POOL] = [0; NODE_POOL];
     let got = compiledoor::compile(text, &mut forward, &mut reverse);
     match got {
         CompileAnswer::Compiled {

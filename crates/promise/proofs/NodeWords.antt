@@ -11,7 +11,7 @@ use borrow.Author.Tests.{leb-true, le-leb}
 use lib.ListN.{length, take, drop, length-append, length-drop, take-append-drop}
 use lib.Seq.{take-append-seam, drop-append-seam, length-take-le, take-all}
 use Rattle.meaning.specs.Programs.{Item, Prog, Branches, one, jump, range, alt, end, _▹_, stop, or}
-use Rattle.meaning.specs.Words.{Shape, item, opens, mark, wrong, shape, proper, plain, plainProg, plainWords, soundWords, soundBranches, branches, prog, branchesOf, sound, Sound, SoundBranches}
+use Rattle.meaning.specs.Words.{fieldSize, Shape, item, opens, mark, wrong, shape, proper, plain, plainProg, plainWords, soundWords, soundBranches, branches, prog, branchesOf, sound, Sound, SoundBranches}
 use Rattle.meaning.proofs.WordLaws.{drop-le, prog-nil, prog-item, prog-opens, branches-mark}
 use Rattle.meaning.proofs.SoundLaws.{Marked, and-left, and-right, and-both, false-true, sound-proper, branch-proper, sound-item, sound-opens, sound-mark, sound-wrong, sound-branch, branch-shape, make-item, make-opens, make-branch, make-plain, plain-item, plain-nil}
 use Rattle.promise.specs.NodeWords.{word, Flats, no-node, a-node, Branched, last, more, Nodes, nothing, flat, kind-4, kind-6, SoundWords}
@@ -155,7 +155,7 @@ alternation-listed w ws k e h r =
     subst (Nodes (w ∷ ws)) (sym (prog-opens w ws k e))
     (subst (λ (x : List ℕ). Nodes (w ∷ x) (alt (branchesOf bs) ▹ prog (drop k ws))) (take-append-drop k ws)
     (subst (λ (x : ℕ). Nodes (x ∷ (bs ++ drop k ws)) (alt (branchesOf bs) ▹ prog (drop k ws))) (opens-word w (length bs) (sound-proper w ws h) m)
-    (kind-6 {a = length bs % 256} {b = length bs / 256} (omega arith) (omega arith) (omega arith) u r)))
+    (kind-6 {a = length bs % fieldSize} {b = length bs / fieldSize} (omega arith) (omega arith) (omega arith) u r)))
 
 word-listed : (w : ℕ) (ws : List ℕ) → Sound (w ∷ ws) → (Sound ws → Nodes ws (prog ws)) → ((k : ℕ) → Sound (drop k ws) → Nodes (drop k ws) (prog (drop k ws))) → Nodes (w ∷ ws) (prog (w ∷ ws))
 word-listed w ws h a b = go (shape w) refl

@@ -3,13 +3,13 @@
 use mathlib.Core.Path.{_≡_, refl, sym, ap, ap₂, _∙_, subst}
 use mathlib.Core.Bool.{true}
 use mathlib.Core.List.{List, [], _∷_, _++_, append-nil}
-use Prim.Native.Nat.{ℕ, _+_, _*_, _/_, _%_, _<_}
+use Prim.Native.Nat.{ℕ, _/_, _%_, _<_}
 use native.Mathlib.Omega.{arith}
 use lib.ListN.{length}
 use Rattle.meaning.specs.Tokens.{Tokens}
 use Rattle.meaning.specs.Values.{Spelled}
 use Rattle.meaning.specs.Programs.{Item, Prog, Branches, mirror}
-use Rattle.meaning.specs.Words.{prog, sound, mirrorWords}
+use Rattle.meaning.specs.Words.{fieldSize, countBy, prog, sound, mirrorWords}
 use Rattle.meaning.proofs.WordSpans.{sound-words, mirrored-sound}
 use Rattle.meaning.proofs.MirrorWords.{mirror-says}
 use Rattle.compiling.specs.ProgramWords.{wordFor, opening, wordsFor, wordsOf, wordsIn}
@@ -38,11 +38,11 @@ unfolding wordsIn
 branched-words (last {ns = ns} l q) = ap (λ (x : List ℕ). word 7 (length x) 0 ∷ (x ++ [])) (flat-words q) ∙ ap (λ (x : List ℕ). word 7 (length ns) 0 ∷ x) (append-nil ns)
 branched-words (more {ns = ns} {bs = bs} l q r) = ap₂ (λ (x y : List ℕ). word 7 (length x) 0 ∷ (x ++ y)) (flat-words q) (branched-words r)
 
-opening-word : (a b n : ℕ) → a < 256 → n ≡ a + 256 * b → opening n ≡ word 6 a b
+opening-word : (a b n : ℕ) → a < fieldSize → n ≡ countBy a b → opening n ≡ word 6 a b
 unfolding opening
 opening-word a b n h e =
-    let x : n % 256 ≡ a = omega arith in
-    let y : n / 256 ≡ b = omega arith in
+    let x : n % fieldSize ≡ a = omega arith in
+    let y : n / fieldSize ≡ b = omega arith in
     ap₂ (λ (i j : ℕ). word 6 i j) x y
 
 node-words : {ws : List ℕ} {p : Prog} → Nodes ws p → wordsOf p ≡ ws

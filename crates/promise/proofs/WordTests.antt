@@ -6,7 +6,7 @@ use native.Mathlib.Omega.{arith}
 use lib.Dec.{eqb, ltb}
 use borrow.Author.Tests.{leb-true, le-leb}
 use Rattle.meaning.specs.Programs.{Test, byte, mask, negatedMask, any, dot, Item, one, jump, range, alt}
-use Rattle.meaning.specs.Words.{kindOf, firstOf, secondOf, wordSize, countOf, Shape, item, opens, mark, wrong, shapeBy, shape, properBy, proper, plain}
+use Rattle.meaning.specs.Words.{fieldSize, kindOf, firstOf, secondOf, wordSize, countSize, countBy, countOf, Shape, item, opens, mark, wrong, shapeBy, shape, properBy, proper, plain}
 use Rattle.meaning.proofs.KindLaws.{Seen, seen, kind-opens, kind-range}
 use Rattle.meaning.proofs.MadeLaws.{made-shape, made-proper}
 use Rattle.meaning.proofs.SoundLaws.{and-right, false-true}
@@ -15,31 +15,31 @@ use Rattle.nodes.specs.declared.Node.the-variants.{One, Jump, JumpRange, Altern
 use Rattle.nodes.proofs.NodeLaws.{word-again}
 use Rattle.promise.specs.NodeWords.{word, Flat, kind-0, kind-1, kind-2, kind-3, kind-5}
 
--- the fields of a shape that a word says are below 256; no word says `any` or whole alternatives
+-- what a shape that a word says holds fits its fields; no word says `any` or whole alternatives
 unfoldable pub OfTest : Test → Type 0
-OfTest (byte v) = v < 256
-OfTest (mask v m) = (v < 256) × (m < 256)
-OfTest (negatedMask v m) = (v < 256) × (m < 256)
+OfTest (byte v) = v < fieldSize
+OfTest (mask v m) = (v < fieldSize) × (m < fieldSize)
+OfTest (negatedMask v m) = (v < fieldSize) × (m < fieldSize)
 OfTest any = ⊥
 OfTest dot = Unit {0}
 
 unfoldable pub OfItem : Item → Type 0
 OfItem (one t) = OfTest t
-OfItem (jump n) = n < 256
-OfItem (range a b) = b < 256
+OfItem (jump n) = n < fieldSize
+OfItem (range a b) = b < fieldSize
 OfItem (alt bs) = ⊥
 
 OfShape : Shape → Type 0
 OfShape (item i) = OfItem i
-OfShape (opens n) = n < 65536
-OfShape (mark n) = n < 256
+OfShape (opens n) = n < countSize
+OfShape (mark n) = n < fieldSize
 OfShape wrong = Unit {0}
 
 of-cond : (b : Bool) (x y : Shape) → OfShape x → OfShape y → OfShape (cond b x y)
 of-cond true x y p q = p
 of-cond false x y p q = q
 
-of-fields : (k a b : ℕ) → a < 256 → b < 256 → OfShape (shapeBy k a b)
+of-fields : (k a b : ℕ) → a < fieldSize → b < fieldSize → OfShape (shapeBy k a b)
 unfolding shapeBy OfShape OfItem OfTest
 of-fields k a b h g =
     of-cond (eqb k 0) _ _ h
@@ -59,11 +59,11 @@ pub of-item : (w : ℕ) (i : Item) → shape w ≡ item i → OfItem i
 unfolding OfShape
 of-item w i e = subst OfShape e (of-shape w)
 
-pub of-opens : (w n : ℕ) → shape w ≡ opens n → n < 65536
+pub of-opens : (w n : ℕ) → shape w ≡ opens n → n < countSize
 unfolding OfShape
 of-opens w n e = subst OfShape e (of-shape w)
 
-pub of-mark : (w n : ℕ) → shape w ≡ mark n → n < 256
+pub of-mark : (w n : ℕ) → shape w ≡ mark n → n < fieldSize
 unfolding OfShape
 of-mark w n e = subst OfShape e (of-shape w)
 
@@ -109,7 +109,7 @@ range-word w a b h e = word-again w (JumpRange a b) h (sym e)
 pub mark-word : (w n : ℕ) → proper w ≡ true → shape w ≡ mark n → word 7 n 0 ≡ w
 mark-word w n h e = word-again w (AltBranch n) h (sym e)
 
-pub opens-word : (w n : ℕ) → proper w ≡ true → shape w ≡ opens n → word 6 (n % 256) (n / 256) ≡ w
+pub opens-word : (w n : ℕ) → proper w ≡ true → shape w ≡ opens n → word 6 (n % fieldSize) (n / fieldSize) ≡ w
 opens-word w n h e = word-again w (Alternation n) h (sym e)
 
 -- from the table to the test
@@ -117,7 +117,7 @@ pub record Tested (w : ℕ) (s : Shape) : Type 0 where
   pub proper-word : proper w ≡ true
   pub says : shape w ≡ s
 
-made : (k a b : ℕ) → k < 256 → a < 256 → b < 256 → properBy k a b ≡ true → Tested (word k a b) (shapeBy k a b)
+made : (k a b : ℕ) → k < 256 → a < fieldSize → b < fieldSize → properBy k a b ≡ true → Tested (word k a b) (shapeBy k a b)
 made k a b h f g e = record { proper-word = made-proper k a b h f g e; says = made-shape k a b h f g }
 
 pub flat-tested : {w : ℕ} {i : Item} → Flat w i → Tested w (item i)
@@ -136,14 +136,14 @@ flat-plain (kind-2 h g) = refl
 flat-plain (kind-3 h) = refl
 flat-plain kind-5 = refl
 
-pub range-tested : (a b : ℕ) → a ≤ b → b < 256 → Tested (word 4 a b) (item (range a b))
+pub range-tested : (a b : ℕ) → a ≤ b → b < fieldSize → Tested (word 4 a b) (item (range a b))
 unfolding properBy shapeBy
 range-tested a b h g = made 4 a b (omega arith) (omega arith) g (le-leb a b h)
 
-pub mark-tested : (n : ℕ) → n < 256 → Tested (word 7 n 0) (mark n)
+pub mark-tested : (n : ℕ) → n < fieldSize → Tested (word 7 n 0) (mark n)
 unfolding properBy shapeBy
 mark-tested n h = made 7 n 0 (omega arith) h (omega arith) refl
 
-pub opens-tested : (a b n : ℕ) → a < 256 → b < 256 → n ≡ a + 256 * b → 1 ≤ n → Tested (word 6 a b) (opens n)
+pub opens-tested : (a b n : ℕ) → a < fieldSize → b < fieldSize → n ≡ countBy a b → 1 ≤ n → Tested (word 6 a b) (opens n)
 unfolding properBy shapeBy
-opens-tested a b n h g e l = subst (λ (x : ℕ). Tested (word 6 a b) (opens x)) (sym e) (made 6 a b (omega arith) h g (le-leb 1 (a + 256 * b) (omega arith)))
+opens-tested a b n h g e l = subst (λ (x : ℕ). Tested (word 6 a b) (opens x)) (sym e) (made 6 a b (omega arith) h g (le-leb 1 (countBy a b) (omega arith)))

@@ -3,6 +3,7 @@ use checkdoors::Answer;
 use compiledoor::CompileAnswer;
 use literaldoor::LiteralsAnswer;
 use mirror::MirrorAnswer;
+use nodes::NodeWord;
 use readdoor::ReadAnswer;
 ghost use mathlib.Core.Path.{_≡_};
 ghost use mathlib.Core.Bool.{cond};
@@ -63,7 +64,11 @@ pub struct CompileResult {
 }
 
 #[no_mangle]
-pub extern "C" fn tm_compile(text: &[u8], forward: &mut [u32], reverse: &mut [u32]) -> CompileResult
+pub extern "C" fn tm_compile(
+    text: &[u8],
+    forward: &mut [NodeWord],
+    reverse: &mut [NodeWord],
+) -> CompileResult
     ensures { λ r. ⌜ (r ≡ compileTold (compileSays (now (text .entry)) (now (forward .entry)) (now (reverse .entry))))
         × (now (forward .exit) ≡ forwardLeaves (now (text .entry)) (now (forward .entry)) (now (reverse .entry)))
         × (now (reverse .exit) ≡ reverseLeaves (now (text .entry)) (now (forward .entry)) (now (reverse .entry))) ⌝ }
@@ -136,14 +141,14 @@ pub struct MirrorResult {
 }
 
 #[no_mangle]
-pub extern "C" fn tm_sound(program: &[u32]) -> u32
+pub extern "C" fn tm_sound(program: &[NodeWord]) -> u32
     ensures { λ r. ⌜ r ≡ cond (sound (now (program .entry))) 1 0 ⌝ }
 {
     if sound::is_sound(program) { 1 } else { 0 }
 }
 
 #[no_mangle]
-pub extern "C" fn tm_mirror(program: &[u32], pool: &mut [u32]) -> MirrorResult
+pub extern "C" fn tm_mirror(program: &[NodeWord], pool: &mut [NodeWord]) -> MirrorResult
     ensures { λ r. ⌜ (r ≡ mirrorTold (mirrorSays (now (program .entry)) (now (pool .entry)))) × (now (pool .exit) ≡ mirrorLeaves (now (program .entry)) (now (pool .entry))) ⌝ }
 {
     let r = mirror::mirror(program, pool);
@@ -191,7 +196,7 @@ fn told(r: Answer) -> CheckResult
 
 #[no_mangle]
 pub extern "C" fn tm_forward(
-    program: &[u32],
+    program: &[NodeWord],
     haystack: &[u8],
     start: usize,
     end: usize,
@@ -203,7 +208,7 @@ pub extern "C" fn tm_forward(
 
 #[no_mangle]
 pub extern "C" fn tm_reverse(
-    program: &[u32],
+    program: &[NodeWord],
     haystack: &[u8],
     start: usize,
     end: usize,
@@ -221,7 +226,12 @@ pub struct TailResult {
 
 // The part of the haystack that the second forward door hands back: C has no slice to return.
 #[no_mangle]
-pub extern "C" fn tm_tail(program: &[u32], haystack: &[u8], start: usize, end: usize) -> TailResult
+pub extern "C" fn tm_tail(
+    program: &[NodeWord],
+    haystack: &[u8],
+    start: usize,
+    end: usize,
+) -> TailResult
     ensures { λ r. ⌜ r ≡ tailTold end (forwardSays (now (program .entry)) (now (haystack .entry)) start end) ⌝ }
 {
     let r = checkdoors::forward(program, haystack, start, end);
