@@ -58,7 +58,7 @@ module _ {t : List ℕ} where
   begins-move {l} {l′} {c} {c′} {at} {at′} {miss} {miss′} e f g h b =
       subst₂ (λ (x y : ℕ). fault.Begins t x y at′ miss′) e f (subst₂ (λ (x y : ℕ). fault.Begins t l c x y) g h b)
 
-  looked-next : {l start c at e d : ℕ} {tok : Token} → Level l → fault.Looked t l start c at → token t l c at ≡ read tok e d → fault.Looked t l start d e × (d ≤ tokenLimit)
+  looked-next : {l start c at e d : ℕ} {tok : Token} → Level l → fault.Looked t l c at start → token t l c at ≡ read tok e d → fault.Looked t l d e start × (d ≤ tokenLimit)
   looked-next {l} {start} {c} {at} {e} {d} {tok} h k q =
       let s = token-there t l c at tok e d h q in
       (fault.next k (s .0) (s .1) (s .2), s .2)
@@ -69,7 +69,7 @@ module _ {t : List ℕ} where
         (skip t 1, begins-move (sym e) (sym f) (sym g) refl (fault.outermost s (mark-there t "{" 0 o (omega arith))), (omega arith, omega arith), omega arith)
     begins-there (given.bracketed {miss = miss} a h) = let b = brackets-there a in let k = b .1 in (miss, b .0, (omega arith, h), b .2)
 
-    looked-there : {l c at : ℕ} → given.Looked t l c at → (start : ℕ) × fault.Looked t l start c at × Level l × (c ≤ tokenLimit)
+    looked-there : {l c at : ℕ} → given.Looked t l c at → (start : ℕ) × fault.Looked t l c at start × Level l × (c ≤ tokenLimit)
     looked-there {l} {c} {at} (given.first b) = let x = begins-there b in (at, fault.first (x .1) (x .2 .1), x .2, x .3)
     looked-there (given.next k h) = let x = looked-there k in let y = looked-next (x .2) (x .1) h in (x .0, y .0, x .2, y .1)
 
@@ -85,17 +85,17 @@ module _ {t : List ℕ} where
         (begins-move refl refl (sym i) refl (fault.barred (x .0) (x .1) (list-there t l c at ts e d (omega arith) (x .2) h) (mark-there t "|" e b (omega arith))), x .1, g .within)
 
   -- tokens that were read are looked for one after another, up to where one is missing
-  along : {l start : ℕ} (ts : Tokens) (c at e d : ℕ) → Level l → fault.Looked t l start c at → more t l c at ≡ read ts e d → fault.Looked t l start d e × Missing t l e
+  along : {l start : ℕ} (ts : Tokens) (c at e d : ℕ) → Level l → fault.Looked t l c at start → more t l c at ≡ read ts e d → fault.Looked t l d e start × Missing t l e
   unfolding Chain
   along {l} {start} nothing c at e d h k q =
       let x = chain t l c at nothing e d q in
-      (subst₂ (λ (a b : ℕ). fault.Looked t l start a b) (sym (x .2)) (sym (x .1)) k, subst (Missing t l) (sym (x .1)) (missing-there t l c at h (x .0)))
+      (subst₂ (λ (a b : ℕ). fault.Looked t l a b start) (sym (x .2)) (sym (x .1)) k, subst (Missing t l) (sym (x .1)) (missing-there t l c at h (x .0)))
   along {l} {start} (tok then ts) c at e d h k q =
       let x = chain t l c at (tok then ts) e d q in
       along ts (x .1) (x .0) e d h (looked-next h k (x .2) .0) (x .3)
 
   -- the last of them is a jump
-  last-there : {l start : ℕ} (tok : Token) (ts : Tokens) (c at e d : ℕ) → Level l → fault.Looked t l start c at → more t l c at ≡ read (tok then ts) e d → endsIn tok ts ≡ true → Fault t JumpAtBound start
+  last-there : {l start : ℕ} (tok : Token) (ts : Tokens) (c at e d : ℕ) → Level l → fault.Looked t l c at start → more t l c at ≡ read (tok then ts) e d → endsIn tok ts ≡ true → Fault t JumpAtBound start
   unfolding Chain endsIn
   last-there {l} tok nothing c at e d h k q j =
       let x = chain t l c at (tok then nothing) e d q in
@@ -108,14 +108,14 @@ module _ {t : List ℕ} where
       last-there next ts (x .1) (x .0) e d h (looked-next h k (x .2) .0) (x .3) j
 
   -- or the first
-  first-there : {l start : ℕ} (tok : Token) (ts : Tokens) (c e d : ℕ) → Level l → fault.Looked t l start c start → more t l c start ≡ read (tok then ts) e d → isJump tok ≡ true → Fault t JumpAtBound start
+  first-there : {l start : ℕ} (tok : Token) (ts : Tokens) (c e d : ℕ) → Level l → fault.Looked t l c start start → more t l c start ≡ read (tok then ts) e d → isJump tok ≡ true → Fault t JumpAtBound start
   unfolding Chain
   first-there {l} {start} tok ts c e d h k q j =
       let x = chain t l c start (tok then ts) e d q in
       let a = along (tok then ts) c start e d h k q in
       fault.jump-first (a .0) (a .1) (gap-of h (token-there t l c start tok (x .0) (x .1) h (x .2) .0) j)
 
-  bound-there : {l start : ℕ} (ts : Tokens) (c e d : ℕ) → Level l → fault.Looked t l start c start → more t l c start ≡ read ts e d → atBound ts ≡ true → Fault t JumpAtBound start
+  bound-there : {l start : ℕ} (ts : Tokens) (c e d : ℕ) → Level l → fault.Looked t l c start start → more t l c start ≡ read ts e d → atBound ts ≡ true → Fault t JumpAtBound start
   unfolding atBound begins ends tokenCount
   bound-there nothing c e d h k q w = never (cc)
   bound-there (tok then ts) c e d h k q w = ⊎-elim (λ j. first-there tok ts c e d h k q j) (λ j. last-there tok ts c _ e d h k q j) (at-bound tok ts w)
@@ -144,12 +144,12 @@ module _ {t : List ℕ} where
       let x = looked-there k in
       let y = x .3 in
       let z : c ≡ tokenLimit = omega arith in
-      fault.too-many (subst (λ (n : ℕ). fault.Looked t l (x .0) n at) z (x .1)) (plain-there t l at tok s e (x .2) q)
+      fault.too-many (subst (λ (n : ℕ). fault.Looked t l n at (x .0)) z (x .1)) (plain-there t l at tok s e (x .2) q)
   given-fault (given.too-many-brackets {level = l} {count = c} {at = at} k h q) =
       let x = looked-there k in
       let y = x .3 in
       let z : c ≡ tokenLimit = omega arith in
-      fault.too-many-brackets (subst (λ (n : ℕ). fault.Looked t l (x .0) n at) z (x .1)) (mark-there t "(" at q (omega arith))
+      fault.too-many-brackets (subst (λ (n : ℕ). fault.Looked t l n at (x .0)) z (x .1)) (mark-there t "(" at q (omega arith))
 
 -- and back: from the grammar's places to the reader's; the outer list, and one in brackets
 abbrev Outer : List ℕ → ℕ → ℕ → ℕ → ℕ → Type 0
@@ -198,13 +198,13 @@ module _ {t : List ℕ} where
         let g = list-gone t l c at (z .1) in
         inr (given.barred (x .0) (z .1) (y .0) (y .1), h, g .within)
 
-    looked-here : {l start c at : ℕ} → fault.Looked t l start c at → given.Looked t l c at × Level l × (c ≤ tokenLimit)
+    looked-here : {l start c at : ℕ} → fault.Looked t l c at start → given.Looked t l c at × Level l × (c ≤ tokenLimit)
     looked-here (fault.first b h) = let x = starts (begins-here b) h in (given.first (x .0), x .1, x .2)
     looked-here {l} (fault.next {count = c} {at = at} {d = d} {e = e} {tok = tok} k s i n) =
         let x = looked-here k in
         (given.next (x .0) (token-stands t l c at tok e d (x .1) .1 (s, i, n)), x .1, n)
 
-  started : {l start c at : ℕ} → fault.Looked t l start c at → (us : Tokens) (e d : ℕ) → more t l c at ≡ read us e d → Started t l start e d us
+  started : {l start c at : ℕ} → fault.Looked t l c at start → (us : Tokens) (e d : ℕ) → more t l c at ≡ read us e d → Started t l start e d us
   unfolding before EndsWell
   started {l} {start} {c} (fault.first b h) us e d q = (c, us, starts (begins-here b) h .0, q, λ n. n)
   started {l} (fault.next {count = c} {at = at} {d = b} {e = x} {tok = tok} k s j n) us e d q =
@@ -250,7 +250,7 @@ module _ {t : List ℕ} where
       let a = inner h (begins-here b) in
       given.not-bracketed (a .0) (list-here (omega arith) s .1) (λ o. n (skip t (e + 1)) (mark-there t ")" e o (omega arith))) (λ o. m (skip t (e + 1)) (mark-there t "|" e o (omega arith)))
   fault-given (fault.in-token k i) = let x = looked-here k in given.in-token (x .0) (in-token-here (x .1) i)
-  fault-given (fault.jump-first {level = l} {start = start} {count = c} {at = at} {e = e} {tok = tok} k m s) =
+  fault-given (fault.jump-first {level = l} {count = c} {at = at} {start = start} {e = e} {tok = tok} k m s) =
       let h = looked-here k .1 in
       let x = started k nothing at c (more-none t l c at (missing-here t l c at h m)) in
       given.jump-at-bound (x .2) (x .3) (bound-by (atBound (x .1)) (λ w. first-bound l (x .0) start (x .1) at c e tok h (x .3) s w))

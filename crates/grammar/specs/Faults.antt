@@ -13,7 +13,7 @@ use Rattle.meaning.specs.Tokens.{Token, Tokens, totalIn, total}
 use Rattle.grammar.specs.Grammar.{Text, Clear, Mark, Numeral, Number, Gap, Solid, TokenList}
 
 -- from `at` up to e stands a string of this kind, and no blank follows it
-pub data Stands (t : Text) (Kind : Text → Type 0) (at : ℕ) : ℕ → Type 0 where
+pub data Stands (t : Text) (Kind : Text → Type 0) (at : ℕ) : (e : ℕ) → Type 0 where
   stands : {s r : Text} → drop at t ≡ s ++ r → Kind s → Clear r → Stands t Kind at (at + length s)
 
 -- none stands there, up to any offset
@@ -25,12 +25,12 @@ abbrev pub Spells : ℕ → Token → Text → Type 0
 Spells level tok s = Solid level tok s ⊎ Gap level tok s
 
 -- before a jump's dash: a number, or nothing for 0
-pub data From (t : Text) (at : ℕ) : ℕ → ℕ → Type 0 where
+pub data From (t : Text) (at : ℕ) : (n e : ℕ) → Type 0 where
   number : {n e : ℕ} → Stands t (Number n) at e → From t at n e
   nothing : From t at 0 at
 
 -- a jump as it is spelled at `at`, whatever its bounds; after each number a sign stands, so that no digit is left over
-pub data Jumps (t : Text) (at : ℕ) : ℕ → Option ℕ → Type 0 where
+pub data Jumps (t : Text) (at : ℕ) : (from : ℕ) (to : Option ℕ) → Type 0 where
   single : {n x y z : ℕ} → Stands t (Mark "[") at x → Stands t (Number n) x y → Stands t (Mark "]") y z → Jumps t at n (some n)
   bounded : {m n x y z u v : ℕ} → Stands t (Mark "[") at x → From t x m y → Stands t (Mark "-") y z → Stands t (Number n) z u → Stands t (Mark "]") u v → Jumps t at m (some n)
   unbounded : {m x y z u : ℕ} → Stands t (Mark "[") at x → From t x m y → Stands t (Mark "-") y z → Stands t (Mark "]") z u → Jumps t at m none
@@ -40,7 +40,7 @@ pub data Big (t : Text) (at : ℕ) : Type 0 where
   big : {n : ℕ} {s : Text} (r : Text) → drop at t ≡ s ++ r → Numeral n s → numberLimit < n → Big t at
 
 -- a token looked for at `at`, in a list of this level, is refused
-pub data InToken (t : Text) (level at : ℕ) : Refusal → ℕ → Type 0 where
+pub data InToken (t : Text) (level at : ℕ) : Refusal → (place : ℕ) → Type 0 where
   -- 2: after `~`, neither what makes it a token nor `??`
   after-tilde : {r : Text} → drop at t ≡ code "~" ∷ r → ((u : Text) → r ≡ code "?" ∷ (code "?" ∷ u) → ⊥) → ((tok : Token) → Lacks t (Spells level tok) at) → InToken t level at Unexpected (at + 1)
   -- 9: `~??`
@@ -57,26 +57,26 @@ pub data InToken (t : Text) (level at : ℕ) : Refusal → ℕ → Type 0 where
   long-inside : {m n : ℕ} → 1 < level → Jumps t at m (some n) → m ≤ n → innerJumpLimit < n → InToken t level at JumpTooBigInAlternation at
 
 -- no token at `at`: none stands there, none is refused, no alternatives are opened
-abbrev pub Missing : Text → ℕ → ℕ → Type 0
+abbrev pub Missing : (t : Text) (level at : ℕ) → Type 0
 Missing t level at = ((tok : Token) → Lacks t (Spells level tok) at) × ((r : Refusal) (p : ℕ) → InToken t level at r p → ⊥) × Lacks t (Mark "(") at
 
 -- from `at` up to e stands a list of this level, and no token follows; with those before it, it has d tokens
-pub data Listed (t : Text) (level count at : ℕ) : ℕ → ℕ → Type 0 where
+pub data Listed (t : Text) (level count at : ℕ) : (d e : ℕ) → Type 0 where
   listed : {d e : ℕ} {ts : Tokens} → level ≤ levelLimit → Stands t (TokenList level ts) at e → d ≡ count + total ts → d ≤ tokenLimit → Missing t level e → Listed t level count at d e
 
 mutual
   -- a list of this level should begin at `at`, after so many tokens, and would be missed at `miss`: after `{`, after `(`, or after `|`
-  pub data Begins (t : Text) : ℕ → ℕ → ℕ → ℕ → Type 0 where
+  pub data Begins (t : Text) : (level count at miss : ℕ) → Type 0 where
     outermost : {at : ℕ} → length t ≤ textLimit → Stands t (Mark "{") 0 at → Begins t 1 0 at at
-    opened : {level start count at x : ℕ} → Looked t level start count at → Stands t (Mark "(") at x → count < tokenLimit → Begins t (suc level) (suc count) x x
+    opened : {level count at start x : ℕ} → Looked t level count at start → Stands t (Mark "(") at x → count < tokenLimit → Begins t (suc level) (suc count) x x
     barred : {level count at miss d e x : ℕ} → Begins t level count at miss → 1 < level → Listed t level count at d e → Stands t (Mark "|") e x → Begins t level d x e
 
   -- in a list of this level that begins at `start`, a token is looked for at `at`, after so many tokens
-  pub data Looked (t : Text) : ℕ → ℕ → ℕ → ℕ → Type 0 where
-    first : {level count at miss : ℕ} → Begins t level count at miss → level ≤ levelLimit → Looked t level at count at
-    next : {level start count at d e : ℕ} {tok : Token} → Looked t level start count at → Stands t (Spells level tok) at e → d ≡ count + totalIn tok → d ≤ tokenLimit → Looked t level start d e
+  pub data Looked (t : Text) : (level count at start : ℕ) → Type 0 where
+    first : {level count at miss : ℕ} → Begins t level count at miss → level ≤ levelLimit → Looked t level count at at
+    next : {level count at start d e : ℕ} {tok : Token} → Looked t level count at start → Stands t (Spells level tok) at e → d ≡ count + totalIn tok → d ≤ tokenLimit → Looked t level d e start
 
-pub data Fault (t : Text) : Refusal → ℕ → Type 0 where
+pub data Fault (t : Text) : Refusal → (place : ℕ) → Type 0 where
   -- 1: above 4,096 bytes
   too-long : textLimit < length t → Fault t TextTooLong 0
   -- 2: no `{` at the start; no list; something else than what should close the outer list, or one in brackets
@@ -85,12 +85,12 @@ pub data Fault (t : Text) : Refusal → ℕ → Type 0 where
   not-closed : {at miss d e : ℕ} → Begins t 1 0 at miss → Listed t 1 0 at d e → Lacks t (Mark "}") e → Fault t Unexpected e
   not-bracketed : {level count at miss d e : ℕ} → Begins t level count at miss → 1 < level → Listed t level count at d e → Lacks t (Mark ")") e → Lacks t (Mark "|") e → Fault t Unexpected e
   -- 2 after `~`, 3, 4, 5, 7, 8, 9: within a token
-  in-token : {level start count at p : ℕ} {r : Refusal} → Looked t level start count at → InToken t level at r p → Fault t r p
+  in-token : {level count at start p : ℕ} {r : Refusal} → Looked t level count at start → InToken t level at r p → Fault t r p
   -- 6: a jump at the start of a list, or at its end, once it has ended
-  jump-first : {level start count at e : ℕ} {tok : Token} → Looked t level start count at → Missing t level at → Stands t (Gap level tok) start e → Fault t JumpAtBound start
-  jump-last : {level start count at e : ℕ} {tok : Token} → Looked t level start count at → Stands t (Gap level tok) at e → count < tokenLimit → Missing t level e → Fault t JumpAtBound start
+  jump-first : {level count at start e : ℕ} {tok : Token} → Looked t level count at start → Missing t level at → Stands t (Gap level tok) start e → Fault t JumpAtBound start
+  jump-last : {level count at start e : ℕ} {tok : Token} → Looked t level count at start → Stands t (Gap level tok) at e → count < tokenLimit → Missing t level e → Fault t JumpAtBound start
   -- 10: a ninth level
   too-deep : {level count at miss : ℕ} → Begins t level count at miss → levelLimit < level → Fault t HexStringTooDeep at
   -- 11: a token, or a `(`, after 512 tokens
-  too-many : {level start at e : ℕ} {tok : Token} → Looked t level start tokenLimit at → Stands t (Spells level tok) at e → Fault t TooManyTokens at
-  too-many-brackets : {level start at e : ℕ} → Looked t level start tokenLimit at → Stands t (Mark "(") at e → Fault t TooManyTokens at
+  too-many : {level at start e : ℕ} {tok : Token} → Looked t level tokenLimit at start → Stands t (Spells level tok) at e → Fault t TooManyTokens at
+  too-many-brackets : {level at start e : ℕ} → Looked t level tokenLimit at start → Stands t (Mark "(") at e → Fault t TooManyTokens at
