@@ -51,7 +51,7 @@ pub data InToken (t : List ℕ) (inside : Bool) (at : ℕ) : Refusal → ℕ →
 mutual
   -- a list of this level begins at `at`, after so many tokens: the outer one, of level 1, or one in brackets, of level 2 to 8
   pub data Begins (t : List ℕ) : (level count at : ℕ) → Type 0 where
-    outermost : {level count at : ℕ} → length t ≤ textLimit → here t 0 ≡ 123 → level ≡ 1 → count ≡ 0 → at ≡ skip t 1 → Begins t level count at
+    outermost : {level count at : ℕ} → length t ≤ textLimit → here t 0 ≡ code "{" → level ≡ 1 → count ≡ 0 → at ≡ skip t 1 → Begins t level count at
     bracketed : {level count at miss : ℕ} → InBrackets t level count at miss → level ≤ levelLimit → Begins t level count at
 
   -- a token is looked for at `at`: where a list begins, and after each token
@@ -61,8 +61,8 @@ mutual
 
   -- a list in brackets should begin at `at`, and is missed at `miss`: after `(`, or after `|`
   pub data InBrackets (t : List ℕ) : (level count at miss : ℕ) → Type 0 where
-    opened : {level count at deeper counted x miss : ℕ} → Looked t level count at → here t at ≡ 40 → count < tokenLimit → deeper ≡ level + 1 → counted ≡ count + 1 → x ≡ skip t (at + 1) → miss ≡ skip t (at + 1) → InBrackets t deeper counted x miss
-    barred : {level count at miss e d x : ℕ} {ts : Tokens} → InBrackets t level count at miss → list t level count at ≡ read ts e d → here t e ≡ 124 → x ≡ skip t (e + 1) → InBrackets t level d x e
+    opened : {level count at deeper counted x miss : ℕ} → Looked t level count at → here t at ≡ code "(" → count < tokenLimit → deeper ≡ level + 1 → counted ≡ count + 1 → x ≡ skip t (at + 1) → miss ≡ skip t (at + 1) → InBrackets t deeper counted x miss
+    barred : {level count at miss e d x : ℕ} {ts : Tokens} → InBrackets t level count at miss → list t level count at ≡ read ts e d → here t e ≡ code "|" → x ≡ skip t (e + 1) → InBrackets t level d x e
 
 pub data Given (t : List ℕ) : Refusal → ℕ → Type 0 where
   -- 1: above 4,096 bytes
