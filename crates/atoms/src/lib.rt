@@ -1,9 +1,9 @@
 // Translated from boreal's boreal/src/atoms.rs (MIT OR Apache-2.0), commit 7010b5e967; see NOTICE.
-// The score is the port's own; the walk over the windows of a literal is the original's.
+// The score is the port's own; the walk over the atoms of a literal is the original's.
 ghost use mathlib.Core.Path.{_≡_};
 ghost use Prim.Native.Nat.{max};
 ghost use lib.ListN.{take};
-ghost use Rattle.atoms.specs.Score.{atomLen, byteScore, windowScore, literalScore};
+ghost use Rattle.atoms.specs.Score.{atomLen, byteScore, atomScore, literalScore};
 
 // What a search looks for: a run of at most `LEN` bytes of a literal.
 pub struct Atom;
@@ -13,7 +13,7 @@ impl Atom {
 
     // The score of the atom at the start of some bytes.
     pub fn score(bytes: &[u8]) -> u32
-        ensures { λ r. ⌜ r ≡ windowScore (take atomLen (now (bytes .entry))) ⌝ }
+        ensures { λ r. ⌜ r ≡ atomScore (take atomLen (now (bytes .entry))) ⌝ }
     {
         let mut sum = 0;
         let mut i = 0;
@@ -48,7 +48,7 @@ pub fn literal_score(lit: &[u8]) -> u32
 {
     let mut best = Atom::score(lit);
     let mut at = 0;
-    // A next window needs a byte behind this one.
+    // A next atom needs a byte behind this one.
     while Atom::LEN < lit.len() - at {
         at += 1;
         best = larger(best, Atom::score(&lit[at..]));

@@ -1,4 +1,5 @@
 -- The numbers of 01's refusal table. Assumes nothing: this is a definition.
+-- To be believed: all.
 use Prim.Native.Nat.{ℕ}
 use Rattle.base.specs.declared.Refusal.{Refusal}
 use Rattle.base.specs.declared.Refusal.the-variants.{TextTooLong, Unexpected, NumberTooBig, JumpEmpty, JumpRangeInvalid, JumpAtBound, JumpUnboundedInAlternation, JumpTooBigInAlternation, CannotNegateMaskAll, HexStringTooDeep, TooManyTokens, NotSimple, TooManyNodes, BranchTooLong, Unsound, BadWindow, TooManyLiterals, NoRoom, NotPlain}

@@ -1,4 +1,5 @@
 -- A quoted text as bytes. Assumes nothing: this is a definition.
+-- To be believed: all.
 use mathlib.Core.List.{List, [] as none, _∷_ as _and_}
 use Prim.Native.Nat.{ℕ}
 use Prim.Native.Char.{code}

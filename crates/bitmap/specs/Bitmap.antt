@@ -1,4 +1,5 @@
 -- The set of bytes that a bitmap of 256 bits holds. Assumes nothing: these are definitions.
+-- To be believed: nothing.
 use mathlib.Core.Path.{_≡_}
 use mathlib.Core.Bool.{Bool, cond}
 use mathlib.Core.List.{List, [], _∷_}

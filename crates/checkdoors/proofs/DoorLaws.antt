@@ -17,11 +17,11 @@ use Rattle.meaning.specs.Choices.{short, long}
 use Rattle.meaning.specs.Rows.{forward, backward}
 use Rattle.meaning.specs.Words.{prog, sound, Sound}
 use Rattle.meaning.proofs.WordSpans.{sound-words}
-use Rattle.nodes.proofs.WordHeads.{from, to-end}
+use Rattle.meaning.proofs.PartLaws.{from, to-end}
 use Rattle.steps.specs.declared.Found.the-variants.{Left, Nothing}
 use Rattle.steps.specs.Steps.{answer}
 use Rattle.steps.proofs.Answers.{answer-some, answer-none, left-fits, left-part}
-use Rattle.checkdoors.specs.Doors.{found, noMatch, refused, window, refusal, endAt, startAt, forwardSays, reverseSays, leftOr, leftSays, leftFrom, leftAt, onward}
+use Rattle.checkdoors.specs.Doors.{found, noMatch, refuses, window, refusal, endAt, startAt, forwardSays, reverseSays, leftOr, leftSays, leftFrom, leftAt, onward}
 
 -- what a slice of bytes holds is below 256, each by its type
 pub all-bytes : (hay : List ℕ) → ((i : ℕ) → Fits w8 (getD hay i 0)) → Bytes hay
@@ -81,11 +81,11 @@ window-length ws hay s e f = length-take-le (e - s) (drop s hay) (omega (arith, 
 
 module _ (ws hay : List ℕ) (s e : ℕ) where
   -- refused
-  pub forward-refused : (k : ℕ) → some k ≡ refusal ws (length hay) s e → refused k 0 ≡ forwardSays ws hay s e
+  pub forward-refused : (k : ℕ) → some k ≡ refusal ws (length hay) s e → refuses k 0 ≡ forwardSays ws hay s e
   unfolding forwardSays
   forward-refused k h = rw (sym h)
 
-  pub reverse-refused : (k : ℕ) → some k ≡ refusal ws (length hay) s e → refused k 0 ≡ reverseSays ws hay s e
+  pub reverse-refused : (k : ℕ) → some k ≡ refusal ws (length hay) s e → refuses k 0 ≡ reverseSays ws hay s e
   unfolding reverseSays
   reverse-refused k h = rw (sym h)
 

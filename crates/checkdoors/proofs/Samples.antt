@@ -4,7 +4,7 @@ use mathlib.Core.List.{List, [], _∷_}
 use Prim.Native.Nat.{ℕ}
 use Rattle.meaning.specs.Programs.{pass}
 use Rattle.meaning.specs.Rows.{rest, found, before, _⊗_, rows, run}
-use Rattle.meaning.specs.Words.{word, shape, shapeBy, prog, items, sound, soundWords, soundBranches, plainWords, plain, proper, properBy, mirrorWords, mirrorItems}
+use Rattle.meaning.specs.Words.{word, shape, shapeBy, prog, items, sound, soundWords, soundBranches, flatWords, isFlat, proper, properBy, mirrorWords, mirrorItems}
 use Rattle.checkdoors.specs.Doors as doors
 
 -- (61|61 62) 63
@@ -21,15 +21,15 @@ a-or-ba = word 6 5 0 ∷ word 7 1 0 ∷ word 0 0x61 0 ∷ word 7 2 0 ∷ word 0 
 
 -- on 61 62 63: end 3
 pub second-branch : doors.forwardSays a-or-ab-c (0x61 ∷ 0x62 ∷ 0x63 ∷ []) 0 3 ≡ doors.found 3
-unfolding a-or-ab-c doors.forwardSays doors.refusal prog items shape shapeBy sound soundWords soundBranches plainWords plain proper properBy run rows found before _⊗_ rest pass
+unfolding a-or-ab-c doors.forwardSays doors.refusal prog items shape shapeBy sound soundWords soundBranches flatWords isFlat proper properBy run rows found before _⊗_ rest pass
 second-branch = refl
 
 -- on 61 62: end 2
 pub first-branch : doors.forwardSays ab-or-a (0x61 ∷ 0x62 ∷ []) 0 2 ≡ doors.found 2
-unfolding ab-or-a doors.forwardSays doors.refusal prog items shape shapeBy sound soundWords soundBranches plainWords plain proper properBy run rows found before _⊗_ rest pass
+unfolding ab-or-a doors.forwardSays doors.refusal prog items shape shapeBy sound soundWords soundBranches flatWords isFlat proper properBy run rows found before _⊗_ rest pass
 first-branch = refl
 
 -- the false friend: backwards on 62 61 gives 1, not the smallest start
 pub not-the-smallest : doors.reverseSays (mirrorWords a-or-ba) (0x62 ∷ 0x61 ∷ []) 0 2 ≡ doors.found 1
-unfolding a-or-ba mirrorWords mirrorItems doors.reverseSays doors.refusal prog items shape shapeBy sound soundWords soundBranches plainWords plain proper properBy run rows found before _⊗_ rest pass
+unfolding a-or-ba mirrorWords mirrorItems doors.reverseSays doors.refusal prog items shape shapeBy sound soundWords soundBranches flatWords isFlat proper properBy run rows found before _⊗_ rest pass
 not-the-smallest = refl

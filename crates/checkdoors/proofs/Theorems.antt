@@ -20,11 +20,11 @@ use Rattle.steps.specs.Steps.{answer}
 use Rattle.steps.proofs.Answers.{left-fits, left-part}
 use Rattle.checkdoors.specs.declared.Answer.{Answer}
 use Rattle.checkdoors.specs.declared.Answer.the-variants.{At, NoMatch, Refused}
-use Rattle.checkdoors.specs.Doors.{found, noMatch, said, window, refusal, unless, endAt, startAt, forwardSays, reverseSays, leftOr, unlessEmpty, leftSays, leftFrom, leftAt, Answered, HandsBack}
+use Rattle.checkdoors.specs.Doors.{found, noMatch, checkSaid, window, refusal, unless, endAt, startAt, forwardSays, reverseSays, leftOr, unlessEmpty, leftSays, leftFrom, leftAt, Answered, HandsBack}
 use Rattle.checkdoors.proofs.DoorLaws.{fine, window-length, passed, forward-checked, reverse-checked, left-checked}
 
 -- an answer is known by what it says
-pub said-one : (r q : Answer) → said r ≡ said q → r ≡ q
+pub said-one : (r q : Answer) → checkSaid r ≡ checkSaid q → r ≡ q
 said-one (At n) (At m) e = let z : n ≡ m = cc in ap At z
 said-one (At n) NoMatch e = let z : _≡_ {A = ℕ} 0 1 = cc in absurd (omega arith)
 said-one (At n) (Refused x) e = let z : _≡_ {A = ℕ} 0 1 = cc in absurd (omega arith)
@@ -103,7 +103,7 @@ module _ (ws hay hay' : List ℕ) (s e : ℕ) where
     unfolding leftSays
     left-inside = ap₂ (λ (n : ℕ) (y : List ℕ). unlessEmpty (refusal ws n s e) (leftOr (forward (prog ws) y))) l same-window
 
--- what an outcome tells of what the check leaves
+-- what the check leaves, by what is said
 end-some : (e n : ℕ) (x : Option (List ℕ)) → endAt e x ≡ found n → (v : List ℕ) × (x ≡ some v) × (n ≡ e - length v)
 end-some e n none h = let z : _≡_ {A = ℕ} 0 1 = cc in absurd (omega arith)
 end-some e n (some v) h = (v, refl, cc)

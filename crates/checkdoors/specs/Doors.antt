@@ -1,4 +1,5 @@
 -- What the doors of the checks answer, in 01's words. Assumes nothing: these are definitions.
+-- To be believed: `CheckSaid` `checkSaid` `window` `Answered` `onward` `HandsBack`.
 use mathlib.Core.Path.{_≡_}
 use mathlib.Core.Bool.{cond, _&&_}
 use mathlib.Core.Option.{Option, none, some}
@@ -18,16 +19,16 @@ use Rattle.checkdoors.specs.declared.Admitted.{Admitted}
 use Rattle.checkdoors.specs.declared.Admitted.the-variants.{Yes, No}
 
 -- 01's answers of a check: found at an offset, no match, refused under a number at a place (which is 0)
-pub data Outcome : Type 0 where
-  found : ℕ → Outcome
-  noMatch : Outcome
-  refused : ℕ → ℕ → Outcome
+pub data CheckSaid : Type 0 where
+  found : ℕ → CheckSaid
+  noMatch : CheckSaid
+  refuses : ℕ → ℕ → CheckSaid
 
 -- what each of the code's answers says
-abbrev pub said : Answer → Outcome
-said (At n) = found n
-said NoMatch = noMatch
-said (Refused r) = refused (numberOf r) 0
+abbrev pub checkSaid : Answer → CheckSaid
+checkSaid (At n) = found n
+checkSaid NoMatch = noMatch
+checkSaid (Refused r) = refuses (numberOf r) 0
 
 -- the part of the haystack inside the window
 abbrev pub window : List ℕ → ℕ → ℕ → List ℕ
@@ -41,25 +42,25 @@ abbrev pub whyNot : Admitted → Option ℕ
 whyNot Yes = none
 whyNot (No r) = some (numberOf r)
 
--- refused, or the outcome of the check
-abbrev pub unless : Option ℕ → Outcome → Outcome
+-- refused, or what the check says
+abbrev pub unless : Option ℕ → CheckSaid → CheckSaid
 unless none o = o
-unless (some k) o = refused k 0
+unless (some k) o = refuses k 0
 
 -- the offset of the end, where the match leaves the last bytes of a window that ends at e
-abbrev pub endAt : ℕ → Option (List ℕ) → Outcome
+abbrev pub endAt : ℕ → Option (List ℕ) → CheckSaid
 endAt e none = noMatch
 endAt e (some v) = found (e - length v)
 
 -- the offset of the start, where the match leaves the first bytes of a window that starts at s
-abbrev pub startAt : ℕ → Option (List ℕ) → Outcome
+abbrev pub startAt : ℕ → Option (List ℕ) → CheckSaid
 startAt s none = noMatch
 startAt s (some v) = found (s + length v)
 
-unfoldable pub forwardSays : List ℕ → List ℕ → ℕ → ℕ → Outcome
+unfoldable pub forwardSays : List ℕ → List ℕ → ℕ → ℕ → CheckSaid
 forwardSays ws hay s e = unless (refusal ws (length hay) s e) (endAt e (forward (prog ws) (window hay s e)))
 
-unfoldable pub reverseSays : List ℕ → List ℕ → ℕ → ℕ → Outcome
+unfoldable pub reverseSays : List ℕ → List ℕ → ℕ → ℕ → CheckSaid
 reverseSays ws hay s e = unless (refusal ws (length hay) s e) (startAt s (backward (prog ws) (window hay s e)))
 
 -- what is left of the window, and nothing after no match and after a refusal
@@ -75,17 +76,17 @@ unfoldable pub leftSays : List ℕ → List ℕ → ℕ → ℕ → List ℕ
 leftSays ws hay s e = unlessEmpty (refusal ws (length hay) s e) (leftOr (forward (prog ws) (window hay s e)))
 
 -- where in the haystack it begins: at the end that was found, else at the haystack's start
-abbrev pub leftFrom : Outcome → ℕ
+abbrev pub leftFrom : CheckSaid → ℕ
 leftFrom (found n) = n
 leftFrom noMatch = 0
-leftFrom (refused k place) = 0
+leftFrom (refuses k place) = 0
 
 unfoldable pub leftAt : List ℕ → List ℕ → ℕ → ℕ → ℕ
 leftAt ws hay s e = leftFrom (forwardSays ws hay s e)
 
--- What the answer r of a check's door promises, where the outcome is o: it says o; and the haystack holds bytes, by its type.
-pub record Answered (o : Outcome) (hay : List ℕ) (r : Answer) : Type 0 where
-  pub says : said r ≡ o
+-- What the answer r of a check's door promises: it says o; and the haystack holds bytes, by its type.
+pub record Answered (o : CheckSaid) (hay : List ℕ) (r : Answer) : Type 0 where
+  pub says : checkSaid r ≡ o
   pub bytes : Bytes hay
 
 -- the place n bytes on: a place is a block of memory and an offset in it

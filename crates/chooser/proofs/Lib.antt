@@ -1,4 +1,4 @@
--- The laws of the choice between runs.
+-- The laws of what wins between runs.
 pub mod RunsLaws
 pub mod ShiftLaws
 pub mod BetweenLaws

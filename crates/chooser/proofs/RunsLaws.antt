@@ -7,26 +7,26 @@ use lib.ListN.{length, take, drop, length-drop}
 use lib.Seq.{drop-drop}
 use Rattle.meaning.specs.Limits.{tokenPool}
 use Rattle.meaning.specs.Tokens.{Tokens, nothing, _then_}
+use Rattle.meaning.proofs.PartLaws.{to-end}
 use Rattle.picking.specs.Runs.{segments, filledOnes, firstLast, runs}
-use Rattle.picking.specs.Choice.{Choice, unranked, inRun, between, among, choice}
+use Rattle.picking.specs.Candidates.{Candidate, unranked, inRun, between, amongRuns, inPattern}
 use Rattle.entries.specs.Words.{width, tokensIn}
 use Rattle.entries.proofs.StepLaws.{tokens-end, tokens-step, width-le, width-long}
-use Rattle.entries.proofs.PartLaws.{part-all}
-use Rattle.picks.specs.declared.Pick.{Pick}
-use Rattle.picks.specs.declared.Pick.the-variants.{Nothing}
-use Rattle.picks.specs.Ranks.{choiceSays}
+use Rattle.picks.specs.declared.Winner.{Winner}
+use Rattle.picks.specs.declared.Winner.the-variants.{Nothing}
+use Rattle.picks.specs.Ranks.{winnerSays}
 use Rattle.runs.specs.Whole.{Whole, runEnd, afterward}
 use Rattle.runs.proofs.WholeLaws.{whole-first}
 use Rattle.runs.proofs.SegmentLaws.{Segment, first-segment}
 use Rattle.chooser.specs.Kept.{Kept, Told, AllTold, Stretch, laterRuns}
 
-among-first : (c : Choice) (s : Tokens) (ss : List Tokens) → among c (filledOnes (s ∷ ss)) ≡ among (among c (filledOnes (s ∷ []))) (filledOnes ss)
-unfolding among filledOnes
+among-first : (c : Candidate) (s : Tokens) (ss : List Tokens) → amongRuns c (filledOnes (s ∷ ss)) ≡ amongRuns (amongRuns c (filledOnes (s ∷ []))) (filledOnes ss)
+unfolding amongRuns filledOnes
 among-first c nothing ss = refl
 among-first c (t then s) ss = refl
 
-among-last : (c : Choice) (ss : List Tokens) (s : Tokens) → among c (filledOnes (ss ++ (s ∷ []))) ≡ among (among c (filledOnes ss)) (filledOnes (s ∷ []))
-unfolding among filledOnes
+among-last : (c : Candidate) (ss : List Tokens) (s : Tokens) → amongRuns c (filledOnes (ss ++ (s ∷ []))) ≡ amongRuns (amongRuns c (filledOnes ss)) (filledOnes (s ∷ []))
+unfolding amongRuns filledOnes
 among-last c [] s = refl
 among-last c (nothing ∷ ss) s = among-last c ss s
 among-last c ((t then r) ∷ ss) s = among-last (between c (inRun (t then r))) ss s
@@ -61,11 +61,11 @@ module _ (ws : List ℕ) (n : ℕ) (e : n ≡ runEnd ws) (w : Whole ws) where
         told = subst (λ (x : ℕ). Told (tokensIn (take x ws))) (sym front) (split-told g .0);
       }
 
-  pub first-asked-last : (c : Choice) → c ≡ among unranked (laterRuns (drop n ws)) → among c (filledOnes (tokensIn (take (n - 0) ws) ∷ [])) ≡ choice (tokensIn ws)
-  unfolding choice runs firstLast
+  pub first-asked-last : (c : Candidate) → c ≡ amongRuns unranked (laterRuns (drop n ws)) → amongRuns c (filledOnes (tokensIn (take (n - 0) ws) ∷ [])) ≡ inPattern (tokensIn ws)
+  unfolding inPattern runs firstLast
   first-asked-last c h =
-      ap₂ (λ (x : Choice) (m : ℕ). among x (filledOnes (tokensIn (take m ws) ∷ []))) h front
-      ∙ sym (ap (λ (ss : List Tokens). among unranked (filledOnes (firstLast ss))) (first-is .segment-is)
+      ap₂ (λ (x : Candidate) (m : ℕ). amongRuns x (filledOnes (tokensIn (take m ws) ∷ []))) h front
+      ∙ sym (ap (λ (ss : List Tokens). amongRuns unranked (filledOnes (firstLast ss))) (first-is .segment-is)
       ∙ among-last unranked (afterward (tokensIn (drop n ws))) (tokensIn (take n ws)))
 
 -- a token that closed a run, and the run after it
@@ -73,41 +73,41 @@ module _ (us : List ℕ) (w : Whole us) (long : 4 ≤ length us) where
   rest-after : Whole (drop (width us) us)
   rest-after = whole-first us w (omega arith) .1
 
-  after-token : (n : ℕ) → n ≡ runEnd (drop (width us) us) → (c : Choice)
-      → among c (laterRuns us) ≡ among (among c (filledOnes (tokensIn (take n (drop (width us) us)) ∷ []))) (laterRuns (drop n (drop (width us) us)))
+  after-token : (n : ℕ) → n ≡ runEnd (drop (width us) us) → (c : Candidate)
+      → amongRuns c (laterRuns us) ≡ amongRuns (amongRuns c (filledOnes (tokensIn (take n (drop (width us) us)) ∷ []))) (laterRuns (drop n (drop (width us) us)))
   unfolding afterward
   after-token n e c =
       subst
-      (λ (x : ℕ). among c (laterRuns us) ≡ among (among c (filledOnes (tokensIn (take x (drop (width us) us)) ∷ []))) (laterRuns (drop x (drop (width us) us)))) (sym e)
-      (ap (λ (ts : Tokens). among c (filledOnes (afterward ts))) (tokens-step us long)
-      ∙ ap (λ (ss : List Tokens). among c (filledOnes ss)) (first-segment (drop (width us) us) rest-after .segment-is)
+      (λ (x : ℕ). amongRuns c (laterRuns us) ≡ amongRuns (amongRuns c (filledOnes (tokensIn (take x (drop (width us) us)) ∷ []))) (laterRuns (drop x (drop (width us) us)))) (sym e)
+      (ap (λ (ts : Tokens). amongRuns c (filledOnes (afterward ts))) (tokens-step us long)
+      ∙ ap (λ (ss : List Tokens). amongRuns c (filledOnes ss)) (first-segment (drop (width us) us) rest-after .segment-is)
       ∙ among-first c (tokensIn (take (runEnd (drop (width us) us)) (drop (width us) us))) (afterward (tokensIn (drop (runEnd (drop (width us) us)) (drop (width us) us)))))
 
--- the runs up to `at` are asked, and `top` is the choice among them
-pub record Asked (ws : List ℕ) (first at : ℕ) (top : Pick) : Type 0 where
+-- the runs up to `at` are asked, and `top` is the winner among them
+pub record Asked (ws : List ℕ) (first at : ℕ) (top : Winner) : Type 0 where
   pub here : at ≤ length ws
   pub rest-whole : Whole (drop at ws)
   pub rest-told : AllTold (afterward (tokensIn (drop at ws)))
   pub kept : Kept ws top
-  pub same : among unranked (laterRuns (drop first ws)) ≡ among (choiceSays ws top) (laterRuns (drop at ws))
+  pub same : amongRuns unranked (laterRuns (drop first ws)) ≡ amongRuns (winnerSays ws top) (laterRuns (drop at ws))
 
 pub asked-none : (ws : List ℕ) (first : ℕ) → first ≤ length ws → Whole (drop first ws) → AllTold (afterward (tokensIn (drop first ws))) → Asked ws first first Nothing
 asked-none ws first h w g = record { here = h; rest-whole = w; rest-told = g; kept = tt; same = refl }
 
-pub asked-all : (ws : List ℕ) (first at : ℕ) (top : Pick) → Asked ws first at top → length ws - at < 4
-    → (choiceSays ws top ≡ among unranked (laterRuns (drop first ws))) × Kept ws top
-unfolding afterward filledOnes among
+pub asked-all : (ws : List ℕ) (first at : ℕ) (top : Winner) → Asked ws first at top → length ws - at < 4
+    → (winnerSays ws top ≡ amongRuns unranked (laterRuns (drop first ws))) × Kept ws top
+unfolding afterward filledOnes amongRuns
 asked-all ws first at top a h =
     let l = length-drop at ws in
-    (sym (a .same ∙ ap (λ (ts : Tokens). among (choiceSays ws top) (filledOnes (afterward ts))) (tokens-end (drop at ws) (omega arith))), a .kept)
+    (sym (a .same ∙ ap (λ (ts : Tokens). amongRuns (winnerSays ws top) (filledOnes (afterward ts))) (tokens-end (drop at ws) (omega arith))), a .kept)
 
-module _ (ws : List ℕ) (first at from : ℕ) (top : Pick) (a : Asked ws first at top) (few : length ws ≤ tokenPool) (long : 4 ≤ length ws - at)
+module _ (ws : List ℕ) (first at from : ℕ) (top : Winner) (a : Asked ws first at top) (few : length ws ≤ tokenPool) (long : 4 ≤ length ws - at)
     (f : from ≡ at + width (take (length ws - at) (drop at ws))) where
   there : 4 ≤ length (drop at ws)
   there = rw (length-drop at ws) long
 
   from-is : from ≡ at + width (drop at ws)
-  from-is = f ∙ ap (λ (l : List ℕ). at + width l) (part-all at ws)
+  from-is = f ∙ ap (λ (l : List ℕ). at + width l) (to-end at ws)
 
   pub from-fits : (from ≤ length ws) × (at + 4 ≤ from)
   from-fits =
@@ -130,7 +130,7 @@ module _ (ws : List ℕ) (first at from : ℕ) (top : Pick) (a : Asked ws first 
 
   module _ (n to : ℕ) (t : to ≡ from + n) (e : n ≡ runEnd (take (length ws - from) (drop from ws))) where
     run-is : n ≡ runEnd (drop from ws)
-    run-is = e ∙ ap runEnd (part-all from ws)
+    run-is = e ∙ ap runEnd (to-end from ws)
 
     seg : Segment (drop from ws) n
     seg = subst (Segment (drop from ws)) (sym run-is) (first-segment (drop from ws) rest)
@@ -155,7 +155,7 @@ module _ (ws : List ℕ) (first at from : ℕ) (top : Pick) (a : Asked ws first 
           told = subst (λ (l : List ℕ). Told (tokensIn l)) (sym words-are) (both-told .0);
         }
 
-    pub asked-more : (next : Pick) → choiceSays ws next ≡ among (choiceSays ws top) (filledOnes (tokensIn (take (to - from) (drop from ws)) ∷ [])) → Kept ws next
+    pub asked-more : (next : Winner) → winnerSays ws next ≡ amongRuns (winnerSays ws top) (filledOnes (tokensIn (take (to - from) (drop from ws)) ∷ [])) → Kept ws next
         → Asked ws first to next
     asked-more next h k =
         record {
@@ -164,9 +164,9 @@ module _ (ws : List ℕ) (first at from : ℕ) (top : Pick) (a : Asked ws first 
           rest-told = subst (λ (l : List ℕ). AllTold (afterward (tokensIn l))) (drop-drop n from ws ∙ ap (λ (x : ℕ). drop x ws) (sym t)) (both-told .1);
           kept = k;
           same =
-              a .same ∙ after-token (drop at ws) (a .rest-whole) there n (run-is ∙ ap runEnd (sym after-is)) (choiceSays ws top)
-              ∙ ap₂ (λ (c : Choice) (l : List ℕ). among c (laterRuns l))
-              (ap (λ (l : List ℕ). among (choiceSays ws top) (filledOnes (tokensIn (take n l) ∷ []))) after-is
-              ∙ ap (λ (l : List ℕ). among (choiceSays ws top) (filledOnes (tokensIn l ∷ []))) (sym words-are) ∙ sym h)
+              a .same ∙ after-token (drop at ws) (a .rest-whole) there n (run-is ∙ ap runEnd (sym after-is)) (winnerSays ws top)
+              ∙ ap₂ (λ (c : Candidate) (l : List ℕ). amongRuns c (laterRuns l))
+              (ap (λ (l : List ℕ). amongRuns (winnerSays ws top) (filledOnes (tokensIn (take n l) ∷ []))) after-is
+              ∙ ap (λ (l : List ℕ). amongRuns (winnerSays ws top) (filledOnes (tokensIn l ∷ []))) (sym words-are) ∙ sym h)
               (ap (drop n) after-is ∙ drop-drop n from ws ∙ ap (λ (x : ℕ). drop x ws) (sym t));
         }

@@ -1,4 +1,4 @@
--- A choice in a run, as one in all words; and the choice between two. Assumes nothing.
+-- A winner in a run, as one in all words; and the winner of two. Assumes nothing.
 use mathlib.Core.Path.{_≡_, refl, sym, ap, ap₂, _∙_, subst}
 use mathlib.Core.Bool.{true, false}
 use mathlib.Core.List.{List, [], _∷_}
@@ -10,11 +10,11 @@ use lib.Seq.{drop-drop, take-nil}
 use borrow.Author.Tests.{lt-ltb, le-ltb, ne-eqb, eq-eqb}
 use Rattle.meaning.specs.Tokens.{Tokens}
 use Rattle.picking.specs.Literals.{literals}
-use Rattle.picking.specs.Choice.{least, beats, chosen}
+use Rattle.picking.specs.Candidates.{least, beats, chosen}
 use Rattle.entries.specs.Words.{tokensIn}
-use Rattle.picks.specs.declared.Pick.{Pick}
-use Rattle.picks.specs.declared.Pick.the-variants.{Nothing, Taken, TooMany}
-use Rattle.picks.specs.Ranks.{choiceSays}
+use Rattle.picks.specs.declared.Winner.{Winner}
+use Rattle.picks.specs.declared.Winner.the-variants.{Nothing, Taken, TooMany}
+use Rattle.picks.specs.Ranks.{winnerSays}
 use Rattle.chooser.specs.Kept.{Inside}
 
 drop-front : (a n m : ℕ) (l : List ℕ) → m ≡ n - a → drop a (take n l) ≡ take m (drop a l)
@@ -53,19 +53,19 @@ shifted-words ws from n a b e s p q =
     ap₂ (λ (x : ℕ) (l : List ℕ). take x l) same (sym (drop-drop s from ws)) ∙ from-either (e - s) s a (drop from ws) (less-some a e s q)
     ∙ sym (ap (take (b - a)) (drop-front a n (n - a) (drop from ws) refl) ∙ take-min (b - a) (n - a) (e - s) (drop a (drop from ws)) cut)
 
--- a choice p in a run of n words from `from` on is r in all words
-abbrev pub Shifts : Pick → ℕ → ℕ → Pick → Type 0
-Shifts p from n r = ((ws : List ℕ) → from + n ≤ length ws → choiceSays ws r ≡ choiceSays (take n (drop from ws)) p) × Inside (from + n) r
+-- a winner p in a run of n words from `from` on is r in all words
+abbrev pub Shifts : Winner → ℕ → ℕ → Winner → Type 0
+Shifts p from n r = ((ws : List ℕ) → from + n ≤ length ws → winnerSays ws r ≡ winnerSays (take n (drop from ws)) p) × Inside (from + n) r
 
-pub nothing-shifted : (p : Pick) (from n : ℕ) → p ≡ Nothing → Shifts p from n Nothing
-nothing-shifted p from n e = subst (λ (x : Pick). Shifts x from n Nothing) (sym e) (λ ws h. refl, tt)
+pub nothing-shifted : (p : Winner) (from n : ℕ) → p ≡ Nothing → Shifts p from n Nothing
+nothing-shifted p from n e = subst (λ (x : Winner). Shifts x from n Nothing) (sym e) (λ ws h. refl, tt)
 
-pub full-shifted : (p : Pick) (from n : ℕ) → p ≡ TooMany → Shifts p from n TooMany
-full-shifted p from n e = subst (λ (x : Pick). Shifts x from n TooMany) (sym e) (λ ws h. refl, tt)
+pub full-shifted : (p : Winner) (from n : ℕ) → p ≡ TooMany → Shifts p from n TooMany
+full-shifted p from n e = subst (λ (x : Winner). Shifts x from n TooMany) (sym e) (λ ws h. refl, tt)
 
-pub taken-shifted : (p : Pick) (from n a b m e s : ℕ) → p ≡ Taken a b m → e ≡ min b n → s ≡ min a e → Shifts p from n (Taken (from + s) (from + e) m)
+pub taken-shifted : (p : Winner) (from n a b m e s : ℕ) → p ≡ Taken a b m → e ≡ min b n → s ≡ min a e → Shifts p from n (Taken (from + s) (from + e) m)
 taken-shifted p from n a b m e s f g h =
-    subst (λ (x : Pick). Shifts x from n (Taken (from + s) (from + e) m)) (sym f)
+    subst (λ (x : Winner). Shifts x from n (Taken (from + s) (from + e) m)) (sym f)
     (λ ws k. ap (λ (l : List ℕ). chosen m (tokensIn l)) (shifted-words ws from n a b e s g h), (omega arith, omega arith))
 
 pub higher-wins : (n m : ℕ) (us ts : Tokens) → m < n → true ≡ beats n us m ts

@@ -1,4 +1,5 @@
--- Choices by the words that they name. Assumes nothing: these are definitions.
+-- Winners by the words that they name. Assumes nothing: these are definitions.
+-- To be believed: nothing.
 use mathlib.Core.Path.{_≡_}
 use mathlib.Core.List.{List, [], _∷_}
 use Prim.Native.Nat.{ℕ, _-_, _≤_}
@@ -8,10 +9,10 @@ use Rattle.meaning.specs.Tokens.{Tokens}
 use Rattle.picking.specs.Literals.{literals, lengthIn}
 use Rattle.picking.specs.Numbers.{count}
 use Rattle.picking.specs.Runs.{filledOnes}
-use Rattle.picking.specs.Choice.{least, chosen, inRun}
+use Rattle.picking.specs.Candidates.{least, chosen, inRun}
 use Rattle.entries.specs.Words.{tokensIn}
-use Rattle.picks.specs.declared.Pick.{Pick}
-use Rattle.picks.specs.declared.Pick.the-variants.{Nothing, Taken, TooMany}
+use Rattle.picks.specs.declared.Winner.{Winner}
+use Rattle.picks.specs.declared.Winner.the-variants.{Nothing, Taken, TooMany}
 use Rattle.runs.specs.Whole.{Whole, afterward}
 
 -- the shortest literal is as long as the tokens tell: a byte and a class 1, alternatives their shortest branch
@@ -28,13 +29,13 @@ AllTold [] = Unit {0}
 AllTold (run ∷ runs) = Told run × AllTold runs
 
 -- words that are there, of the first n
-abbrev pub Inside : ℕ → Pick → Type 0
+abbrev pub Inside : ℕ → Winner → Type 0
 Inside n Nothing = Unit {0}
 Inside n (Taken from to m) = (from ≤ to) × (to ≤ n)
 Inside n TooMany = Unit {0}
 
 -- and that have at most 256 literals, and are measured
-abbrev pub Kept : List ℕ → Pick → Type 0
+abbrev pub Kept : List ℕ → Winner → Type 0
 Kept ws Nothing = Unit {0}
 Kept ws (Taken from to m) = (from ≤ to) × (to ≤ length ws) × (count (tokensIn (take (to - from) (drop from ws))) ≤ literalLimit) × Measured (tokensIn (take (to - from) (drop from ws)))
 Kept ws TooMany = Unit {0}

@@ -1,5 +1,5 @@
 // Translated from boreal's boreal/src/matcher/literals.rs (MIT OR Apache-2.0), commit 7010b5e967; see NOTICE.
-// The choice between the runs of a pattern, over token entries.
+// Which run of a pattern wins, over token entries.
 ghost use mathlib.Core.Path.{_≡_};
 ghost use mathlib.Core.List.{List, [], _∷_};
 ghost use Prim.Native.Nat.{ℕ, _+_, _-_, _≤_, min};
@@ -7,13 +7,13 @@ ghost use lib.ListN.{length, take, drop};
 ghost use Rattle.meaning.specs.Limits.{tokenPool};
 ghost use Rattle.picking.specs.Literals.{literals};
 ghost use Rattle.picking.specs.Runs.{segments, filledOnes};
-ghost use Rattle.picking.specs.Choice.{least, beats, between, among, choice, unranked};
+ghost use Rattle.picking.specs.Candidates.{least, beats, between, amongRuns, inPattern, unranked};
 ghost use Rattle.entries.specs.Words.{tokensIn};
-ghost use Rattle.picks.specs.Ranks.{choiceSays};
+ghost use Rattle.picks.specs.Ranks.{winnerSays};
 ghost use Rattle.runs.specs.Whole.{Whole, afterward};
-ghost use Rattle.picks.specs.declared.Pick.the-variants.{Taken};
+ghost use Rattle.picks.specs.declared.Winner.the-variants.{Taken};
 ghost use Rattle.chooser.specs.Kept.{Inside, Measured, Kept, AllTold, Stretch, laterRuns};
-use picks::Pick;
+use picks::Winner;
 
 fn smaller(a: usize, b: usize) -> usize
     ensures { λ r. ⌜ r ≡ min a b ⌝ }
@@ -43,55 +43,55 @@ fn wins(new: &[u32], n: u32, old: &[u32], m: u32) -> bool
     shortest_in(old) < shortest_in(new)
 }
 
-// A run's choice against what was taken so far from `from` to `to`, with rank m.
-fn against_taken(ws: &[u32], from: usize, to: usize, m: u32, next: Pick) -> Pick
+// A run's winner against what was taken so far from `from` to `to`, with rank m.
+fn against_taken(ws: &[u32], from: usize, to: usize, m: u32, next: Winner) -> Winner
     requires { ⌜ Kept (now ws) (Taken from to m) × Kept (now ws) next ⌝ }
-    ensures { λ r. ⌜ (choiceSays (now (ws .entry)) r ≡ between (choiceSays (now (ws .entry)) (Taken from to m)) (choiceSays (now (ws .entry)) next)) × Kept (now (ws .entry)) r ⌝ }
+    ensures { λ r. ⌜ (winnerSays (now (ws .entry)) r ≡ between (winnerSays (now (ws .entry)) (Taken from to m)) (winnerSays (now (ws .entry)) next)) × Kept (now (ws .entry)) r ⌝ }
 {
     match next {
-        Pick::Nothing => Pick::Taken(from, to, m),
-        Pick::Taken(a, b, n) => {
+        Winner::Nothing => Winner::Taken(from, to, m),
+        Winner::Taken(a, b, n) => {
             if wins(&ws[a..b], n, &ws[from..to], m) {
-                return Pick::Taken(a, b, n);
+                return Winner::Taken(a, b, n);
             }
-            Pick::Taken(from, to, m)
+            Winner::Taken(from, to, m)
         }
-        Pick::TooMany => Pick::TooMany,
+        Winner::TooMany => Winner::TooMany,
     }
 }
 
 // Between two runs: the one that beats the other, else the earlier.
-fn better(ws: &[u32], top: Pick, next: Pick) -> Pick
+fn better(ws: &[u32], top: Winner, next: Winner) -> Winner
     requires { ⌜ Kept (now ws) top × Kept (now ws) next ⌝ }
-    ensures { λ r. ⌜ (choiceSays (now (ws .entry)) r ≡ between (choiceSays (now (ws .entry)) top) (choiceSays (now (ws .entry)) next)) × Kept (now (ws .entry)) r ⌝ }
+    ensures { λ r. ⌜ (winnerSays (now (ws .entry)) r ≡ between (winnerSays (now (ws .entry)) top) (winnerSays (now (ws .entry)) next)) × Kept (now (ws .entry)) r ⌝ }
 {
     match top {
-        Pick::Nothing => next,
-        Pick::Taken(from, to, m) => against_taken(ws, from, to, m, next),
-        Pick::TooMany => Pick::TooMany,
+        Winner::Nothing => next,
+        Winner::Taken(from, to, m) => against_taken(ws, from, to, m, next),
+        Winner::TooMany => Winner::TooMany,
     }
 }
 
-// A choice in a run of n words from `from` on, as one in all words. It is cut to the run, past whose end there is nothing to choose.
-fn shifted(p: Pick, from: usize, n: usize) -> Pick
+// What wins in a run of n words from `from` on, as words of all. It is cut to the run, past whose end there is nothing to choose.
+fn shifted(p: Winner, from: usize, n: usize) -> Winner
     requires { ⌜ from + n ≤ tokenPool ⌝ }
-    ensures { λ r. ⌜ ((ws : List ℕ) → from + n ≤ length ws → choiceSays ws r ≡ choiceSays (take n (drop from ws)) p) × Inside (from + n) r ⌝ }
+    ensures { λ r. ⌜ ((ws : List ℕ) → from + n ≤ length ws → winnerSays ws r ≡ winnerSays (take n (drop from ws)) p) × Inside (from + n) r ⌝ }
 {
     match p {
-        Pick::Nothing => Pick::Nothing,
-        Pick::Taken(a, b, m) => {
+        Winner::Nothing => Winner::Nothing,
+        Winner::Taken(a, b, m) => {
             let e = smaller(b, n);
             let s = smaller(a, e);
-            Pick::Taken(from + s, from + e, m)
+            Winner::Taken(from + s, from + e, m)
         }
-        Pick::TooMany => Pick::TooMany,
+        Winner::TooMany => Winner::TooMany,
     }
 }
 
 // One more run, from `from` to `to`; an empty one is dropped.
-fn with_run(ws: &[u32], from: usize, to: usize, top: Pick) -> Pick
+fn with_run(ws: &[u32], from: usize, to: usize, top: Winner) -> Winner
     requires { ⌜ Stretch (now ws) from to × Kept (now ws) top ⌝ }
-    ensures { λ r. ⌜ (choiceSays (now (ws .entry)) r ≡ among (choiceSays (now (ws .entry)) top) (filledOnes (tokensIn (take (to - from) (drop from (now (ws .entry)))) ∷ []))) × Kept (now (ws .entry)) r ⌝ }
+    ensures { λ r. ⌜ (winnerSays (now (ws .entry)) r ≡ amongRuns (winnerSays (now (ws .entry)) top) (filledOnes (tokensIn (take (to - from) (drop from (now (ws .entry)))) ∷ []))) × Kept (now (ws .entry)) r ⌝ }
 {
     if to <= from {
         return top;
@@ -101,12 +101,12 @@ fn with_run(ws: &[u32], from: usize, to: usize, top: Pick) -> Pick
 }
 
 // What is chosen among the runs after the first segment, which ends at `first`.
-fn later_runs(ws: &[u32], first: usize) -> Pick
+fn later_runs(ws: &[u32], first: usize) -> Winner
     requires { ⌜ (length (now ws) ≤ tokenPool) × (first ≤ length (now ws)) × Whole (drop first (now ws)) × AllTold (afterward (tokensIn (drop first (now ws)))) ⌝ }
-    ensures { λ r. ⌜ (choiceSays (now (ws .entry)) r ≡ among unranked (laterRuns (drop first (now (ws .entry))))) × Kept (now (ws .entry)) r ⌝ }
+    ensures { λ r. ⌜ (winnerSays (now (ws .entry)) r ≡ amongRuns unranked (laterRuns (drop first (now (ws .entry))))) × Kept (now (ws .entry)) r ⌝ }
 {
     let mut at = first;
-    let mut top = Pick::Nothing;
+    let mut top = Winner::Nothing;
     while 4 <= ws.len() - at {
         let from = at + entries::width_of(&ws[at..]);
         let to = from + runs::run_words(&ws[from..]);
@@ -117,9 +117,9 @@ fn later_runs(ws: &[u32], first: usize) -> Pick
 }
 
 // What is chosen in a pattern: among the second run, the third and so on, the first last.
-pub fn choose(ws: &[u32]) -> Pick
+pub fn choose(ws: &[u32]) -> Winner
     requires { ⌜ (length (now ws) ≤ tokenPool) × Whole (now ws) × AllTold (segments (tokensIn (now ws))) ⌝ }
-    ensures { λ r. ⌜ (choiceSays (now (ws .entry)) r ≡ choice (tokensIn (now (ws .entry)))) × Kept (now (ws .entry)) r ⌝ }
+    ensures { λ r. ⌜ (winnerSays (now (ws .entry)) r ≡ inPattern (tokensIn (now (ws .entry)))) × Kept (now (ws .entry)) r ⌝ }
 {
     let first = runs::run_words(ws);
     let later = later_runs(ws, first);

@@ -1,4 +1,5 @@
 -- The test of a class, and numbers with a gap. Assumes nothing: these are definitions.
+-- To be believed: nothing.
 use mathlib.Core.Bool.{Bool, false, cond, not}
 use Prim.Native.Nat.{ℕ, _+_, _/_, _%_}
 use lib.Dec.{eqb, ltb}

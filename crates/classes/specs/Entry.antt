@@ -1,5 +1,6 @@
 -- A token entry by its kind and first two values, taken for the token that it stands for. Total: what is no entry of a byte or a class is taken for a jump.
 -- Assumes nothing: these are definitions.
+-- To be believed: nothing.
 use mathlib.Core.Bool.{cond}
 use mathlib.Core.Option.{none}
 use Prim.Native.Nat.{ℕ, _%_}

@@ -16,7 +16,7 @@ use Rattle.compiling.specs.Compile.{compiled, compile}
 use Rattle.compiling.proofs.CompileLaws as law
 use Rattle.compiledoor.specs.declared.CompileAnswer.{CompileAnswer}
 use Rattle.compiledoor.specs.declared.CompileAnswer.the-variants.{Compiled, Refused}
-use Rattle.compiledoor.specs.Door.{said, compileSays, forwardLeaves, reverseLeaves}
+use Rattle.compiledoor.specs.Door.{compileSaid, compileSays, forwardLeaves, reverseLeaves}
 use Rattle.reading.proofs.SpelledValues.{accepted-spelled}
 
 -- of a text that is read as the tokens ts and compiled to the words f and r
@@ -36,12 +36,12 @@ module _ (t : List ℕ) (e : ℕ) (ts : Tokens) (f r : List ℕ) (read : reading
   reverse-exact s y = law.reverse-exact ts (accepted-spelled t e ts read) f r done s y
 
 -- an answer is known by what it says
-said-one : (a b : CompileAnswer) → said a ≡ said b → a ≡ b
+said-one : (a b : CompileAnswer) → compileSaid a ≡ compileSaid b → a ≡ b
 said-one (Compiled e f r) (Compiled d g s) h = cc
 said-one (Compiled e f r) (Refused c x) h = never (cc)
 said-one (Refused c x) (Compiled d g s) h = never (cc)
 said-one (Refused c x) (Refused d y) h = let a : numberOf c ≡ numberOf d = cc in let b : x ≡ y = cc in ap₂ Refused (number-one c d a) b
 
 -- the door's promise leaves one answer and one content of each pool
-pub compile-single : (t p q : List ℕ) (a b : CompileAnswer) (u v x y : List ℕ) → said a ≡ compileSays t p q → said b ≡ compileSays t p q → u ≡ forwardLeaves t p q → v ≡ forwardLeaves t p q → x ≡ reverseLeaves t p q → y ≡ reverseLeaves t p q → (a ≡ b) × (u ≡ v) × (x ≡ y)
+pub compile-single : (t p q : List ℕ) (a b : CompileAnswer) (u v x y : List ℕ) → compileSaid a ≡ compileSays t p q → compileSaid b ≡ compileSays t p q → u ≡ forwardLeaves t p q → v ≡ forwardLeaves t p q → x ≡ reverseLeaves t p q → y ≡ reverseLeaves t p q → (a ≡ b) × (u ≡ v) × (x ≡ y)
 compile-single t p q a b u v x y h k i j l m = (said-one a b (h ∙ sym k), i ∙ sym j, l ∙ sym m)

@@ -13,7 +13,7 @@ ghost use Prim.Native.Nat.{_≤_};
 ghost use lib.ListN.{length};
 ghost use Rattle.meaning.specs.Limits.{nodePool};
 ghost use Rattle.reading.specs.Lists.{reading};
-ghost use Rattle.compiledoor.specs.Door.{said, madeSays, TextMakes, compileSays, forwardLeaves, reverseLeaves};
+ghost use Rattle.compiledoor.specs.Door.{compileSaid, madeSays, TextFills, compileSays, forwardLeaves, reverseLeaves};
 
 // The offset reached, as in reading, and the words of each program; or a refusal and its place.
 pub enum CompileAnswer {
@@ -27,7 +27,7 @@ pub enum CompileAnswer {
 
 // Tokens that read well are refused at place 0.
 fn answer_of(reached: usize, made: Made) -> CompileAnswer
-    ensures { λ r. ⌜ said r ≡ madeSays reached made ⌝ }
+    ensures { λ r. ⌜ compileSaid r ≡ madeSays reached made ⌝ }
 {
     match made {
         Made::Programs(forward, reverse) => CompileAnswer::Compiled {
@@ -42,7 +42,7 @@ fn answer_of(reached: usize, made: Made) -> CompileAnswer
 // With both pools long enough. The tokens are read into 4,096 words of the stack.
 fn compile_text(text: &[u8], forward: &mut [NodeWord], reverse: &mut [NodeWord]) -> CompileAnswer
     requires { ⌜ (nodePool ≤ length (now forward)) × (nodePool ≤ length (now reverse)) ⌝ }
-    ensures { λ r. ⌜ TextMakes (reading (now (text .entry))) (said r)
+    ensures { λ r. ⌜ TextFills (reading (now (text .entry))) (compileSaid r)
         (now (forward .entry)) (now (forward .exit)) (now (reverse .entry)) (now (reverse .exit)) ⌝ }
 {
     let mut tokens = [0u32; TOKEN_POOL];
@@ -61,7 +61,7 @@ fn compile_text(text: &[u8], forward: &mut [NodeWord], reverse: &mut [NodeWord])
 
 // Compiles a text into the first 512 words of each pool.
 pub fn compile(text: &[u8], forward: &mut [NodeWord], reverse: &mut [NodeWord]) -> CompileAnswer
-    ensures { λ r. ⌜ (said r ≡ compileSays (now (text .entry)) (now (forward .entry)) (now (reverse .entry)))
+    ensures { λ r. ⌜ (compileSaid r ≡ compileSays (now (text .entry)) (now (forward .entry)) (now (reverse .entry)))
         × (now (forward .exit) ≡ forwardLeaves (now (text .entry)) (now (forward .entry)) (now (reverse .entry)))
         × (now (reverse .exit) ≡ reverseLeaves (now (text .entry)) (now (forward .entry)) (now (reverse .entry))) ⌝ }
 {

@@ -15,7 +15,7 @@ use Rattle.base.specs.Pools.{zeroed, filled, cleared}
 use Rattle.base.proofs.PoolLaws.{zeroed-filled}
 use Rattle.compiling.specs.Compile.{Compiled}
 use Rattle.compiler.specs.declared.Made.the-variants.{Programs, Refused}
-use Rattle.compiler.specs.Made.{Makes, limited}
+use Rattle.compiler.specs.Made.{Fills, limited}
 
 -- one word more
 pub copied-more : (w o pool : List ℕ) (i : ℕ) → i < length w → i < length o → pool ≡ take i w ++ drop i o → set pool i (getD w i 0) ≡ take (i + 1) w ++ drop (i + 1) o
@@ -39,15 +39,15 @@ module _ (n m : ℕ) (f r p p′ q q′ : List ℕ) (long : Bool) where
   abbrev tests : Compiled
   tests = limited (not long) (leb n nodeLimit && leb m nodeLimit) f r
 
-  pub made-long : long ≡ true → p′ ≡ cleared nodePool p → q′ ≡ cleared nodePool q → Makes tests (Refused BranchTooLong) p p′ q q′
+  pub made-long : long ≡ true → p′ ≡ cleared nodePool p → q′ ≡ cleared nodePool q → Fills tests (Refused BranchTooLong) p p′ q q′
   unfolding limited
   made-long e x y = rw e (refl, x, y)
 
-  pub made-many : long ≡ false → (leb n nodeLimit && leb m nodeLimit) ≡ false → p′ ≡ cleared nodePool p → q′ ≡ cleared nodePool q → Makes tests (Refused TooManyNodes) p p′ q q′
+  pub made-many : long ≡ false → (leb n nodeLimit && leb m nodeLimit) ≡ false → p′ ≡ cleared nodePool p → q′ ≡ cleared nodePool q → Fills tests (Refused TooManyNodes) p p′ q q′
   unfolding limited
   made-many e g x y = rw (e, g) (refl, x, y)
 
-  pub made-both : long ≡ false → n ≤ nodeLimit → m ≤ nodeLimit → length f ≡ n → length r ≡ m → p′ ≡ filled nodePool f p → q′ ≡ filled nodePool r q → Makes tests (Programs n m) p p′ q q′
+  pub made-both : long ≡ false → n ≤ nodeLimit → m ≤ nodeLimit → length f ≡ n → length r ≡ m → p′ ≡ filled nodePool f p → q′ ≡ filled nodePool r q → Fills tests (Programs n m) p p′ q q′
   unfolding limited
   made-both e a b k l x y = rw (e, le-leb n nodeLimit a, le-leb m nodeLimit b) (ap₂ Programs (sym k) (sym l), x, y)
 

@@ -23,7 +23,7 @@ use Rattle.emit.specs.Lists.{tokensProgram, offsets, Outlined}
 use Rattle.emit.proofs.OrderLaws.{directed, offsets-count}
 use Rattle.emit.proofs.LinkLaws.{directed-long, tokens-program}
 use Rattle.compiler.specs.declared.Made.the-variants.{Refused}
-use Rattle.compiler.specs.Made.{Makes, limited}
+use Rattle.compiler.specs.Made.{Fills, limited}
 
 module _ (ws : List ℕ) (ts : Tokens) (e : ws ≡ entries ts) where
   pub count-fits : length ws ≤ tokenPool → (count : ℕ) → count ≡ tokenCount ts → count ≤ entryLimit
@@ -84,6 +84,6 @@ module _ (ws : List ℕ) (ts : Tokens) (e : ws ≡ entries ts) where
         both false y = refl
 
 -- 12
-pub not-simple-made : (ts : Tokens) (p p′ q q′ : List ℕ) → simple ts ≡ false → p′ ≡ cleared nodePool p → q′ ≡ cleared nodePool q → Makes (compile ts) (Refused NotSimple) p p′ q q′
+pub not-simple-made : (ts : Tokens) (p p′ q q′ : List ℕ) → simple ts ≡ false → p′ ≡ cleared nodePool p → q′ ≡ cleared nodePool q → Fills (compile ts) (Refused NotSimple) p p′ q q′
 unfolding compile
 not-simple-made ts p p′ q q′ e x y = rw e (refl, x, y)

@@ -12,70 +12,70 @@ use lib.Seq.{drop-drop, drop-at, drop-cons, set-at, getD-drop, take-all}
 use Rattle.meaning.specs.Tokens.{Token, Tokens, Lists, Byte, NotByte, MaskedByte, NotMaskedByte, Jump, Alternatives, nothing, _then_, neither, _or_}
 use Rattle.meaning.specs.Entries.{tokenCount, entriesOf, entries, listEntries}
 use Rattle.meaning.proofs.TokenLaws.{some-entry}
-use Rattle.compiling.specs.Compile.{plainToken, plainTokens, plainBranches, simpleToken, simple}
+use Rattle.compiling.specs.Compile.{flatToken, flatTokens, flatBranches, simpleToken, simple}
 use Rattle.emit.specs.Lists.{sizeAt, offsets}
 use Rattle.emit.proofs.AltLaws.{size-least}
 use Rattle.emit.proofs.OrderLaws.{Starts, offsets-count}
 use Rattle.emit.proofs.LinkLaws.{fields, alt-fields, alt-inside, starts-size}
-use Rattle.compiler.specs.Walks.{toOf, toldBy, plainEntries, simpleAt}
+use Rattle.compiler.specs.Walks.{toOf, toldBy, flatEntries, simpleAt}
 
 -- entries four words at a time
-pub plain-step : (ws : List ℕ) → 4 ≤ length ws → plainEntries ws ≡ (plainToken (toldBy (getD ws 0 0) (getD ws 1 0) (getD ws 2 0) (getD ws 3 0)) && plainEntries (take (length ws - 4) (drop 4 ws)))
-unfolding plainEntries
-plain-step [] h = absurd (omega arith)
-plain-step (k ∷ []) h = absurd (omega arith)
-plain-step (k ∷ (a ∷ [])) h = absurd (omega arith)
-plain-step (k ∷ (a ∷ (b ∷ []))) h = absurd (omega arith)
-plain-step (k ∷ (a ∷ (b ∷ (c ∷ ws)))) h =
+pub flat-step : (ws : List ℕ) → 4 ≤ length ws → flatEntries ws ≡ (flatToken (toldBy (getD ws 0 0) (getD ws 1 0) (getD ws 2 0) (getD ws 3 0)) && flatEntries (take (length ws - 4) (drop 4 ws)))
+unfolding flatEntries
+flat-step [] h = absurd (omega arith)
+flat-step (k ∷ []) h = absurd (omega arith)
+flat-step (k ∷ (a ∷ [])) h = absurd (omega arith)
+flat-step (k ∷ (a ∷ (b ∷ []))) h = absurd (omega arith)
+flat-step (k ∷ (a ∷ (b ∷ (c ∷ ws)))) h =
     let e : suc (suc (suc (suc (length ws)))) - 4 ≡ length ws = omega arith in
-    ap (λ (l : List ℕ). plainToken (toldBy k a b c) && plainEntries l) (sym (ap (λ (n : ℕ). take n ws) e ∙ take-all (length ws) ws (omega arith)))
+    ap (λ (l : List ℕ). flatToken (toldBy k a b c) && flatEntries l) (sym (ap (λ (n : ℕ). take n ws) e ∙ take-all (length ws) ws (omega arith)))
 
-pub plain-end : (ws : List ℕ) → length ws < 4 → plainEntries ws ≡ true
-unfolding plainEntries
-plain-end [] h = refl
-plain-end (k ∷ []) h = refl
-plain-end (k ∷ (a ∷ [])) h = refl
-plain-end (k ∷ (a ∷ (b ∷ []))) h = refl
-plain-end (k ∷ (a ∷ (b ∷ (c ∷ ws)))) h = absurd (omega arith)
+pub flat-end : (ws : List ℕ) → length ws < 4 → flatEntries ws ≡ true
+unfolding flatEntries
+flat-end [] h = refl
+flat-end (k ∷ []) h = refl
+flat-end (k ∷ (a ∷ [])) h = refl
+flat-end (k ∷ (a ∷ (b ∷ []))) h = refl
+flat-end (k ∷ (a ∷ (b ∷ (c ∷ ws)))) h = absurd (omega arith)
 
 -- what an entry of one kind asks
-pub near-plain : (a b c : ℕ) → plainToken (Jump a (toOf b c)) ≡ (simpleToken (Jump 0 (toOf b c)) && leb b a)
-unfolding toOf plainToken simpleToken
-near-plain a b c = go (eqb c 0)
+pub near-flat : (a b c : ℕ) → flatToken (Jump a (toOf b c)) ≡ (simpleToken (Jump 0 (toOf b c)) && leb b a)
+unfolding toOf flatToken simpleToken
+near-flat a b c = go (eqb c 0)
   where
-    go : (x : Bool) → plainToken (Jump a (cond x none (some b))) ≡ (simpleToken (Jump 0 (cond x none (some b))) && leb b a)
+    go : (x : Bool) → flatToken (Jump a (cond x none (some b))) ≡ (simpleToken (Jump 0 (cond x none (some b))) && leb b a)
     go true = refl
     go false = refl
 
-pub other-plain : (k a : ℕ) → plainToken (cond (eqb k 5) (Alternatives neither) (Byte a)) ≡ not (eqb k 5)
-unfolding plainToken
-other-plain k a = go (eqb k 5)
+pub other-flat : (k a : ℕ) → flatToken (cond (eqb k 5) (Alternatives neither) (Byte a)) ≡ not (eqb k 5)
+unfolding flatToken
+other-flat k a = go (eqb k 5)
   where
-    go : (x : Bool) → plainToken (cond x (Alternatives neither) (Byte a)) ≡ not x
+    go : (x : Bool) → flatToken (cond x (Alternatives neither) (Byte a)) ≡ not x
     go true = refl
     go false = refl
 
 -- what entries say of tokens
-plain-token : (t : Token) (r : List ℕ) → plainEntries (entriesOf t ++ r) ≡ (plainToken t && plainEntries r)
-unfolding entries plainEntries toldBy toOf plainToken
-plain-token (Byte v) r = refl
-plain-token (NotByte v) r = refl
-plain-token (MaskedByte v m) r = refl
-plain-token (NotMaskedByte v m) r = refl
-plain-token (Jump from none) r = refl
-plain-token (Jump from (some to)) r = refl
-plain-token (Alternatives ls) r = refl
+flat-token : (t : Token) (r : List ℕ) → flatEntries (entriesOf t ++ r) ≡ (flatToken t && flatEntries r)
+unfolding entries flatEntries toldBy toOf flatToken
+flat-token (Byte v) r = refl
+flat-token (NotByte v) r = refl
+flat-token (MaskedByte v m) r = refl
+flat-token (NotMaskedByte v m) r = refl
+flat-token (Jump from none) r = refl
+flat-token (Jump from (some to)) r = refl
+flat-token (Alternatives ls) r = refl
 
-plain-tokens : (ts : Tokens) (r : List ℕ) → plainEntries (entries ts ++ r) ≡ (plainTokens ts && plainEntries r)
-unfolding entries plainTokens
-plain-tokens nothing r = refl
-plain-tokens (t then ts) r =
-    ap plainEntries (append-assoc (entriesOf t) (entries ts) r) ∙ plain-token t (entries ts ++ r) ∙ ap (λ (x : Bool). plainToken t && x) (plain-tokens ts r) ∙ sym (and-assoc (plainToken t) (plainTokens ts) (plainEntries r))
+flat-tokens : (ts : Tokens) (r : List ℕ) → flatEntries (entries ts ++ r) ≡ (flatTokens ts && flatEntries r)
+unfolding entries flatTokens
+flat-tokens nothing r = refl
+flat-tokens (t then ts) r =
+    ap flatEntries (append-assoc (entriesOf t) (entries ts) r) ∙ flat-token t (entries ts ++ r) ∙ ap (λ (x : Bool). flatToken t && x) (flat-tokens ts r) ∙ sym (and-assoc (flatToken t) (flatTokens ts) (flatEntries r))
 
-plain-lists : (ls : Lists) → plainEntries (listEntries ls) ≡ plainBranches ls
-unfolding entries plainBranches plainEntries toldBy plainToken
-plain-lists neither = refl
-plain-lists (ts or ls) = plain-tokens ts (listEntries ls) ∙ ap (λ (x : Bool). plainTokens ts && x) (plain-lists ls)
+flat-lists : (ls : Lists) → flatEntries (listEntries ls) ≡ flatBranches ls
+unfolding entries flatBranches flatEntries toldBy flatToken
+flat-lists neither = refl
+flat-lists (ts or ls) = flat-tokens ts (listEntries ls) ∙ ap (λ (x : Bool). flatTokens ts && x) (flat-lists ls)
 
 module _ (ws : List ℕ) (at : ℕ) (r : List ℕ) where
   third : (l : List ℕ) → drop at ws ≡ l → getD ws (at + 3) 0 ≡ getD l 3 0
@@ -89,7 +89,7 @@ module _ (ws : List ℕ) (at : ℕ) (r : List ℕ) where
   simple-token (NotMaskedByte v m) e = let f = fields ws at (entriesOf (NotMaskedByte v m) ++ r) e in rw (f .0)
   simple-token (Jump from none) e = let f = fields ws at (entriesOf (Jump from none) ++ r) e in rw (f .0, third (entriesOf (Jump from none) ++ r) e)
   simple-token (Jump from (some to)) e = let f = fields ws at (entriesOf (Jump from (some to)) ++ r) e in rw (f .0, f .2, third (entriesOf (Jump from (some to)) ++ r) e)
-  simple-token (Alternatives ls) e = let f = alt-fields ws at ls r e in rw (f .0) (ap plainEntries (alt-inside ws at ls r e) ∙ plain-lists ls)
+  simple-token (Alternatives ls) e = let f = alt-fields ws at ls r e in rw (f .0) (ap flatEntries (alt-inside ws at ls r e) ∙ flat-lists ls)
 
 -- a walk stands before the tokens that are left
 pub record Walked (ws : List ℕ) (at : ℕ) (ts : Tokens) : Type 0 where

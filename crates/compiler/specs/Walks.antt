@@ -1,4 +1,5 @@
 -- Walks over token entries: whether they are simple, and where tokens start. Assumes nothing: these are definitions.
+-- To be believed: nothing.
 use mathlib.Core.Path.{_≡_}
 use mathlib.Core.Bool.{Bool, true, cond, _&&_}
 use mathlib.Core.Option.{Option, none, some}
@@ -10,10 +11,10 @@ use Rattle.meaning.specs.Limits.{tokenPool}
 use Rattle.meaning.specs.Tokens.{Token, Tokens, Byte, Jump, Alternatives, neither}
 use Rattle.meaning.specs.Values.{Spelled}
 use Rattle.meaning.specs.Entries.{entries}
-use Rattle.compiling.specs.Compile.{plainToken, simpleToken, simple}
+use Rattle.compiling.specs.Compile.{flatToken, simpleToken, simple}
 
 -- What an entry says, as far as 12 asks: a jump with its bounds, alternatives, or else a token of one byte. What 12 asks of it stands in `simpleToken`
--- and `plainToken` alone.
+-- and `flatToken` alone.
 unfoldable pub toOf : ℕ → ℕ → Option ℕ
 toOf b c = cond (eqb c 0) none (some b)
 
@@ -21,17 +22,17 @@ unfoldable pub toldBy : ℕ → ℕ → ℕ → ℕ → Token
 toldBy k a b c = cond (eqb k 4) (Jump a (toOf b c)) (cond (eqb k 5) (Alternatives neither) (Byte a))
 
 -- all entries inside a bracket, four words at a time
-unfoldable pub plainEntries : List ℕ → Bool
-plainEntries [] = true
-plainEntries (k ∷ []) = true
-plainEntries (k ∷ (a ∷ [])) = true
-plainEntries (k ∷ (a ∷ (b ∷ []))) = true
-plainEntries (k ∷ (a ∷ (b ∷ (c ∷ ws)))) = plainToken (toldBy k a b c) && plainEntries ws
+unfoldable pub flatEntries : List ℕ → Bool
+flatEntries [] = true
+flatEntries (k ∷ []) = true
+flatEntries (k ∷ (a ∷ [])) = true
+flatEntries (k ∷ (a ∷ (b ∷ []))) = true
+flatEntries (k ∷ (a ∷ (b ∷ (c ∷ ws)))) = flatToken (toldBy k a b c) && flatEntries ws
 
 -- the token at a place of the outer list
 unfoldable pub simpleAt : List ℕ → ℕ → Bool
 simpleAt ws at =
-    cond (eqb (getD ws at 0) 5) (plainEntries (take (4 * getD ws (at + 2) 0) (drop (at + 4) ws)))
+    cond (eqb (getD ws at 0) 5) (flatEntries (take (4 * getD ws (at + 2) 0) (drop (at + 4) ws)))
     (simpleToken (toldBy (getD ws at 0) (getD ws (at + 1) 0) (getD ws (at + 2) 0) (getD ws (at + 3) 0)))
 
 -- words that are the entries of tokens that a text spells

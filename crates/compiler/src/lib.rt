@@ -9,11 +9,11 @@ ghost use Rattle.meaning.specs.Limits.{nodeLimit, nodePool};
 ghost use Rattle.meaning.specs.Tokens.{Tokens, Jump};
 ghost use Rattle.meaning.specs.Entries.{tokenCount, entries};
 ghost use Rattle.meaning.specs.Values.{Spelled};
-ghost use Rattle.compiling.specs.Compile.{plainToken, simpleToken, simple, compile};
+ghost use Rattle.compiling.specs.Compile.{flatToken, simpleToken, simple, compile};
 ghost use Rattle.emit.specs.Lists.{sizeAt, offsets};
 ghost use Rattle.base.specs.Pools.{filled, cleared};
-ghost use Rattle.compiler.specs.Made.{Makes, limited};
-ghost use Rattle.compiler.specs.Walks.{toOf, toldBy, plainEntries, simpleAt, Entered, Simply};
+ghost use Rattle.compiler.specs.Made.{Fills, limited};
+ghost use Rattle.compiler.specs.Walks.{toOf, toldBy, flatEntries, simpleAt, Entered, Simply};
 use base::ENTRY_LIMIT;
 use base::JUMP_LIMIT;
 use base::NODE_LIMIT;
@@ -40,8 +40,8 @@ fn jump_near(b: u32, c: u32) -> bool
 }
 
 // Whether an entry may stand inside a branch.
-fn plain_entry(kind: u32, a: u32, b: u32, c: u32) -> bool
-    ensures { λ r. ⌜ r ≡ plainToken (toldBy kind a b c) ⌝ }
+fn flat_entry(kind: u32, a: u32, b: u32, c: u32) -> bool
+    ensures { λ r. ⌜ r ≡ flatToken (toldBy kind a b c) ⌝ }
 {
     if kind == 4 {
         if jump_near(b, c) {
@@ -53,12 +53,12 @@ fn plain_entry(kind: u32, a: u32, b: u32, c: u32) -> bool
 }
 
 // Whether all of a bracket's entries may stand inside branches.
-fn plain_entries(ws: &[u32]) -> bool
-    ensures { λ r. ⌜ r ≡ plainEntries (now (ws .entry)) ⌝ }
+fn flat_entries(ws: &[u32]) -> bool
+    ensures { λ r. ⌜ r ≡ flatEntries (now (ws .entry)) ⌝ }
 {
     let mut rest = ws;
     while 4 <= rest.len() {
-        if plain_entry(rest[0], rest[1], rest[2], rest[3]) {} else {
+        if flat_entry(rest[0], rest[1], rest[2], rest[3]) {} else {
             return false;
         }
         rest = &rest[4..];
@@ -86,7 +86,7 @@ fn simple_at(ws: &[u32], at: usize) -> bool
     if kind == 5 {
         let from = at + 4;
         let to = from + 4 * (ws[at + 2] as usize);
-        return plain_entries(&ws[from..to]);
+        return flat_entries(&ws[from..to]);
     }
     if kind == 4 {
         return jump_near(ws[at + 2], ws[at + 3]);
@@ -166,7 +166,7 @@ fn finish(
     reverse: &mut [NodeWord],
 ) -> Made
     requires { ⌜ (n ≤ length (now first)) × (m ≤ length (now second)) × (nodePool ≤ length (now forward)) × (nodePool ≤ length (now reverse)) ⌝ }
-    ensures { λ r. ⌜ Makes (limited (not long) (leb n nodeLimit && leb m nodeLimit) (take n (now (first .entry))) (take m (now (second .entry)))) r
+    ensures { λ r. ⌜ Fills (limited (not long) (leb n nodeLimit && leb m nodeLimit) (take n (now (first .entry))) (take m (now (second .entry)))) r
         (now (forward .entry)) (now (forward .exit)) (now (reverse .entry)) (now (reverse .exit)) ⌝ }
 {
     if long {
@@ -198,7 +198,7 @@ fn either(a: bool, b: bool) -> bool
 // Both programs of simple tokens. Their words are made on the stack, where all that entries can give fit: an entry gives a word at most.
 fn compile_simple(tokens: &[u32], forward: &mut [NodeWord], reverse: &mut [NodeWord]) -> Made
     requires { ⌜ Entered (now tokens) × Simply (now tokens) × (nodePool ≤ length (now forward)) × (nodePool ≤ length (now reverse)) ⌝ }
-    ensures { λ r. ⌜ ((ts : Tokens) → now (tokens .entry) ≡ entries ts → Spelled ts → Makes (compile ts) r
+    ensures { λ r. ⌜ ((ts : Tokens) → now (tokens .entry) ≡ entries ts → Spelled ts → Fills (compile ts) r
         (now (forward .entry)) (now (forward .exit)) (now (reverse .entry)) (now (reverse .exit))) ⌝ }
 {
     let mut starts = [0u16; ENTRY_LIMIT];
@@ -214,7 +214,7 @@ fn compile_simple(tokens: &[u32], forward: &mut [NodeWord], reverse: &mut [NodeW
 // The programs of tokens, forwards and from every list read backwards; 12 first, then 14, then 13.
 pub fn compile_tokens(tokens: &[u32], forward: &mut [NodeWord], reverse: &mut [NodeWord]) -> Made
     requires { ⌜ Entered (now tokens) × (nodePool ≤ length (now forward)) × (nodePool ≤ length (now reverse)) ⌝ }
-    ensures { λ r. ⌜ ((ts : Tokens) → now (tokens .entry) ≡ entries ts → Spelled ts → Makes (compile ts) r
+    ensures { λ r. ⌜ ((ts : Tokens) → now (tokens .entry) ≡ entries ts → Spelled ts → Fills (compile ts) r
         (now (forward .entry)) (now (forward .exit)) (now (reverse .entry)) (now (reverse .exit))) ⌝ }
 {
     if simple_tokens(tokens) {} else {

@@ -11,7 +11,7 @@ use Rattle.meaning.proofs.SoundLaws.{and-left, and-right, false-true}
 use Rattle.meaning.proofs.ValueLaws.{bytes-join}
 use Rattle.meaning.proofs.TokenLaws.{one-span, join-spans, nothing-after, after-assoc}
 use Rattle.compiling.specs.Compiling.{backwardsOf, backwards, backwardsIn}
-use Rattle.compiling.specs.Compile.{plainToken, plainTokens, plainBranches, simpleToken, simple}
+use Rattle.compiling.specs.Compile.{flatToken, flatTokens, flatBranches, simpleToken, simple}
 
 backwards-join : (ts us : Tokens) → backwards (ts ⊕ us) ≡ backwards us ⊕ backwards ts
 unfolding backwards _⊕_
@@ -95,29 +95,29 @@ mutual
   spelled-more neither h = h
   spelled-more (ts or ls) h = (spelled-backwards ts (h .0), spelled-more ls (h .1))
 
-plain-join : (ts us : Tokens) → plainTokens ts ≡ true → plainTokens us ≡ true → plainTokens (ts ⊕ us) ≡ true
-unfolding plainTokens _⊕_
-plain-join nothing us h g = g
-plain-join (t then ts) us h g = rw (and-left (plainToken t) _ h, plain-join ts us (and-right (plainToken t) _ h) g)
+flat-join : (ts us : Tokens) → flatTokens ts ≡ true → flatTokens us ≡ true → flatTokens (ts ⊕ us) ≡ true
+unfolding flatTokens _⊕_
+flat-join nothing us h g = g
+flat-join (t then ts) us h g = rw (and-left (flatToken t) _ h, flat-join ts us (and-right (flatToken t) _ h) g)
 
-plain-one : (t : Token) → plainToken t ≡ true → plainToken (backwardsOf t) ≡ true
-unfolding backwards plainToken
-plain-one (Byte v) h = h
-plain-one (NotByte v) h = h
-plain-one (MaskedByte v m) h = h
-plain-one (NotMaskedByte v m) h = h
-plain-one (Jump from to) h = h
-plain-one (Alternatives ls) h = false-true h
+flat-one : (t : Token) → flatToken t ≡ true → flatToken (backwardsOf t) ≡ true
+unfolding backwards flatToken
+flat-one (Byte v) h = h
+flat-one (NotByte v) h = h
+flat-one (MaskedByte v m) h = h
+flat-one (NotMaskedByte v m) h = h
+flat-one (Jump from to) h = h
+flat-one (Alternatives ls) h = false-true h
 
-plain-backwards : (ts : Tokens) → plainTokens ts ≡ true → plainTokens (backwards ts) ≡ true
-unfolding backwards plainTokens
-plain-backwards nothing h = h
-plain-backwards (t then ts) h = plain-join (backwards ts) (backwardsOf t then nothing) (plain-backwards ts (and-right (plainToken t) _ h)) (rw (plain-one t (and-left (plainToken t) _ h)))
+flat-backwards : (ts : Tokens) → flatTokens ts ≡ true → flatTokens (backwards ts) ≡ true
+unfolding backwards flatTokens
+flat-backwards nothing h = h
+flat-backwards (t then ts) h = flat-join (backwards ts) (backwardsOf t then nothing) (flat-backwards ts (and-right (flatToken t) _ h)) (rw (flat-one t (and-left (flatToken t) _ h)))
 
-plain-lists-backwards : (ls : Lists) → plainBranches ls ≡ true → plainBranches (backwardsIn ls) ≡ true
-unfolding backwards plainBranches
-plain-lists-backwards neither h = h
-plain-lists-backwards (ts or ls) h = rw (plain-backwards ts (and-left (plainTokens ts) _ h), plain-lists-backwards ls (and-right (plainTokens ts) _ h))
+flat-lists-backwards : (ls : Lists) → flatBranches ls ≡ true → flatBranches (backwardsIn ls) ≡ true
+unfolding backwards flatBranches
+flat-lists-backwards neither h = h
+flat-lists-backwards (ts or ls) h = rw (flat-backwards ts (and-left (flatTokens ts) _ h), flat-lists-backwards ls (and-right (flatTokens ts) _ h))
 
 simple-join : (ts us : Tokens) → simple ts ≡ true → simple us ≡ true → simple (ts ⊕ us) ≡ true
 unfolding simple _⊕_
@@ -131,7 +131,7 @@ simple-one (NotByte v) h = h
 simple-one (MaskedByte v m) h = h
 simple-one (NotMaskedByte v m) h = h
 simple-one (Jump from to) h = h
-simple-one (Alternatives ls) h = plain-lists-backwards ls h
+simple-one (Alternatives ls) h = flat-lists-backwards ls h
 
 pub simple-backwards : (ts : Tokens) → simple ts ≡ true → simple (backwards ts) ≡ true
 unfolding backwards simple

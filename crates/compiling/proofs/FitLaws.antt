@@ -10,10 +10,10 @@ use Rattle.meaning.specs.Limits.{jumpLimit}
 use Rattle.meaning.specs.Tokens.{Mask, left, right, all, Token, Tokens, Lists, Byte, NotByte, MaskedByte, NotMaskedByte, Jump, Alternatives, nothing, _then_, neither, _or_}
 use Rattle.meaning.specs.Values.{SpelledOne, Spelled, SpelledFirst, SpelledMore}
 use Rattle.meaning.specs.Programs.{Item, Prog, one, jump, range, alt, end, _▹_}
-use Rattle.meaning.specs.Words.{fieldSize, plain, plainProg}
+use Rattle.meaning.specs.Words.{fieldSize, isFlat, flatProg}
 use Rattle.meaning.proofs.SoundLaws.{and-left, and-right, false-true}
 use Rattle.compiling.specs.Compiling.{jumpOf, pairBy, add, itemOf, added, branchesFor, forwardProgram}
-use Rattle.compiling.specs.Compile.{plainToken, plainTokens, plainBranches, simpleToken, simple}
+use Rattle.compiling.specs.Compile.{flatToken, flatTokens, flatBranches, simpleToken, simple}
 use Rattle.compiling.proofs.SaidLaws.{FitTest, FitOf, Fit, FitFirst, FitMore}
 use Rattle.compiling.proofs.TokenSpans.{BoundedOne, Bounded, BoundedIn}
 
@@ -39,11 +39,11 @@ add-fit end j h g = (g, tt)
 add-fit (i ▹ end) j h g = pair-keeps Fit i j (h .0, (g, tt)) (λ n l. (omega arith, tt))
 add-fit (i ▹ (k ▹ p)) j h g = (h .0, add-fit (k ▹ p) j (h .1) g)
 
-add-plain : (p : Prog) (j : Item) → plainProg p ≡ true → plain j ≡ true → plainProg (add p j) ≡ true
-unfolding plainProg plain add
-add-plain end j h g = rw g
-add-plain (i ▹ end) j h g = pair-keeps (λ (q : Prog). plainProg q ≡ true) i j (rw (and-left (plain i) true h, g)) (λ n l. refl)
-add-plain (i ▹ (k ▹ p)) j h g = rw (and-left (plain i) _ h, add-plain (k ▹ p) j (and-right (plain i) _ h) g)
+add-flat : (p : Prog) (j : Item) → flatProg p ≡ true → isFlat j ≡ true → flatProg (add p j) ≡ true
+unfolding flatProg isFlat add
+add-flat end j h g = rw g
+add-flat (i ▹ end) j h g = pair-keeps (λ (q : Prog). flatProg q ≡ true) i j (rw (and-left (isFlat i) true h, g)) (λ n l. refl)
+add-flat (i ▹ (k ▹ p)) j h g = rw (and-left (isFlat i) _ h, add-flat (k ▹ p) j (and-right (isFlat i) _ h) g)
 
 -- a jump within the limit
 jump-fits : (from to : ℕ) → from ≤ to → leb to jumpLimit ≡ true → FitOf (itemOf (Jump from (some to)))
@@ -54,9 +54,9 @@ jump-fits from to l h = go (ltb from to) refl
     go true e = let m : to ≤ jumpLimit = leb-true to jumpLimit h in rw e (l, omega arith)
     go false e = let m : to ≤ jumpLimit = leb-true to jumpLimit h in rw e (omega arith)
 
-jump-plain : (from to : ℕ) → leb to from ≡ true → plain (itemOf (Jump from (some to))) ≡ true
-unfolding itemOf plain
-jump-plain from to h = rw (le-ltb from to (leb-true to from h))
+jump-flat : (from to : ℕ) → leb to from ≡ true → isFlat (itemOf (Jump from (some to))) ≡ true
+unfolding itemOf isFlat
+jump-flat from to h = rw (le-ltb from to (leb-true to from h))
 
 -- bytes and masks
 mask-fits : (v : ℕ) (m : Mask) → v < 16 → FitOf (itemOf (MaskedByte v m))
@@ -71,52 +71,52 @@ not-mask-fits v left h = omega arith
 not-mask-fits v right h = omega arith
 not-mask-fits v all h = omega arith
 
-mask-plain : (v : ℕ) (m : Mask) → plain (itemOf (MaskedByte v m)) ≡ true
-unfolding itemOf plain
-mask-plain v left = refl
-mask-plain v right = refl
-mask-plain v all = refl
+mask-flat : (v : ℕ) (m : Mask) → isFlat (itemOf (MaskedByte v m)) ≡ true
+unfolding itemOf isFlat
+mask-flat v left = refl
+mask-flat v right = refl
+mask-flat v all = refl
 
-not-mask-plain : (v : ℕ) (m : Mask) → plain (itemOf (NotMaskedByte v m)) ≡ true
-unfolding itemOf plain
-not-mask-plain v left = refl
-not-mask-plain v right = refl
-not-mask-plain v all = refl
+not-mask-flat : (v : ℕ) (m : Mask) → isFlat (itemOf (NotMaskedByte v m)) ≡ true
+unfolding itemOf isFlat
+not-mask-flat v left = refl
+not-mask-flat v right = refl
+not-mask-flat v all = refl
 
 byte-fits : (v : ℕ) → v < 256 → v < fieldSize
 byte-fits v h = omega arith
 
-plain-fits : (t : Token) → SpelledOne t → plainToken t ≡ true → FitOf (itemOf t) × (plain (itemOf t) ≡ true)
-unfolding Fit FitTest SpelledOne plainToken plain itemOf
-plain-fits (Byte v) h g = (byte-fits v h, refl)
-plain-fits (NotByte v) h g = ((byte-fits v h, omega arith), refl)
-plain-fits (MaskedByte v m) h g = (mask-fits v m h, mask-plain v m)
-plain-fits (NotMaskedByte v m) h g = (not-mask-fits v m h, not-mask-plain v m)
-plain-fits (Jump from none) h g = false-true g
-plain-fits (Jump from (some to)) h g = (jump-fits from to h (and-left (leb to jumpLimit) (leb to from) g), jump-plain from to (and-right (leb to jumpLimit) (leb to from) g))
-plain-fits (Alternatives ls) h g = false-true g
+flat-fits : (t : Token) → SpelledOne t → flatToken t ≡ true → FitOf (itemOf t) × (isFlat (itemOf t) ≡ true)
+unfolding Fit FitTest SpelledOne flatToken isFlat itemOf
+flat-fits (Byte v) h g = (byte-fits v h, refl)
+flat-fits (NotByte v) h g = ((byte-fits v h, omega arith), refl)
+flat-fits (MaskedByte v m) h g = (mask-fits v m h, mask-flat v m)
+flat-fits (NotMaskedByte v m) h g = (not-mask-fits v m h, not-mask-flat v m)
+flat-fits (Jump from none) h g = false-true g
+flat-fits (Jump from (some to)) h g = (jump-fits from to h (and-left (leb to jumpLimit) (leb to from) g), jump-flat from to (and-right (leb to jumpLimit) (leb to from) g))
+flat-fits (Alternatives ls) h g = false-true g
 
 -- a branch
-plain-added : (ts : Tokens) (p : Prog) → Spelled ts → plainTokens ts ≡ true → Fit p → plainProg p ≡ true → Fit (added ts p) × (plainProg (added ts p) ≡ true)
-unfolding Spelled plainTokens added
-plain-added nothing p h g f q = (f, q)
-plain-added (t then ts) p h g f q =
-    let r = plain-fits t (h .0) (and-left (plainToken t) (plainTokens ts) g) in
-    plain-added ts (add p (itemOf t)) (h .1) (and-right (plainToken t) (plainTokens ts) g) (add-fit p (itemOf t) f (r .0)) (add-plain p (itemOf t) q (r .1))
+flat-added : (ts : Tokens) (p : Prog) → Spelled ts → flatTokens ts ≡ true → Fit p → flatProg p ≡ true → Fit (added ts p) × (flatProg (added ts p) ≡ true)
+unfolding Spelled flatTokens added
+flat-added nothing p h g f q = (f, q)
+flat-added (t then ts) p h g f q =
+    let r = flat-fits t (h .0) (and-left (flatToken t) (flatTokens ts) g) in
+    flat-added ts (add p (itemOf t)) (h .1) (and-right (flatToken t) (flatTokens ts) g) (add-fit p (itemOf t) f (r .0)) (add-flat p (itemOf t) q (r .1))
 
-more-fit : (ls : Lists) → SpelledMore ls → plainBranches ls ≡ true → FitMore (branchesFor ls)
-unfolding Spelled plainBranches branchesFor Fit plainProg
+more-fit : (ls : Lists) → SpelledMore ls → flatBranches ls ≡ true → FitMore (branchesFor ls)
+unfolding Spelled flatBranches branchesFor Fit flatProg
 more-fit neither h g = tt
 more-fit (ts or ls) h g =
-    let r = plain-added ts end (h .0) (and-left (plainTokens ts) (plainBranches ls) g) tt refl in
-    (r .0, r .1, more-fit ls (h .1) (and-right (plainTokens ts) (plainBranches ls) g))
+    let r = flat-added ts end (h .0) (and-left (flatTokens ts) (flatBranches ls) g) tt refl in
+    (r .0, r .1, more-fit ls (h .1) (and-right (flatTokens ts) (flatBranches ls) g))
 
-first-fit : (ls : Lists) → SpelledFirst ls → plainBranches ls ≡ true → FitFirst (branchesFor ls)
-unfolding Spelled plainBranches branchesFor Fit plainProg
+first-fit : (ls : Lists) → SpelledFirst ls → flatBranches ls ≡ true → FitFirst (branchesFor ls)
+unfolding Spelled flatBranches branchesFor Fit flatProg
 first-fit neither h g = h
 first-fit (ts or ls) h g =
-    let r = plain-added ts end (h .0) (and-left (plainTokens ts) (plainBranches ls) g) tt refl in
-    (r .0, r .1, more-fit ls (h .1) (and-right (plainTokens ts) (plainBranches ls) g))
+    let r = flat-added ts end (h .0) (and-left (flatTokens ts) (flatBranches ls) g) tt refl in
+    (r .0, r .1, more-fit ls (h .1) (and-right (flatTokens ts) (flatBranches ls) g))
 
 -- the outer list
 simple-fits : (t : Token) → SpelledOne t → simpleToken t ≡ true → FitOf (itemOf t)
@@ -140,25 +140,25 @@ unfolding forwardProgram Fit
 forward-fits ts h g = simple-added ts end h g tt
 
 -- simple tokens have no unbounded jump
-plain-bounded-one : (t : Token) → plainToken t ≡ true → BoundedOne t
-unfolding BoundedOne plainToken
-plain-bounded-one (Byte v) g = tt
-plain-bounded-one (NotByte v) g = tt
-plain-bounded-one (MaskedByte v m) g = tt
-plain-bounded-one (NotMaskedByte v m) g = tt
-plain-bounded-one (Jump from none) g = false-true g
-plain-bounded-one (Jump from (some to)) g = tt
-plain-bounded-one (Alternatives ls) g = false-true g
+flat-bounded-one : (t : Token) → flatToken t ≡ true → BoundedOne t
+unfolding BoundedOne flatToken
+flat-bounded-one (Byte v) g = tt
+flat-bounded-one (NotByte v) g = tt
+flat-bounded-one (MaskedByte v m) g = tt
+flat-bounded-one (NotMaskedByte v m) g = tt
+flat-bounded-one (Jump from none) g = false-true g
+flat-bounded-one (Jump from (some to)) g = tt
+flat-bounded-one (Alternatives ls) g = false-true g
 
-plain-bounded : (ts : Tokens) → plainTokens ts ≡ true → Bounded ts
-unfolding Bounded plainTokens
-plain-bounded nothing g = tt
-plain-bounded (t then ts) g = (plain-bounded-one t (and-left (plainToken t) (plainTokens ts) g), plain-bounded ts (and-right (plainToken t) (plainTokens ts) g))
+flat-bounded : (ts : Tokens) → flatTokens ts ≡ true → Bounded ts
+unfolding Bounded flatTokens
+flat-bounded nothing g = tt
+flat-bounded (t then ts) g = (flat-bounded-one t (and-left (flatToken t) (flatTokens ts) g), flat-bounded ts (and-right (flatToken t) (flatTokens ts) g))
 
-lists-bounded : (ls : Lists) → plainBranches ls ≡ true → BoundedIn ls
-unfolding Bounded plainBranches
+lists-bounded : (ls : Lists) → flatBranches ls ≡ true → BoundedIn ls
+unfolding Bounded flatBranches
 lists-bounded neither g = tt
-lists-bounded (ts or ls) g = (plain-bounded ts (and-left (plainTokens ts) (plainBranches ls) g), lists-bounded ls (and-right (plainTokens ts) (plainBranches ls) g))
+lists-bounded (ts or ls) g = (flat-bounded ts (and-left (flatTokens ts) (flatBranches ls) g), lists-bounded ls (and-right (flatTokens ts) (flatBranches ls) g))
 
 simple-bounded-one : (t : Token) → simpleToken t ≡ true → BoundedOne t
 unfolding BoundedOne simpleToken

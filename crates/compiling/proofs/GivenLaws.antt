@@ -16,7 +16,7 @@ use Rattle.meaning.specs.Programs.{Item, Prog, Branches, one, jump, range, alt,
 use Rattle.meaning.proofs.SoundLaws.{false-true}
 use Rattle.compiling.specs.ProgramWords.{nodes}
 use Rattle.compiling.specs.Compiling.{forwardProgram, reverseProgram, forwardWords, reverseWords, TooFar, TooRich, Some, SomeIn, InBranch, Unsimple, LongIn, LongOf, LongBranch, ManyNodes, Either}
-use Rattle.compiling.specs.Compile.{plainToken, plainTokens, plainBranches, simpleToken, simple, shortIn, shortOf, short, few, Compiled, compiled, refused, compile}
+use Rattle.compiling.specs.Compile.{flatToken, flatTokens, flatBranches, simpleToken, simple, shortIn, shortOf, short, few, Compiled, compiled, refused, compile}
 
 -- a test that fails exactly in the case P
 abbrev Fails : Bool → Type 0 → Type 0
@@ -40,25 +40,25 @@ both-fail true t f g = (λ h. inr (g .0 h), λ q. ⊎-elim (λ p. absurd (false-
 both-fail false t f g = (λ h. inl (f .0 refl), λ q. refl)
 
 -- 12
-plain-token-fails : (t : Token) → Fails (plainToken t) (TooFar t ⊎ TooRich t)
-unfolding plainToken TooFar TooRich
-plain-token-fails (Byte v) = never (⊎-elim (λ h. h) (λ h. h))
-plain-token-fails (NotByte v) = never (⊎-elim (λ h. h) (λ h. h))
-plain-token-fails (MaskedByte v m) = never (⊎-elim (λ h. h) (λ h. h))
-plain-token-fails (NotMaskedByte v m) = never (⊎-elim (λ h. h) (λ h. h))
-plain-token-fails (Jump from none) = always (inl tt)
-plain-token-fails (Jump from (some to)) = both-fail (leb to jumpLimit) (leb to from) (leb-fails to jumpLimit) (leb-fails to from)
-plain-token-fails (Alternatives ls) = always (inr tt)
+flat-token-fails : (t : Token) → Fails (flatToken t) (TooFar t ⊎ TooRich t)
+unfolding flatToken TooFar TooRich
+flat-token-fails (Byte v) = never (⊎-elim (λ h. h) (λ h. h))
+flat-token-fails (NotByte v) = never (⊎-elim (λ h. h) (λ h. h))
+flat-token-fails (MaskedByte v m) = never (⊎-elim (λ h. h) (λ h. h))
+flat-token-fails (NotMaskedByte v m) = never (⊎-elim (λ h. h) (λ h. h))
+flat-token-fails (Jump from none) = always (inl tt)
+flat-token-fails (Jump from (some to)) = both-fail (leb to jumpLimit) (leb to from) (leb-fails to jumpLimit) (leb-fails to from)
+flat-token-fails (Alternatives ls) = always (inr tt)
 
-plain-fails : (ts : Tokens) → Fails (plainTokens ts) (Some (λ t. TooFar t ⊎ TooRich t) ts)
-unfolding plainTokens Some
-plain-fails nothing = never (λ h. h)
-plain-fails (t then ts) = both-fail (plainToken t) (plainTokens ts) (plain-token-fails t) (plain-fails ts)
+flat-fails : (ts : Tokens) → Fails (flatTokens ts) (Some (λ t. TooFar t ⊎ TooRich t) ts)
+unfolding flatTokens Some
+flat-fails nothing = never (λ h. h)
+flat-fails (t then ts) = both-fail (flatToken t) (flatTokens ts) (flat-token-fails t) (flat-fails ts)
 
-lists-fail : (ls : Lists) → Fails (plainBranches ls) (SomeIn (λ t. TooFar t ⊎ TooRich t) ls)
-unfolding plainBranches SomeIn
+lists-fail : (ls : Lists) → Fails (flatBranches ls) (SomeIn (λ t. TooFar t ⊎ TooRich t) ls)
+unfolding flatBranches SomeIn
 lists-fail neither = never (λ h. h)
-lists-fail (ts or ls) = both-fail (plainTokens ts) (plainBranches ls) (plain-fails ts) (lists-fail ls)
+lists-fail (ts or ls) = both-fail (flatTokens ts) (flatBranches ls) (flat-fails ts) (lists-fail ls)
 
 simple-token-fails : (t : Token) → Fails (simpleToken t) (TooFar t ⊎ InBranch t)
 unfolding simpleToken TooFar InBranch
@@ -103,8 +103,8 @@ unfolding few ManyNodes
 few-fails p = leb-fails (nodes p) nodeLimit
 
 -- what is given, by the three tests
-outcome : Bool → Bool → Bool → List ℕ → List ℕ → Compiled
-outcome a b c f r = cond a (cond b (cond c (compiled f r) (refused TooManyNodes)) (refused BranchTooLong)) (refused NotSimple)
+result : Bool → Bool → Bool → List ℕ → List ℕ → Compiled
+result a b c f r = cond a (cond b (cond c (compiled f r) (refused TooManyNodes)) (refused BranchTooLong)) (refused NotSimple)
 
 number : Compiled → ℕ
 number (compiled f r) = 0
@@ -122,29 +122,29 @@ second-of (compiled f r) d = r
 second-of (refused r) d = d
 
 module _ (f r : List ℕ) where
-  refused-first : (a b c : Bool) → outcome a b c f r ≡ refused NotSimple → a ≡ false
-  unfolding outcome number
+  refused-first : (a b c : Bool) → result a b c f r ≡ refused NotSimple → a ≡ false
+  unfolding result number
   refused-first false b c e = refl
   refused-first true false c e = apart (refused BranchTooLong) (refused NotSimple) (λ h. omega arith) e
   refused-first true true false e = apart (refused TooManyNodes) (refused NotSimple) (λ h. omega arith) e
   refused-first true true true e = apart (compiled f r) (refused NotSimple) (λ h. omega arith) e
 
-  refused-second : (a b c : Bool) → outcome a b c f r ≡ refused BranchTooLong → (a ≡ true) × (b ≡ false)
-  unfolding outcome number
+  refused-second : (a b c : Bool) → result a b c f r ≡ refused BranchTooLong → (a ≡ true) × (b ≡ false)
+  unfolding result number
   refused-second false b c e = apart (refused NotSimple) (refused BranchTooLong) (λ h. omega arith) e
   refused-second true false c e = (refl, refl)
   refused-second true true false e = apart (refused TooManyNodes) (refused BranchTooLong) (λ h. omega arith) e
   refused-second true true true e = apart (compiled f r) (refused BranchTooLong) (λ h. omega arith) e
 
-  refused-third : (a b c : Bool) → outcome a b c f r ≡ refused TooManyNodes → (a ≡ true) × (b ≡ true) × (c ≡ false)
-  unfolding outcome number
+  refused-third : (a b c : Bool) → result a b c f r ≡ refused TooManyNodes → (a ≡ true) × (b ≡ true) × (c ≡ false)
+  unfolding result number
   refused-third false b c e = apart (refused NotSimple) (refused TooManyNodes) (λ h. omega arith) e
   refused-third true false c e = apart (refused BranchTooLong) (refused TooManyNodes) (λ h. omega arith) e
   refused-third true true false e = (refl, refl, refl)
   refused-third true true true e = apart (compiled f r) (refused TooManyNodes) (λ h. omega arith) e
 
-  not-refused : (a b c : Bool) (x y : List ℕ) → outcome a b c f r ≡ compiled x y → (a ≡ true) × (b ≡ true) × (c ≡ true) × (f ≡ x) × (r ≡ y)
-  unfolding outcome number first-of second-of
+  not-refused : (a b c : Bool) (x y : List ℕ) → result a b c f r ≡ compiled x y → (a ≡ true) × (b ≡ true) × (c ≡ true) × (f ≡ x) × (r ≡ y)
+  unfolding result number first-of second-of
   not-refused false b c x y e = apart (refused NotSimple) (compiled x y) (λ h. omega arith) e
   not-refused true false c x y e = apart (refused BranchTooLong) (compiled x y) (λ h. omega arith) e
   not-refused true true false x y e = apart (refused TooManyNodes) (compiled x y) (λ h. omega arith) e
@@ -168,13 +168,13 @@ module _ (ts : Tokens) where
   few-both : Fails nodes-few (Either ManyNodes ts)
   few-both = both-fail (few (forwardProgram ts)) (few (reverseProgram ts)) (few-fails (forwardProgram ts)) (few-fails (reverseProgram ts))
 
-  by-tests : compile ts ≡ outcome (simple ts) branches-short nodes-few (forwardWords ts) (reverseWords ts)
-  unfolding compile outcome
+  by-tests : compile ts ≡ result (simple ts) branches-short nodes-few (forwardWords ts) (reverseWords ts)
+  unfolding compile result
   by-tests = refl
 
   -- 12 is given exactly for the patterns that 01 names
   pub not-simple-given : (compile ts ≡ refused NotSimple) ↔ Unsimple ts
-  unfolding outcome
+  unfolding result
   not-simple-given = (
     λ e. simple-fails ts .0 (refused-first _ _ (simple ts) branches-short nodes-few (sym by-tests ∙ e)),
     λ u. by-tests ∙ rw (simple-fails ts .1 u),
@@ -182,7 +182,7 @@ module _ (ts : Tokens) where
 
   -- 14 exactly if there is no 12, and a branch of either program is above the limit
   pub branch-too-long-given : (compile ts ≡ refused BranchTooLong) ↔ ((Unsimple ts → ⊥) × Either LongBranch ts)
-  unfolding outcome
+  unfolding result
   branch-too-long-given = (
     λ e.
         let q = refused-second _ _ (simple ts) branches-short nodes-few (sym by-tests ∙ e) in
@@ -192,7 +192,7 @@ module _ (ts : Tokens) where
 
   -- 13 exactly if there is neither, and either program has more nodes than the limit
   pub too-many-nodes-given : (compile ts ≡ refused TooManyNodes) ↔ ((Unsimple ts → ⊥) × (Either LongBranch ts → ⊥) × Either ManyNodes ts)
-  unfolding outcome
+  unfolding result
   too-many-nodes-given = (
     λ e.
         let q = refused-third _ _ (simple ts) branches-short nodes-few (sym by-tests ∙ e) in
@@ -202,7 +202,7 @@ module _ (ts : Tokens) where
 
   -- and the programs exactly if there is none of the three
   pub programs-given : (f r : List ℕ) → (compile ts ≡ compiled f r) ↔ ((Unsimple ts → ⊥) × (Either LongBranch ts → ⊥) × (Either ManyNodes ts → ⊥) × (forwardWords ts ≡ f) × (reverseWords ts ≡ r))
-  unfolding outcome
+  unfolding result
   programs-given f r = (
     λ e.
         let q = not-refused _ _ (simple ts) branches-short nodes-few f r (sym by-tests ∙ e) in

@@ -10,14 +10,14 @@ use lib.Seq.{take-at, drop-at}
 use borrow.Author.Tests.{leb-true, le-leb}
 use Rattle.meaning.specs.Limits.{branchLimit}
 use Rattle.meaning.specs.Programs.{Test, byte, mask, negatedMask, any, dot, Item, Prog, Branches, one, jump, range, alt, end, _▹_, stop, or}
-use Rattle.meaning.specs.Words.{fieldSize, countSize, word, item, opens, mark, shape, shapeBy, proper, properBy, plain, plainProg, prog, branchesOf, branches, plainWords, Sound, SoundBranches, soundWords, soundBranches}
+use Rattle.meaning.specs.Words.{fieldSize, countSize, word, item, opens, mark, shape, shapeBy, proper, properBy, isFlat, flatProg, prog, branchesOf, branches, flatWords, Sound, SoundBranches, soundWords, soundBranches}
 use Rattle.meaning.proofs.WordLaws.{prog-nil, prog-item, prog-opens, branches-mark}
-use Rattle.meaning.proofs.SoundLaws.{make-item, make-opens, make-branch, make-plain, plain-nil, and-left, and-right, false-true}
+use Rattle.meaning.proofs.SoundLaws.{make-item, make-opens, make-branch, make-flat, flat-nil, and-left, and-right, false-true}
 use Rattle.meaning.proofs.MadeLaws.{made-shape, made-proper, count-shape, count-proper}
 use Rattle.compiling.specs.ProgramWords.{wordFor, opening, wordsFor, wordsOf, wordsIn, nodes}
 use Rattle.compiling.specs.Compile.{shortIn, shortOf, short}
 
--- every value fits its field, an alternation has a branch, and a branch is plain
+-- every value fits its field, an alternation has a branch, and a branch is flat
 unfoldable pub FitTest : Test → Type 0
 FitTest (byte v) = v < fieldSize
 FitTest (mask v m) = (v < fieldSize) × (m < fieldSize)
@@ -38,11 +38,11 @@ unfoldable mutual
 
   pub FitFirst : Branches → Type 0
   FitFirst stop = ⊥
-  FitFirst (or p bs) = Fit p × (plainProg p ≡ true) × FitMore bs
+  FitFirst (or p bs) = Fit p × (flatProg p ≡ true) × FitMore bs
 
   pub FitMore : Branches → Type 0
   FitMore stop = Unit {0}
-  FitMore (or p bs) = Fit p × (plainProg p ≡ true) × FitMore bs
+  FitMore (or p bs) = Fit p × (flatProg p ≡ true) × FitMore bs
 
 -- a word that says one item
 record Says (w : ℕ) (i : Item) : Type 0 where
@@ -87,7 +87,7 @@ module _ (n : ℕ) (l : n < fieldSize) where
 record Said (p : Prog) : Type 0 where
   sound : Sound (wordsOf p)
   says : prog (wordsOf p) ≡ p
-  plainly : plainProg p ≡ true → plainWords (wordsOf p) ≡ true
+  flatly : flatProg p ≡ true → flatWords (wordsOf p) ≡ true
 
 record SaidIn (bs : Branches) : Type 0 where
   sound : SoundBranches (wordsIn bs)
@@ -95,7 +95,7 @@ record SaidIn (bs : Branches) : Type 0 where
 
 nil-said : Said end
 unfolding wordsOf soundWords
-nil-said = record { sound = refl; says = prog-nil; plainly = λ h. plain-nil }
+nil-said = record { sound = refl; says = prog-nil; flatly = λ h. flat-nil }
 
 nil-said-in : SaidIn stop
 unfolding wordsOf branchesOf branches soundBranches
@@ -103,18 +103,18 @@ nil-said-in = record { sound = refl; says = refl }
 
 -- an item of one word, before a program
 word-said : (w : ℕ) (i : Item) (p : Prog) → wordsFor i ≡ w ∷ [] → Says w i → Said p → Said (i ▹ p)
-unfolding wordsOf plainProg
+unfolding wordsOf flatProg
 word-said w i p e s q =
     let f : wordsFor i ++ wordsOf p ≡ w ∷ wordsOf p = ap (λ (l : List ℕ). l ++ wordsOf p) e in
     record {
       sound = subst Sound (sym f) (make-item w (wordsOf p) (s .shaped) (s .properly) (q .sound));
       says = ap prog f ∙ prog-item w (wordsOf p) i (s .shaped) ∙ ap (λ (r : Prog). i ▹ r) (q .says);
-      plainly = λ h. subst (λ (l : List ℕ). plainWords l ≡ true) (sym f) (make-plain w (wordsOf p) (s .shaped) (and-left (plain i) _ h) (s .properly) (q .plainly (and-right (plain i) _ h)));
+      flatly = λ h. subst (λ (l : List ℕ). flatWords l ≡ true) (sym f) (make-flat w (wordsOf p) (s .shaped) (and-left (isFlat i) _ h) (s .properly) (q .flatly (and-right (isFlat i) _ h)));
     }
 
 -- an alternation, before a program
 alt-said : (bs : Branches) (p : Prog) → 1 ≤ length (wordsIn bs) → length (wordsIn bs) < countSize → SaidIn bs → Said p → Said (alt bs ▹ p)
-unfolding wordsOf plainProg plain
+unfolding wordsOf flatProg isFlat
 alt-said bs p h l b q =
     let n = length (wordsIn bs) in
     let t : take n (wordsIn bs ++ wordsOf p) ≡ wordsIn bs = take-at (wordsIn bs) (wordsOf p) n refl in
@@ -130,11 +130,11 @@ alt-said bs p h l b q =
           prog-opens (opening n) (wordsIn bs ++ wordsOf p) n e
           ∙ ap₂ (λ (x : List ℕ) (y : List ℕ). alt (branchesOf x) ▹ prog y) t d
           ∙ ap₂ (λ (x : Branches) (y : Prog). alt x ▹ y) (b .says) (q .says);
-      plainly = λ g. false-true g;
+      flatly = λ g. false-true g;
     }
 
 -- a branch, before others
-branch-said : (p : Prog) (bs : Branches) → plainProg p ≡ true → nodes p < fieldSize → Said p → SaidIn bs → SaidIn (or p bs)
+branch-said : (p : Prog) (bs : Branches) → flatProg p ≡ true → nodes p < fieldSize → Said p → SaidIn bs → SaidIn (or p bs)
 unfolding wordsOf
 branch-said p bs h l q b =
     let n = nodes p in
@@ -144,7 +144,7 @@ branch-said p bs h l q b =
     record {
       sound = make-branch (word 7 n 0) (wordsOf p ++ wordsIn bs) e (mark-proper n l) (record {
         fits = omega (arith, length-append (wordsOf p) (wordsIn bs));
-        inside = ap plainWords t ∙ q .plainly h;
+        inside = ap flatWords t ∙ q .flatly h;
         after = subst SoundBranches (sym d) (b .sound);
       });
       says =
@@ -163,14 +163,14 @@ unfolding Fit wordsOf
 some-words stop h = absurd h
 some-words (or p bs) h = omega arith
 
--- a plain program has no branch
-plain-short : (p : Prog) → plainProg p ≡ true → short p ≡ true
-unfolding plainProg plain short shortOf
-plain-short end h = refl
-plain-short (one t ▹ p) h = plain-short p h
-plain-short (jump n ▹ p) h = plain-short p h
-plain-short (range a b ▹ p) h = false-true h
-plain-short (alt bs ▹ p) h = false-true h
+-- a flat program has no branch
+flat-short : (p : Prog) → flatProg p ≡ true → short p ≡ true
+unfolding flatProg isFlat short shortOf
+flat-short end h = refl
+flat-short (one t ▹ p) h = flat-short p h
+flat-short (jump n ▹ p) h = flat-short p h
+flat-short (range a b ▹ p) h = false-true h
+flat-short (alt bs ▹ p) h = false-true h
 
 mutual
   unfolding Fit wordsOf short shortOf shortIn
@@ -192,7 +192,7 @@ mutual
   said-in (or p bs) h g l =
       let e = length-append (wordsOf p) (wordsIn bs) in
       let n : nodes p ≤ branchLimit = leb-true (nodes p) branchLimit (and-left (leb (nodes p) branchLimit) (shortIn bs) g) in
-      branch-said p bs (h .1) (omega arith) (said p (h .0) (plain-short p (h .1)) (omega arith)) (said-in bs (h .2) (and-right (leb (nodes p) branchLimit) (shortIn bs) g) (omega arith))
+      branch-said p bs (h .1) (omega arith) (said p (h .0) (flat-short p (h .1)) (omega arith)) (said-in bs (h .2) (and-right (leb (nodes p) branchLimit) (shortIn bs) g) (omega arith))
 
 module _ (p : Prog) (h : Fit p) (g : short p ≡ true) (l : nodes p ≤ countSize) where
   pub words-sound : Sound (wordsOf p)

@@ -7,7 +7,7 @@ use Rattle.meaning.specs.Tokens.{left, right, all, Tokens, Byte, NotByte, Maske
 use Rattle.meaning.specs.Words.{word}
 use Rattle.compiling.specs.ProgramWords.{wordFor, opening, wordsOf}
 use Rattle.compiling.specs.Compiling.{jumpOf, pairBy, add, itemOf, backwards, forwardProgram, reverseProgram, forwardWords, reverseWords}
-use Rattle.compiling.specs.Compile.{plainToken, plainTokens, plainBranches, simpleToken, simple, shortIn, shortOf, short, few, Compiled, compiled, refused, compile}
+use Rattle.compiling.specs.Compile.{flatToken, flatTokens, flatBranches, simpleToken, simple, shortIn, shortOf, short, few, Compiled, compiled, refused, compile}
 
 -- a pattern, and what compiling it gives
 pub data Sample : Type 0 where
@@ -44,5 +44,5 @@ samples =
     gives (NotByte 0xAB then MaskedByte 0xC left then NotMaskedByte 0xC left then NotMaskedByte 0xC right then nothing) (compiled (word 2 0xAB 0xFF ∷ word 1 0x0C 0x0F ∷ word 2 0x0C 0x0F ∷ word 2 0xC0 0xF0 ∷ []) (word 2 0xC0 0xF0 ∷ word 2 0x0C 0x0F ∷ word 1 0x0C 0x0F ∷ word 2 0xAB 0xFF ∷ [])) ∷ []
 
 pub samples-hold : Right samples
-unfolding samples Right compile plainToken plainTokens plainBranches simpleToken simple shortIn shortOf short few wordFor opening wordsOf jumpOf pairBy add itemOf backwards _⊕_ forwardProgram reverseProgram forwardWords reverseWords
+unfolding samples Right compile flatToken flatTokens flatBranches simpleToken simple shortIn shortOf short few wordFor opening wordsOf jumpOf pairBy add itemOf backwards _⊕_ forwardProgram reverseProgram forwardWords reverseWords
 samples-hold = (refl, (refl, (refl, (refl, (refl, (refl, (refl, (refl, (refl, (refl, (refl, (refl, (refl, tt)))))))))))))

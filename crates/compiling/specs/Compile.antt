@@ -1,4 +1,5 @@
 -- What compiling gives, by computing: the refusals are tested in 01's order, 12, 14, 13. Assumes nothing: these are definitions.
+-- To be believed: `Compiled`.
 use mathlib.Core.Bool.{Bool, true, false, cond, _&&_}
 use mathlib.Core.Option.{none, some}
 use mathlib.Core.List.{List}
@@ -13,22 +14,22 @@ use Rattle.compiling.specs.ProgramWords.{nodes}
 use Rattle.compiling.specs.Compiling.{forwardProgram, reverseProgram, forwardWords, reverseWords}
 
 -- a token that may stand in a branch
-unfoldable pub plainToken : Token → Bool
-plainToken (Byte v) = true
-plainToken (NotByte v) = true
-plainToken (MaskedByte v m) = true
-plainToken (NotMaskedByte v m) = true
-plainToken (Jump from none) = false
-plainToken (Jump from (some to)) = leb to jumpLimit && leb to from
-plainToken (Alternatives ls) = false
+unfoldable pub flatToken : Token → Bool
+flatToken (Byte v) = true
+flatToken (NotByte v) = true
+flatToken (MaskedByte v m) = true
+flatToken (NotMaskedByte v m) = true
+flatToken (Jump from none) = false
+flatToken (Jump from (some to)) = leb to jumpLimit && leb to from
+flatToken (Alternatives ls) = false
 
-unfoldable pub plainTokens : Tokens → Bool
-plainTokens nothing = true
-plainTokens (t then ts) = plainToken t && plainTokens ts
+unfoldable pub flatTokens : Tokens → Bool
+flatTokens nothing = true
+flatTokens (t then ts) = flatToken t && flatTokens ts
 
-unfoldable pub plainBranches : Lists → Bool
-plainBranches neither = true
-plainBranches (ts or ls) = plainTokens ts && plainBranches ls
+unfoldable pub flatBranches : Lists → Bool
+flatBranches neither = true
+flatBranches (ts or ls) = flatTokens ts && flatBranches ls
 
 -- a token that may stand in the outer list
 unfoldable pub simpleToken : Token → Bool
@@ -38,7 +39,7 @@ simpleToken (MaskedByte v m) = true
 simpleToken (NotMaskedByte v m) = true
 simpleToken (Jump from none) = false
 simpleToken (Jump from (some to)) = leb to jumpLimit
-simpleToken (Alternatives ls) = plainBranches ls
+simpleToken (Alternatives ls) = flatBranches ls
 
 unfoldable pub simple : Tokens → Bool
 simple nothing = true

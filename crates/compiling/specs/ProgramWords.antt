@@ -1,4 +1,5 @@
 -- The words of a program. Assumes nothing: these are definitions.
+-- To be believed: nothing.
 use mathlib.Core.List.{List, [], _∷_, _++_}
 use Prim.Native.Nat.{ℕ}
 use lib.ListN.{length}

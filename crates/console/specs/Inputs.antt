@@ -1,4 +1,5 @@
 -- What a reader of an input may answer. Assumes nothing: this is a definition.
+-- To be believed: nothing.
 use Prim.Native.Nat.{ℕ, _≤_}
 use Rattle.console.specs.declared.Input.{Input}
 use Rattle.console.specs.declared.Input.the-variants.{Bytes, Unreadable}

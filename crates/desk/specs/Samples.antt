@@ -1,11 +1,12 @@
 -- The samples by the desk that 01 marks P, as one list, and when a sample is right. Assumes nothing: these are definitions.
+-- To be believed: all.
 use mathlib.Core.Bool.{Bool, true, false, _&&_}
 use mathlib.Core.List.{List, [], _∷_}
 use Prim.Native.Nat.{ℕ}
 use lib.Dec.{eqb}
 use lib.ListN.{length}
 use Rattle.base.specs.Refusals.{numberOf}
-use Rattle.reading.specs.Lists.{Outcome, accepted, rejected, reading}
+use Rattle.reading.specs.Lists.{Verdict, accepted, rejected, reading}
 use Rattle.compiling.specs.Compile.{Compiled, compiled, refused, compile}
 use Rattle.checkdoors.specs.Doors as doors
 use Rattle.base.specs.Text.{ascii}
@@ -27,15 +28,15 @@ same [] (y ∷ ys) = false
 same (x ∷ xs) [] = false
 same (x ∷ xs) (y ∷ ys) = eqb x y && same xs ys
 
-unfoldable pub refusedAt : Outcome → ℕ → ℕ → Bool
+unfoldable pub refusedAt : Verdict → ℕ → ℕ → Bool
 refusedAt (accepted e ts) n p = false
 refusedAt (rejected r q) n p = eqb (numberOf r) n && eqb q p
 
-unfoldable pub readUpTo : Outcome → ℕ → Bool
+unfoldable pub readUpTo : Verdict → ℕ → Bool
 readUpTo (accepted e ts) n = eqb e n
 readUpTo (rejected r q) n = false
 
-unfoldable pub isRead : Outcome → Bool
+unfoldable pub isRead : Verdict → Bool
 isRead (accepted e ts) = true
 isRead (rejected r q) = false
 
@@ -44,14 +45,14 @@ unfoldable pub forwardOf : Compiled → List ℕ
 forwardOf (compiled f r) = f
 forwardOf (refused r) = []
 
-unfoldable pub wordsOf : Outcome → List ℕ
+unfoldable pub wordsOf : Verdict → List ℕ
 wordsOf (accepted e ts) = forwardOf (compile ts)
 wordsOf (rejected r q) = []
 
-unfoldable pub foundAt : doors.Outcome → ℕ → Bool
+unfoldable pub foundAt : doors.CheckSaid → ℕ → Bool
 foundAt (doors.found m) n = eqb m n
 foundAt doors.noMatch n = false
-foundAt (doors.refused k p) n = false
+foundAt (doors.refuses k p) n = false
 
 unfoldable pub right : Sample → Bool
 right (refuses t n p) = refusedAt (reading t) n p

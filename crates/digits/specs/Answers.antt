@@ -1,4 +1,5 @@
 -- What the small readers' answers say, in the terms of reading. Assumes nothing: these are definitions.
+-- To be believed: nothing.
 use mathlib.Core.Option.{Option, none, some}
 use Prim.Native.Nat.{ℕ}
 use Rattle.base.specs.declared.Refusal.the-variants.{NumberTooBig}
@@ -10,10 +11,10 @@ use Rattle.digits.specs.declared.Mask.{Mask}
 use Rattle.digits.specs.declared.Mask.the-variants.{Left, Right, All}
 use Rattle.digits.specs.declared.Spelling.{Spelling}
 use Rattle.digits.specs.declared.Spelling.the-variants as spelling
-use Rattle.digits.specs.declared.Plain.{Plain}
-use Rattle.digits.specs.declared.Plain.the-variants.{Byte, NotByte, MaskedByte, NotMaskedByte, Jump, OpenJump}
-use Rattle.digits.specs.declared.Piece.{Piece}
-use Rattle.digits.specs.declared.Piece.the-variants as piece
+use Rattle.digits.specs.declared.Leaf.{Leaf}
+use Rattle.digits.specs.declared.Leaf.the-variants.{Byte, NotByte, MaskedByte, NotMaskedByte, Jump, OpenJump}
+use Rattle.digits.specs.declared.LeafGot.{LeafGot}
+use Rattle.digits.specs.declared.LeafGot.the-variants as leaf
 use Rattle.digits.specs.declared.Numeral.{Numeral}
 use Rattle.digits.specs.declared.Numeral.the-variants as numeral
 use Rattle.digits.specs.declared.Upper.{Upper}
@@ -35,7 +36,7 @@ spelled (spelling.Whole v s e) = found (whole v) s e
 spelled (spelling.Masked v m s e) = found (masked v (maskOf m)) s e
 spelled spelling.Absent = absent
 
-abbrev pub tokenOf : Plain → meant.Token
+abbrev pub tokenOf : Leaf → meant.Token
 tokenOf (Byte v) = meant.Byte v
 tokenOf (NotByte v) = meant.NotByte v
 tokenOf (MaskedByte v m) = meant.MaskedByte v (maskOf m)
@@ -43,10 +44,10 @@ tokenOf (NotMaskedByte v m) = meant.NotMaskedByte v (maskOf m)
 tokenOf (Jump from to) = meant.Jump from (some to)
 tokenOf (OpenJump from) = meant.Jump from none
 
-abbrev pub pieceOf : Piece → Seen meant.Token
-pieceOf (piece.Found tok s e) = found (tokenOf tok) s e
-pieceOf piece.Absent = absent
-pieceOf (piece.Refused r p) = refused r p
+abbrev pub leafSeen : LeafGot → Seen meant.Token
+leafSeen (leaf.Found tok s e) = found (tokenOf tok) s e
+leafSeen leaf.Absent = absent
+leafSeen (leaf.Refused r p) = refused r p
 
 -- a number that begins at `at`
 abbrev pub numbered : ℕ → Numeral → Seen ℕ

@@ -10,8 +10,8 @@ ghost use lib.ListN.{getD};
 ghost use lib.Dec.{eqb, ltb};
 ghost use Rattle.meaning.specs.Limits.{innerJumpLimit};
 ghost use Rattle.reading.specs.Blanks.{blank, skip};
-ghost use Rattle.reading.specs.Pieces.{within, digit, byteAt, maskedAt, hexAt, notAt, numberAt, checked, closedAt, dashAt, rangeAt, jumpToken, jumped, plainly, plainAt, _else_};
-ghost use Rattle.digits.specs.Answers.{valueOf, spelled, tokenOf, pieceOf, numbered, ranged, upperOf};
+ghost use Rattle.reading.specs.Pieces.{within, digit, byteAt, maskedAt, hexAt, notAt, numberAt, checked, closedAt, dashAt, rangeAt, jumpToken, jumped, hexToken, leafAt, _else_};
+ghost use Rattle.digits.specs.Answers.{valueOf, spelled, tokenOf, leafSeen, numbered, ranged, upperOf};
 
 pub enum Nibble {
     Is(u8),
@@ -31,8 +31,8 @@ pub enum Spelling {
     Absent,
 }
 
-// The original's token without its alternatives, which only the readers above know.
-pub enum Plain {
+// A leaf is the original's token without its alternatives, which only the readers above know.
+pub enum Leaf {
     Byte(u8),
     NotByte(u8),
     MaskedByte(u8, Mask),
@@ -41,8 +41,8 @@ pub enum Plain {
     OpenJump(u32),
 }
 
-pub enum Piece {
-    Found(Plain, usize, usize),
+pub enum LeafGot {
+    Found(Leaf, usize, usize),
     Absent,
     Refused(Refusal, usize),
 }
@@ -176,21 +176,21 @@ pub fn hex_byte(text: &[u8], at: usize) -> Spelling
     }
 }
 
-pub fn not_token(text: &[u8], at: usize) -> Piece
-    ensures { λ r. ⌜ pieceOf r ≡ notAt (now (text .entry)) at ⌝ }
+pub fn not_token(text: &[u8], at: usize) -> LeafGot
+    ensures { λ r. ⌜ leafSeen r ≡ notAt (now (text .entry)) at ⌝ }
 {
     if peek(text, at) != b'~' {
-        return Piece::Absent;
+        return LeafGot::Absent;
     }
     let h = hex_byte(text, at + 1);
     match h {
-        Spelling::Whole(v, stop, end) => Piece::Found(Plain::NotByte(v), stop, end),
+        Spelling::Whole(v, stop, end) => LeafGot::Found(Leaf::NotByte(v), stop, end),
         Spelling::Masked(v, m, stop, end) => match m {
-            Mask::Left => Piece::Found(Plain::NotMaskedByte(v, Mask::Left), stop, end),
-            Mask::Right => Piece::Found(Plain::NotMaskedByte(v, Mask::Right), stop, end),
-            Mask::All => Piece::Refused(Refusal::CannotNegateMaskAll, at),
+            Mask::Left => LeafGot::Found(Leaf::NotMaskedByte(v, Mask::Left), stop, end),
+            Mask::Right => LeafGot::Found(Leaf::NotMaskedByte(v, Mask::Right), stop, end),
+            Mask::All => LeafGot::Refused(Refusal::CannotNegateMaskAll, at),
         },
-        Spelling::Absent => Piece::Refused(Refusal::Unexpected, at + 1),
+        Spelling::Absent => LeafGot::Refused(Refusal::Unexpected, at + 1),
     }
 }
 
@@ -302,56 +302,56 @@ pub fn range(text: &[u8], at: usize) -> Bounds
     }
 }
 
-pub fn jump(text: &[u8], at: usize, inside: bool) -> Piece
-    ensures { λ r. ⌜ pieceOf r ≡ jumped inside at (rangeAt (now (text .entry)) at) ⌝ }
+pub fn jump(text: &[u8], at: usize, inside: bool) -> LeafGot
+    ensures { λ r. ⌜ leafSeen r ≡ jumped inside at (rangeAt (now (text .entry)) at) ⌝ }
 {
     let b = range(text, at);
     match b {
         Bounds::Between(from, to, stop, end) => {
             let Upper::To(last) = to else {
                 if inside {
-                    return Piece::Refused(Refusal::JumpUnboundedInAlternation, at);
+                    return LeafGot::Refused(Refusal::JumpUnboundedInAlternation, at);
                 }
-                return Piece::Found(Plain::OpenJump(from), stop, end);
+                return LeafGot::Found(Leaf::OpenJump(from), stop, end);
             };
             if inside_too_big(inside, last) {
-                return Piece::Refused(Refusal::JumpTooBigInAlternation, at);
+                return LeafGot::Refused(Refusal::JumpTooBigInAlternation, at);
             }
-            Piece::Found(one_jump(from, last), stop, end)
+            LeafGot::Found(one_jump(from, last), stop, end)
         }
-        Bounds::Absent => Piece::Absent,
-        Bounds::Refused(code, place) => Piece::Refused(code, place),
+        Bounds::Absent => LeafGot::Absent,
+        Bounds::Refused(code, place) => LeafGot::Refused(code, place),
     }
 }
 
-fn one_jump(from: u32, to: u32) -> Plain
+fn one_jump(from: u32, to: u32) -> Leaf
     ensures { λ r. ⌜ tokenOf r ≡ jumpToken from to ⌝ }
 {
     if both_are(from, to, 1) {
-        return Plain::MaskedByte(0, Mask::All);
+        return Leaf::MaskedByte(0, Mask::All);
     }
-    Plain::Jump(from, to)
+    Leaf::Jump(from, to)
 }
 
-fn byte_or_jump(text: &[u8], at: usize, inside: bool) -> Piece
-    ensures { λ r. ⌜ pieceOf r ≡ plainly (hexAt (now (text .entry)) at) else jumped inside at (rangeAt (now (text .entry)) at) ⌝ }
+fn byte_or_jump(text: &[u8], at: usize, inside: bool) -> LeafGot
+    ensures { λ r. ⌜ leafSeen r ≡ hexToken (hexAt (now (text .entry)) at) else jumped inside at (rangeAt (now (text .entry)) at) ⌝ }
 {
     let h = hex_byte(text, at);
     match h {
-        Spelling::Whole(v, stop, end) => Piece::Found(Plain::Byte(v), stop, end),
-        Spelling::Masked(v, m, stop, end) => Piece::Found(Plain::MaskedByte(v, m), stop, end),
+        Spelling::Whole(v, stop, end) => LeafGot::Found(Leaf::Byte(v), stop, end),
+        Spelling::Masked(v, m, stop, end) => LeafGot::Found(Leaf::MaskedByte(v, m), stop, end),
         Spelling::Absent => jump(text, at, inside),
     }
 }
 
 // A token other than alternatives.
-pub fn plain_token(text: &[u8], at: usize, inside: bool) -> Piece
-    ensures { λ r. ⌜ pieceOf r ≡ plainAt (now (text .entry)) inside at ⌝ }
+pub fn leaf_token(text: &[u8], at: usize, inside: bool) -> LeafGot
+    ensures { λ r. ⌜ leafSeen r ≡ leafAt (now (text .entry)) inside at ⌝ }
 {
     let n = not_token(text, at);
     match n {
-        Piece::Found(tok, stop, end) => Piece::Found(tok, stop, end),
-        Piece::Absent => byte_or_jump(text, at, inside),
-        Piece::Refused(code, place) => Piece::Refused(code, place),
+        LeafGot::Found(tok, stop, end) => LeafGot::Found(tok, stop, end),
+        LeafGot::Absent => byte_or_jump(text, at, inside),
+        LeafGot::Refused(code, place) => LeafGot::Refused(code, place),
     }
 }

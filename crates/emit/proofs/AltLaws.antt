@@ -17,16 +17,16 @@ use Rattle.compiling.specs.Compiling.{jumpOf, add}
 use Rattle.compiling.specs.Compile.{shortIn, shortOf}
 use Rattle.emit.specs.declared.Last.{Last}
 use Rattle.emit.specs.declared.Last.the-variants.{Fixed}
-use Rattle.emit.specs.declared.Piece.{Piece}
-use Rattle.emit.specs.Items.{entryItem, pieceOf, growing, lastOf, putCount, putLast, putOut}
-use Rattle.emit.specs.Lists.{listProgram, branchesAt, Listed, altAt, tokenAt, entryAt, itemCount, itemLast, itemOut, sizeAt, Stands}
+use Rattle.emit.specs.declared.Addend.{Addend}
+use Rattle.emit.specs.Items.{entryItem, addendOf, growing, lastOf, putCount, putLast, putOut}
+use Rattle.emit.specs.Lists.{listProgram, branchesAt, FlatLists, altAt, tokenAt, entryAt, itemCount, itemLast, itemOut, sizeAt, Stands}
 use Rattle.emit.proofs.PutLaws.{Puts}
 use Rattle.emit.proofs.HoldLaws.{Holds, Single, entry-single, put-holds, add-appends, words-snoc, last-snoc}
 use Rattle.emit.proofs.LentLaws.{lent-marked}
 use Rattle.emit.proofs.BranchLaws.{Headed, headed, list-few}
 
 -- branches have no more words than their lists have entries
-pub branches-few : (b : Bool) (n : ℕ) (ws : List ℕ) → Listed n ws → 4 * length (wordsIn (branchesAt b n ws)) ≤ length ws
+pub branches-few : (b : Bool) (n : ℕ) (ws : List ℕ) → FlatLists n ws → 4 * length (wordsIn (branchesAt b n ws)) ≤ length ws
 unfolding branchesAt wordsIn
 branches-few b zero ws h = omega arith
 branches-few b (suc n) ws h =
@@ -79,11 +79,11 @@ module _ (ws : List ℕ) (at : ℕ) where
     pub handed-long : length handed ≡ 4 * getD ws (at + 2) 0
     handed-long = let f = alt-fits in ap length handed-is ∙ length-take-le (4 * getD ws (at + 2) 0) (drop (at + 4) ws) (rw length-drop (omega arith))
 
-    pub handed-listed : Listed (getD ws (at + 1) 0) handed
-    handed-listed = subst (Listed (getD ws (at + 1) 0)) (sym handed-is) (h .opened five)
+    pub handed-lists : FlatLists (getD ws (at + 1) 0) handed
+    handed-lists = subst (FlatLists (getD ws (at + 1) 0)) (sym handed-is) (h .opened five)
 
     pub handed-few : (b : Bool) → length (wordsIn (branchesAt b (getD ws (at + 1) 0) handed)) ≤ getD ws (at + 2) 0
-    handed-few b = omega (arith, branches-few b (getD ws (at + 1) 0) handed handed-listed, handed-long)
+    handed-few b = omega (arith, branches-few b (getD ws (at + 1) 0) handed handed-lists, handed-long)
 
     handed-alt : (b : Bool) → branchesAt b (getD ws (at + 1) 0) handed ≡ altAt b ws at
     unfolding altAt
@@ -121,11 +121,11 @@ module _ (out : List ℕ) (n : ℕ) (last : Last) (long : Bool) where
       lent-rest (take n out) out lit out ys n (length-take-le n out r) (sym (take-append-drop n out)) (ey ∙ ap (λ (k : ℕ). lit ++ drop k (take (length out - n) (drop n out))) ec) in
       rw e (ap (λ (k : ℕ). n + k) ec, refl, el ∙ ap (λ (t : Bool). long || t) es, z ∙ append-assoc (take n out) lit (drop (n + length lit) out))
 
-  pub step-single : (i j : Item) (piece : Piece) (count : ℕ) (next : Last) (now : List ℕ) → i ≡ j → Single j → piece ≡ pieceOf j → Puts out n last piece count next now → Steps out n last long i count next long now
+  pub step-single : (i j : Item) (addend : Addend) (count : ℕ) (next : Last) (now : List ℕ) → i ≡ j → Single j → addend ≡ addendOf j → Puts out n last addend count next now → Steps out n last long i count next long now
   unfolding itemCount itemLast itemOut shortOf
-  step-single i j piece count next now e s f (x, y, z) = rw e (go j s (rw f at x) (rw f at y) (rw f at z))
+  step-single i j addend count next now e s f (x, y, z) = rw e (go j s (rw f at x) (rw f at y) (rw f at z))
     where
-      go : (j : Item) → Single j → count ≡ putCount n last (pieceOf j) → next ≡ putLast last (pieceOf j) → now ≡ putOut out n last (pieceOf j) → (count ≡ itemCount n last j) × (next ≡ itemLast last j) × (long ≡ (long || not (shortOf j))) × (now ≡ itemOut out n last j)
+      go : (j : Item) → Single j → count ≡ putCount n last (addendOf j) → next ≡ putLast last (addendOf j) → now ≡ putOut out n last (addendOf j) → (count ≡ itemCount n last j) × (next ≡ itemLast last j) × (long ≡ (long || not (shortOf j))) × (now ≡ itemOut out n last j)
       go (one t) u a b c = (a, b, sym (or-false long), c)
       go (jump m) u a b c = (a, b, sym (or-false long), c)
       go (range p q) u a b c = (a, b, sym (or-false long), c)
@@ -135,9 +135,9 @@ pub entry-at-single : (ws : List ℕ) (at : ℕ) → Single (entryAt ws at)
 unfolding entryAt
 entry-at-single ws at = entry-single _ _ _
 
-pub entry-piece-is : (ws : List ℕ) (at : ℕ) (piece : Piece) → piece ≡ pieceOf (entryItem (getD ws at 0) (getD ws (at + 1) 0) (getD ws (at + 2) 0)) → piece ≡ pieceOf (entryAt ws at)
+pub entry-addend-is : (ws : List ℕ) (at : ℕ) (addend : Addend) → addend ≡ addendOf (entryItem (getD ws at 0) (getD ws (at + 1) 0) (getD ws (at + 2) 0)) → addend ≡ addendOf (entryAt ws at)
 unfolding entryAt
-entry-piece-is ws at piece e = e
+entry-addend-is ws at addend e = e
 
 -- a buffer that holds a program's words holds them with the item's
 module _ (p : Prog) (o out : List ℕ) (n : ℕ) (last : Last) (h : Holds p o out n last) where

@@ -1,4 +1,4 @@
--- A buffer that holds a program's words holds those of the program with one item more, after a piece is put. Assumes nothing.
+-- A buffer that holds a program's words holds those of the program with one item more, after an addend is put. Assumes nothing.
 use mathlib.Core.Path.{_≡_, refl, sym, ap, ap₂, _∙_}
 use mathlib.Core.Bool.{Bool, true, false, cond}
 use mathlib.Core.Option.{Option, none, some}
@@ -15,11 +15,11 @@ use Rattle.meaning.specs.Programs.{byte, mask, negatedMask, Item, Prog, one, ju
 use Rattle.meaning.specs.Words.{fieldSize, word}
 use Rattle.compiling.specs.ProgramWords.{wordFor, wordsFor, wordsOf, nodes}
 use Rattle.compiling.specs.Compiling.{jumpOf, pairBy, add}
-use Rattle.emit.specs.declared.Piece.{Piece}
-use Rattle.emit.specs.declared.Piece.the-variants.{Word, Gap}
+use Rattle.emit.specs.declared.Addend.{Addend}
+use Rattle.emit.specs.declared.Addend.the-variants.{Word, Gap}
 use Rattle.emit.specs.declared.Last.{Last}
 use Rattle.emit.specs.declared.Last.the-variants.{Grows, Fixed}
-use Rattle.emit.specs.Items.{byteIn, maskItem, notMaskItem, jumpItem, entryItem, pieceOf, growing, lastOf, Behind, putCount, putLast, putOut}
+use Rattle.emit.specs.Items.{byteIn, maskItem, notMaskItem, jumpItem, entryItem, addendOf, growing, lastOf, Behind, putCount, putLast, putOut}
 
 -- the words of p stand at the front of what was o, there are n of them, and the last node is as told
 pub record Holds (p : Prog) (o out : List ℕ) (n : ℕ) (last : Last) : Type 0 where
@@ -182,14 +182,14 @@ module _ (p : Prog) (o out : List ℕ) (n : ℕ) (last : Last) (h : Holds p o ou
       go true f = rw f (grown-holds l m (sym e) (leb-true (l + m) jumpLimit f))
       go false f = rw f (append-holds (jump m) (word 3 m 0) (add-over p l m (sym (h .tail) ∙ sym e) (leb-false (l + m) jumpLimit f)) refl r)
 
-  pub put-holds : (i : Item) → Single i → n < length out → Holds (add p i) o (putOut out n last (pieceOf i)) (putCount n last (pieceOf i)) (putLast last (pieceOf i))
-  unfolding putOut putCount putLast pieceOf wordsOf growing jumpOf
+  pub put-holds : (i : Item) → Single i → n < length out → Holds (add p i) o (putOut out n last (addendOf i)) (putCount n last (addendOf i)) (putLast last (addendOf i))
+  unfolding putOut putCount putLast addendOf wordsOf growing jumpOf
   put-holds (one t) s r = append-holds (one t) (wordFor t) (add-appends p (one t) refl) refl r
   put-holds (jump m) s r = put-jump m last refl r
   put-holds (range a b) s r = append-holds (range a b) (word 4 a b) (add-appends p (range a b) refl) refl r
   put-holds (alt bs) s r = absurd s
 
-pub put-count-le : (n : ℕ) (last : Last) (q : Piece) → putCount n last q ≤ n + 1
+pub put-count-le : (n : ℕ) (last : Last) (q : Addend) → putCount n last q ≤ n + 1
 unfolding putCount
 put-count-le n last (Word w) = omega arith
 put-count-le n Fixed (Gap m) = omega arith

@@ -20,12 +20,12 @@ use Rattle.meaning.proofs.TokenLaws.{fours-in}
 use Rattle.meaning.proofs.SoundLaws.{and-left, and-right, false-true}
 use Rattle.compiling.specs.ProgramWords.{nodes}
 use Rattle.compiling.specs.Compiling.{itemOf, added, branchesFor, backwards}
-use Rattle.compiling.specs.Compile.{plainToken, plainTokens, plainBranches, simpleToken}
+use Rattle.compiling.specs.Compile.{flatToken, flatTokens, flatBranches, simpleToken}
 use Rattle.meaning.proofs.ValueLaws.{any-spelled}
 use Rattle.compiling.proofs.CountLaws.{backwards-long-of, backwards-long}
 use Rattle.emit.specs.Items.{maskItem, notMaskItem, jumpItem, entryItem, placeOf}
 use Rattle.emit.specs.Lists.{addedTo, entryAt, listItem, listProgram, branchesAt, altAt, tokenAt, tokenItem, tokensProgram, sizeAt, Stands, offsets, Outlined}
-use Rattle.emit.proofs.BranchLaws.{plain-long, plain-entries, front-rest}
+use Rattle.emit.proofs.BranchLaws.{flat-long, flat-entries, front-rest}
 use Rattle.emit.proofs.AltLaws.{size-five, size-other, size-least, token-other}
 use Rattle.emit.proofs.OrderLaws.{nth, firsts, directedOf, directed, directedIn, directed-count, nth-directed, place-below, added-firsts, added-all, firsts-room, spelled-nth, simple-nth, offsets-count, Starts, offset-starts}
 
@@ -66,73 +66,73 @@ jump-from from to l h =
     let b : to < fieldSize = omega arith in
     rw (mod-eq-of-lt a, mod-eq-of-lt b)
 
--- a token that is not alternatives
-abbrev pub Alone : Token → Type 0
-Alone (Byte v) = Unit {0}
-Alone (NotByte v) = Unit {0}
-Alone (MaskedByte v m) = Unit {0}
-Alone (NotMaskedByte v m) = Unit {0}
-Alone (Jump from to) = Unit {0}
-Alone (Alternatives ls) = ⊥
+-- a leaf: a token that is not alternatives
+abbrev pub Leaf : Token → Type 0
+Leaf (Byte v) = Unit {0}
+Leaf (NotByte v) = Unit {0}
+Leaf (MaskedByte v m) = Unit {0}
+Leaf (NotMaskedByte v m) = Unit {0}
+Leaf (Jump from to) = Unit {0}
+Leaf (Alternatives ls) = ⊥
 
-alone-from : (t : Token) (r : List ℕ) → Alone t → SpelledOne t → simpleToken t ≡ true → itemFrom (entriesOf t ++ r) ≡ itemOf t
+leaf-from : (t : Token) (r : List ℕ) → Leaf t → SpelledOne t → simpleToken t ≡ true → itemFrom (entriesOf t ++ r) ≡ itemOf t
 unfolding entryItem entries SpelledOne simpleToken itemOf
-alone-from (Byte v) r u h g = ap (λ (x : ℕ). one (byte x)) (mod-eq-of-lt h)
-alone-from (NotByte v) r u h g = ap (λ (x : ℕ). one (negatedMask x 0xFF)) (mod-eq-of-lt h)
-alone-from (MaskedByte v m) r u h g = mask-from v m h
-alone-from (NotMaskedByte v m) r u h g = not-mask-from v m h
-alone-from (Jump from none) r u h g = false-true g
-alone-from (Jump from (some to)) r u h g = jump-from from to h g
-alone-from (Alternatives ls) r u h g = absurd u
+leaf-from (Byte v) r u h g = ap (λ (x : ℕ). one (byte x)) (mod-eq-of-lt h)
+leaf-from (NotByte v) r u h g = ap (λ (x : ℕ). one (negatedMask x 0xFF)) (mod-eq-of-lt h)
+leaf-from (MaskedByte v m) r u h g = mask-from v m h
+leaf-from (NotMaskedByte v m) r u h g = not-mask-from v m h
+leaf-from (Jump from none) r u h g = false-true g
+leaf-from (Jump from (some to)) r u h g = jump-from from to h g
+leaf-from (Alternatives ls) r u h g = absurd u
 
-alone-kind : (t : Token) (r : List ℕ) → Alone t → getD (entriesOf t ++ r) 0 0 ≡ 5 → ⊥
+leaf-kind : (t : Token) (r : List ℕ) → Leaf t → getD (entriesOf t ++ r) 0 0 ≡ 5 → ⊥
 unfolding entries
-alone-kind (Byte v) r u e = omega arith
-alone-kind (NotByte v) r u e = omega arith
-alone-kind (MaskedByte v m) r u e = omega arith
-alone-kind (NotMaskedByte v m) r u e = omega arith
-alone-kind (Jump from none) r u e = omega arith
-alone-kind (Jump from (some to)) r u e = omega arith
-alone-kind (Alternatives ls) r u e = absurd u
+leaf-kind (Byte v) r u e = omega arith
+leaf-kind (NotByte v) r u e = omega arith
+leaf-kind (MaskedByte v m) r u e = omega arith
+leaf-kind (NotMaskedByte v m) r u e = omega arith
+leaf-kind (Jump from none) r u e = omega arith
+leaf-kind (Jump from (some to)) r u e = omega arith
+leaf-kind (Alternatives ls) r u e = absurd u
 
-alone-directed : (b : Bool) (t : Token) → Alone t → directedOf b t ≡ t
+leaf-directed : (b : Bool) (t : Token) → Leaf t → directedOf b t ≡ t
 unfolding backwards
-alone-directed false t u = refl
-alone-directed true (Byte v) u = refl
-alone-directed true (NotByte v) u = refl
-alone-directed true (MaskedByte v m) u = refl
-alone-directed true (NotMaskedByte v m) u = refl
-alone-directed true (Jump from to) u = refl
-alone-directed true (Alternatives ls) u = absurd u
+leaf-directed false t u = refl
+leaf-directed true (Byte v) u = refl
+leaf-directed true (NotByte v) u = refl
+leaf-directed true (MaskedByte v m) u = refl
+leaf-directed true (NotMaskedByte v m) u = refl
+leaf-directed true (Jump from to) u = refl
+leaf-directed true (Alternatives ls) u = absurd u
 
--- a plain token is simple, and alone
-plain-alone : (t : Token) → plainToken t ≡ true → Alone t × (simpleToken t ≡ true)
-unfolding plainToken simpleToken
-plain-alone (Byte v) h = (tt, refl)
-plain-alone (NotByte v) h = (tt, refl)
-plain-alone (MaskedByte v m) h = (tt, refl)
-plain-alone (NotMaskedByte v m) h = (tt, refl)
-plain-alone (Jump from none) h = false-true h
-plain-alone (Jump from (some to)) h = (tt, and-left (leb to jumpLimit) (leb to from) h)
-plain-alone (Alternatives ls) h = false-true h
+-- a flat token is simple, and a leaf
+flat-leaf : (t : Token) → flatToken t ≡ true → Leaf t × (simpleToken t ≡ true)
+unfolding flatToken simpleToken
+flat-leaf (Byte v) h = (tt, refl)
+flat-leaf (NotByte v) h = (tt, refl)
+flat-leaf (MaskedByte v m) h = (tt, refl)
+flat-leaf (NotMaskedByte v m) h = (tt, refl)
+flat-leaf (Jump from none) h = false-true h
+flat-leaf (Jump from (some to)) h = (tt, and-left (leb to jumpLimit) (leb to from) h)
+flat-leaf (Alternatives ls) h = false-true h
 
-plain-nth : (k : ℕ) (ts : Tokens) → k < tokenCount ts → plainTokens ts ≡ true → plainToken (nth k ts) ≡ true
-unfolding nth tokenCount plainTokens
-plain-nth k nothing h s = absurd (omega arith)
-plain-nth zero (t then ts) h s = and-left (plainToken t) (plainTokens ts) s
-plain-nth (suc k) (t then ts) h s = plain-nth k ts (omega arith) (and-right (plainToken t) (plainTokens ts) s)
+flat-nth : (k : ℕ) (ts : Tokens) → k < tokenCount ts → flatTokens ts ≡ true → flatToken (nth k ts) ≡ true
+unfolding nth tokenCount flatTokens
+flat-nth k nothing h s = absurd (omega arith)
+flat-nth zero (t then ts) h s = and-left (flatToken t) (flatTokens ts) s
+flat-nth (suc k) (t then ts) h s = flat-nth k ts (omega arith) (and-right (flatToken t) (flatTokens ts) s)
 
-plain-offset : (k : ℕ) (ts : Tokens) (at : ℕ) → k < tokenCount ts → plainTokens ts ≡ true → getD (offsets at ts) k 0 ≡ at + 4 * k
-unfolding offsets tokenCount plainTokens
-plain-offset k nothing at h p = absurd (omega arith)
-plain-offset zero (t then ts) at h p = omega arith
-plain-offset (suc k) (t then ts) at h p =
-    plain-offset k ts (at + length (entriesOf t)) (omega arith) (and-right (plainToken t) (plainTokens ts) p) ∙ (omega (arith, plain-long t (and-left (plainToken t) (plainTokens ts) p)))
+flat-offset : (k : ℕ) (ts : Tokens) (at : ℕ) → k < tokenCount ts → flatTokens ts ≡ true → getD (offsets at ts) k 0 ≡ at + 4 * k
+unfolding offsets tokenCount flatTokens
+flat-offset k nothing at h p = absurd (omega arith)
+flat-offset zero (t then ts) at h p = omega arith
+flat-offset (suc k) (t then ts) at h p =
+    flat-offset k ts (at + length (entriesOf t)) (omega arith) (and-right (flatToken t) (flatTokens ts) p) ∙ (omega (arith, flat-long t (and-left (flatToken t) (flatTokens ts) p)))
 
 -- a branch's program
-module _ (b : Bool) (ts : Tokens) (s : Spelled ts) (p : plainTokens ts ≡ true) where
+module _ (b : Bool) (ts : Tokens) (s : Spelled ts) (p : flatTokens ts ≡ true) where
   the-count : length (entries ts) / 4 ≡ tokenCount ts
-  the-count = omega (arith, plain-entries ts p)
+  the-count = omega (arith, flat-entries ts p)
 
   the-item : (k : ℕ) → k < tokenCount (directed b ts) → listItem b (entries ts) k ≡ itemOf (nth k (directed b ts))
   unfolding listItem Starts
@@ -140,13 +140,13 @@ module _ (b : Bool) (ts : Tokens) (s : Spelled ts) (p : plainTokens ts ≡ true)
       let m : k < tokenCount ts = omega (arith, directed-count b ts) in
       let i = placeOf b (tokenCount ts) k in
       let j : i < tokenCount ts = place-below b (tokenCount ts) k m in
-      let o : getD (offsets 0 ts) i 0 ≡ 4 * i = plain-offset i ts 0 j p ∙ (omega arith) in
+      let o : getD (offsets 0 ts) i 0 ≡ 4 * i = flat-offset i ts 0 j p ∙ (omega arith) in
       let (r, e) = offset-starts i ts j in
-      let q = plain-alone (nth i ts) (plain-nth i ts j p) in
+      let q = flat-leaf (nth i ts) (flat-nth i ts j p) in
       ap (λ (n : ℕ). entryAt (entries ts) (4 * placeOf b n k)) the-count
       ∙ entry-from (entries ts) (4 * i) (entriesOf (nth i ts) ++ r) (ap (λ (n : ℕ). drop n (entries ts)) (sym o) ∙ e)
-      ∙ alone-from (nth i ts) r (q .0) (spelled-nth i ts j s) (q .1)
-      ∙ ap itemOf (sym (nth-directed b k ts m ∙ alone-directed b (nth i ts) (q .0)))
+      ∙ leaf-from (nth i ts) r (q .0) (spelled-nth i ts j s) (q .1)
+      ∙ ap itemOf (sym (nth-directed b k ts m ∙ leaf-directed b (nth i ts) (q .0)))
 
   pub list-program : listProgram b (entries ts) ≡ added (directed b ts) end
   unfolding listProgram
@@ -155,20 +155,20 @@ module _ (b : Bool) (ts : Tokens) (s : Spelled ts) (p : plainTokens ts ≡ true)
       ∙ added-all (listItem b (entries ts)) (directed b ts) the-item
 
 -- behind a mark stand its list's entries
-front-part : (ts : Tokens) (ls : Lists) → plainTokens ts ≡ true → take (4 * tokenCount ts) (drop 4 (listEntries (ts or ls))) ≡ entries ts
+front-part : (ts : Tokens) (ls : Lists) → flatTokens ts ≡ true → take (4 * tokenCount ts) (drop 4 (listEntries (ts or ls))) ≡ entries ts
 unfolding listEntries
-front-part ts ls p = take-at (entries ts) (listEntries ls) (4 * tokenCount ts) (plain-entries ts p)
+front-part ts ls p = take-at (entries ts) (listEntries ls) (4 * tokenCount ts) (flat-entries ts p)
 
-pub branches-for : (b : Bool) (ls : Lists) → SpelledMore ls → plainBranches ls ≡ true → branchesAt b (listCount ls) (listEntries ls) ≡ branchesFor (directedIn b ls)
-unfolding branchesAt listCount Spelled plainBranches branchesFor backwards listEntries tokenCount
+pub branches-for : (b : Bool) (ls : Lists) → SpelledMore ls → flatBranches ls ≡ true → branchesAt b (listCount ls) (listEntries ls) ≡ branchesFor (directedIn b ls)
+unfolding branchesAt listCount Spelled flatBranches branchesFor backwards listEntries tokenCount
 branches-for true neither h p = refl
 branches-for false neither h p = refl
 branches-for true (ts or ls) h p =
-    let q = and-left (plainTokens ts) (plainBranches ls) p in
-    ap₂ branch (ap (listProgram true) (front-part ts ls q) ∙ list-program true ts (h .0) q) (ap (branchesAt true (listCount ls)) (front-rest ts ls q) ∙ branches-for true ls (h .1) (and-right (plainTokens ts) (plainBranches ls) p))
+    let q = and-left (flatTokens ts) (flatBranches ls) p in
+    ap₂ branch (ap (listProgram true) (front-part ts ls q) ∙ list-program true ts (h .0) q) (ap (branchesAt true (listCount ls)) (front-rest ts ls q) ∙ branches-for true ls (h .1) (and-right (flatTokens ts) (flatBranches ls) p))
 branches-for false (ts or ls) h p =
-    let q = and-left (plainTokens ts) (plainBranches ls) p in
-    ap₂ branch (ap (listProgram false) (front-part ts ls q) ∙ list-program false ts (h .0) q) (ap (branchesAt false (listCount ls)) (front-rest ts ls q) ∙ branches-for false ls (h .1) (and-right (plainTokens ts) (plainBranches ls) p))
+    let q = and-left (flatTokens ts) (flatBranches ls) p in
+    ap₂ branch (ap (listProgram false) (front-part ts ls q) ∙ list-program false ts (h .0) q) (ap (branchesAt false (listCount ls)) (front-rest ts ls q) ∙ branches-for false ls (h .1) (and-right (flatTokens ts) (flatBranches ls) p))
 
 -- alternatives at a place
 module _ (ws : List ℕ) (at : ℕ) (ls : Lists) (r : List ℕ) (e : drop at ws ≡ entriesOf (Alternatives ls) ++ r) where
@@ -182,11 +182,11 @@ module _ (ws : List ℕ) (at : ℕ) (ls : Lists) (r : List ℕ) (e : drop at ws 
       ap₂ take (ap (λ (n : ℕ). 4 * n) (alt-fields .2) ∙ fours-in ls) (sym (drop-drop 4 at ws) ∙ ap (drop 4) e)
       ∙ take-at (listEntries ls) r (length (listEntries ls)) refl
 
-  alt-branches : (b : Bool) → SpelledMore ls → plainBranches ls ≡ true → altAt b ws at ≡ branchesFor (directedIn b ls)
+  alt-branches : (b : Bool) → SpelledMore ls → flatBranches ls ≡ true → altAt b ws at ≡ branchesFor (directedIn b ls)
   unfolding altAt
   alt-branches b s p = ap₂ (branchesAt b) (alt-fields .1) alt-inside ∙ branches-for b ls s p
 
-  alt-token : (b : Bool) → SpelledMore ls → plainBranches ls ≡ true → tokenAt b ws at ≡ itemOf (directedOf b (Alternatives ls))
+  alt-token : (b : Bool) → SpelledMore ls → flatBranches ls ≡ true → tokenAt b ws at ≡ itemOf (directedOf b (Alternatives ls))
   unfolding tokenAt itemOf backwards
   alt-token b s p = rw (alt-fields .0) (ap alt (alt-branches b s p) ∙ of b)
     where
@@ -198,48 +198,48 @@ module _ (ws : List ℕ) (at : ℕ) (ls : Lists) (r : List ℕ) (e : drop at ws 
   unfolding entriesOf
   alt-size = size-five ws at (alt-fields .0) ∙ (omega (arith, alt-fields .2, fours-in ls))
 
-  alt-stands : plainBranches ls ≡ true → Stands ws at
+  alt-stands : flatBranches ls ≡ true → Stands ws at
   unfolding entriesOf
   alt-stands p = record {
     fits = omega (arith, alt-size, length-drop at ws, ap length e, length-append (listEntries ls) r);
-    opened = λ f. record { lists = ls; entered = alt-inside; plainly = p; many = sym (alt-fields .1) };
+    opened = λ f. record { lists = ls; entered = alt-inside; flatly = p; many = sym (alt-fields .1) };
   }
 
-alone-four : (k : Token) → Alone k → length (entriesOf k) ≡ 4
+leaf-four : (k : Token) → Leaf k → length (entriesOf k) ≡ 4
 unfolding entriesOf
-alone-four (Byte v) u = refl
-alone-four (NotByte v) u = refl
-alone-four (MaskedByte v m) u = refl
-alone-four (NotMaskedByte v m) u = refl
-alone-four (Jump from none) u = refl
-alone-four (Jump from (some to)) u = refl
-alone-four (Alternatives ls) u = absurd u
+leaf-four (Byte v) u = refl
+leaf-four (NotByte v) u = refl
+leaf-four (MaskedByte v m) u = refl
+leaf-four (NotMaskedByte v m) u = refl
+leaf-four (Jump from none) u = refl
+leaf-four (Jump from (some to)) u = refl
+leaf-four (Alternatives ls) u = absurd u
 
 -- one of one entry
-module _ (ws : List ℕ) (at : ℕ) (t : Token) (u : Alone t) (r : List ℕ) (e : drop at ws ≡ entriesOf t ++ r) where
+module _ (ws : List ℕ) (at : ℕ) (t : Token) (u : Leaf t) (r : List ℕ) (e : drop at ws ≡ entriesOf t ++ r) where
   other : getD ws at 0 ≡ 5 → ⊥
-  other f = alone-kind t r u (sym (fields ws at (entriesOf t ++ r) e .0) ∙ f)
+  other f = leaf-kind t r u (sym (fields ws at (entriesOf t ++ r) e .0) ∙ f)
 
-  alone-token : (b : Bool) → SpelledOne t → simpleToken t ≡ true → tokenAt b ws at ≡ itemOf (directedOf b t)
-  alone-token b s p = token-other ws at b other ∙ entry-from ws at (entriesOf t ++ r) e ∙ alone-from t r u s p ∙ ap itemOf (sym (alone-directed b t u))
+  leaf-token : (b : Bool) → SpelledOne t → simpleToken t ≡ true → tokenAt b ws at ≡ itemOf (directedOf b t)
+  leaf-token b s p = token-other ws at b other ∙ entry-from ws at (entriesOf t ++ r) e ∙ leaf-from t r u s p ∙ ap itemOf (sym (leaf-directed b t u))
 
-  alone-size : sizeAt ws at ≡ length (entriesOf t)
-  alone-size = size-other ws at other ∙ sym (alone-four t u)
+  leaf-size : sizeAt ws at ≡ length (entriesOf t)
+  leaf-size = size-other ws at other ∙ sym (leaf-four t u)
 
-  alone-stands : Stands ws at
-  alone-stands = record {
-    fits = omega (arith, alone-size, length-drop at ws, ap length e, length-append (entriesOf t) r, size-least ws at);
+  leaf-stands : Stands ws at
+  leaf-stands = record {
+    fits = omega (arith, leaf-size, length-drop at ws, ap length e, length-append (entriesOf t) r, size-least ws at);
     opened = λ f. absurd (other f);
   }
 
 -- the size of the token at its place
 pub starts-size : (ws : List ℕ) (at : ℕ) (t : Token) → Starts ws at t → sizeAt ws at ≡ length (entriesOf t)
 unfolding Starts
-starts-size ws at (Byte v) (r, e) = alone-size ws at (Byte v) tt r e
-starts-size ws at (NotByte v) (r, e) = alone-size ws at (NotByte v) tt r e
-starts-size ws at (MaskedByte v m) (r, e) = alone-size ws at (MaskedByte v m) tt r e
-starts-size ws at (NotMaskedByte v m) (r, e) = alone-size ws at (NotMaskedByte v m) tt r e
-starts-size ws at (Jump from to) (r, e) = alone-size ws at (Jump from to) tt r e
+starts-size ws at (Byte v) (r, e) = leaf-size ws at (Byte v) tt r e
+starts-size ws at (NotByte v) (r, e) = leaf-size ws at (NotByte v) tt r e
+starts-size ws at (MaskedByte v m) (r, e) = leaf-size ws at (MaskedByte v m) tt r e
+starts-size ws at (NotMaskedByte v m) (r, e) = leaf-size ws at (NotMaskedByte v m) tt r e
+starts-size ws at (Jump from to) (r, e) = leaf-size ws at (Jump from to) tt r e
 starts-size ws at (Alternatives ls) (r, e) = alt-size ws at ls r e
 
 -- any token at its place
@@ -248,17 +248,17 @@ pub record Placed (b : Bool) (ws : List ℕ) (at : ℕ) (t : Token) : Type 0 whe
   pub size : sizeAt ws at ≡ length (entriesOf t)
   pub stands : Stands ws at
 
-alone-placed : (b : Bool) (ws : List ℕ) (at : ℕ) (t : Token) → Alone t → Starts ws at t → SpelledOne t → simpleToken t ≡ true → Placed b ws at t
+leaf-placed : (b : Bool) (ws : List ℕ) (at : ℕ) (t : Token) → Leaf t → Starts ws at t → SpelledOne t → simpleToken t ≡ true → Placed b ws at t
 unfolding Starts
-alone-placed b ws at t u (r, e) s p = record { item = alone-token ws at t u r e b s p; size = alone-size ws at t u r e; stands = alone-stands ws at t u r e }
+leaf-placed b ws at t u (r, e) s p = record { item = leaf-token ws at t u r e b s p; size = leaf-size ws at t u r e; stands = leaf-stands ws at t u r e }
 
 pub placed : (b : Bool) (ws : List ℕ) (at : ℕ) (t : Token) → Starts ws at t → SpelledOne t → simpleToken t ≡ true → Placed b ws at t
 unfolding Starts Spelled simpleToken
-placed b ws at (Byte v) q s p = alone-placed b ws at (Byte v) tt q s p
-placed b ws at (NotByte v) q s p = alone-placed b ws at (NotByte v) tt q s p
-placed b ws at (MaskedByte v m) q s p = alone-placed b ws at (MaskedByte v m) tt q s p
-placed b ws at (NotMaskedByte v m) q s p = alone-placed b ws at (NotMaskedByte v m) tt q s p
-placed b ws at (Jump from to) q s p = alone-placed b ws at (Jump from to) tt q s p
+placed b ws at (Byte v) q s p = leaf-placed b ws at (Byte v) tt q s p
+placed b ws at (NotByte v) q s p = leaf-placed b ws at (NotByte v) tt q s p
+placed b ws at (MaskedByte v m) q s p = leaf-placed b ws at (MaskedByte v m) tt q s p
+placed b ws at (NotMaskedByte v m) q s p = leaf-placed b ws at (NotMaskedByte v m) tt q s p
+placed b ws at (Jump from to) q s p = leaf-placed b ws at (Jump from to) tt q s p
 placed b ws at (Alternatives ls) (r, e) s p = record { item = alt-token ws at ls r e b (any-spelled ls s) p; size = alt-size ws at ls r e; stands = alt-stands ws at ls r e p }
 
 directed-long-of : (b : Bool) (t : Token) → length (entriesOf (directedOf b t)) ≡ length (entriesOf t)

@@ -7,10 +7,10 @@ use native.Mathlib.Numerals.{add-one}
 use lib.ListN.{length, getD}
 use Rattle.meaning.specs.Programs.{Item}
 use Rattle.compiling.specs.Compiling.{add}
-use Rattle.emit.specs.declared.Piece.{Piece}
+use Rattle.emit.specs.declared.Addend.{Addend}
 use Rattle.emit.specs.declared.Last.{Last}
 use Rattle.emit.specs.declared.Last.the-variants.{Fixed}
-use Rattle.emit.specs.Items.{entryItem, pieceOf, placeOf, putCount, putLast, putOut}
+use Rattle.emit.specs.Items.{entryItem, addendOf, placeOf, putCount, putLast, putOut}
 use Rattle.emit.specs.Lists.{addedTo, entryAt, listItem, listProgram}
 use Rattle.emit.proofs.PutLaws.{Puts}
 use Rattle.emit.proofs.HoldLaws.{Holds, Single, put-holds, entry-single, nothing-held}
@@ -20,19 +20,19 @@ unfolding addedTo
 added-none f o = nothing-held o
 
 -- one item of one word more
-pub added-more : (f : ℕ → Item) (k : ℕ) (o out : List ℕ) (n : ℕ) (last : Last) (piece : Piece) (count : ℕ) (next : Last) (now : List ℕ) → Single (f k) → piece ≡ pieceOf (f k) → n < length out → Holds (addedTo f k) o out n last → Puts out n last piece count next now → Holds (addedTo f (k + 1)) o now count next
+pub added-more : (f : ℕ → Item) (k : ℕ) (o out : List ℕ) (n : ℕ) (last : Last) (addend : Addend) (count : ℕ) (next : Last) (now : List ℕ) → Single (f k) → addend ≡ addendOf (f k) → n < length out → Holds (addedTo f k) o out n last → Puts out n last addend count next now → Holds (addedTo f (k + 1)) o now count next
 unfolding addedTo
-added-more f k o out n last piece count next now s e r h (x, y, z) =
-    let q : Holds (add (addedTo f k) (f k)) o (putOut out n last (pieceOf (f k))) (putCount n last (pieceOf (f k))) (putLast last (pieceOf (f k))) = put-holds (addedTo f k) o out n last h (f k) s r in
+added-more f k o out n last addend count next now s e r h (x, y, z) =
+    let q : Holds (add (addedTo f k) (f k)) o (putOut out n last (addendOf (f k))) (putCount n last (addendOf (f k))) (putLast last (addendOf (f k))) = put-holds (addedTo f k) o out n last h (f k) s r in
     rw (add-one k, x, y, z, e) q
 
 pub list-single : (b : Bool) (ws : List ℕ) (k : ℕ) → Single (listItem b ws k)
 unfolding listItem entryAt
 list-single b ws k = entry-single _ _ _
 
-pub list-piece : (b : Bool) (ws : List ℕ) (k : ℕ) (piece : Piece) (at i : ℕ) → at ≡ 4 * i → i ≡ placeOf b (length ws / 4) k → piece ≡ pieceOf (entryItem (getD ws at 0) (getD ws (at + 1) 0) (getD ws (at + 2) 0)) → piece ≡ pieceOf (listItem b ws k)
+pub list-addend : (b : Bool) (ws : List ℕ) (k : ℕ) (addend : Addend) (at i : ℕ) → at ≡ 4 * i → i ≡ placeOf b (length ws / 4) k → addend ≡ addendOf (entryItem (getD ws at 0) (getD ws (at + 1) 0) (getD ws (at + 2) 0)) → addend ≡ addendOf (listItem b ws k)
 unfolding listItem entryAt
-list-piece b ws k piece at i e f g = g ∙ ap (λ (x : ℕ). pieceOf (entryAt ws x)) (e ∙ ap (λ (x : ℕ). 4 * x) f)
+list-addend b ws k addend at i e f g = g ∙ ap (λ (x : ℕ). addendOf (entryAt ws x)) (e ∙ ap (λ (x : ℕ). 4 * x) f)
 
 -- at the end
 pub list-done : (b : Bool) (ws : List ℕ) (k : ℕ) (o out : List ℕ) (n : ℕ) (last : Last) → k ≡ length ws / 4 → Holds (addedTo (listItem b ws) k) o out n last → Holds (listProgram b ws) o out n last

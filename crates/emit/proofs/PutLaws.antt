@@ -1,4 +1,4 @@
--- One piece more at the end of words. Assumes nothing.
+-- One addend more at the end of words. Assumes nothing.
 use mathlib.Core.Path.{_≡_, refl, subst}
 use mathlib.Core.List.{List}
 use Prim.Native.Nat.{ℕ, _+_, _-_, _≤_, _<_}
@@ -6,20 +6,20 @@ use lib.ListN.{set}
 use borrow.Author.Tests.{le-leb, lt-leb}
 use Rattle.meaning.specs.Limits.{jumpLimit}
 use Rattle.meaning.specs.Words.{word}
-use Rattle.emit.specs.declared.Piece.{Piece}
-use Rattle.emit.specs.declared.Piece.the-variants.{Word, Gap}
+use Rattle.emit.specs.declared.Addend.{Addend}
+use Rattle.emit.specs.declared.Addend.the-variants.{Word, Gap}
 use Rattle.emit.specs.declared.Last.{Last}
 use Rattle.emit.specs.declared.Last.the-variants.{Grows, Fixed}
 use Rattle.emit.specs.Items.{Behind, putCount, putLast, putOut}
 
--- what a piece more leaves: the count, the last node and the buffer
-abbrev pub Puts : List ℕ → ℕ → Last → Piece → ℕ → Last → List ℕ → Type 0
-Puts out n last piece count next now = (count ≡ putCount n last piece) × (next ≡ putLast last piece) × (now ≡ putOut out n last piece)
+-- what an addend more leaves: the count, the last node and the buffer
+abbrev pub Puts : List ℕ → ℕ → Last → Addend → ℕ → Last → List ℕ → Type 0
+Puts out n last addend count next now = (count ≡ putCount n last addend) × (next ≡ putLast last addend) × (now ≡ putOut out n last addend)
 
 module _ (out : List ℕ) (n : ℕ) where
-  pub put-word : (last : Last) (piece : Piece) (w : ℕ) → piece ≡ Word w → Puts out n last piece (n + 1) Fixed (set out n w)
+  pub put-word : (last : Last) (addend : Addend) (w : ℕ) → addend ≡ Word w → Puts out n last addend (n + 1) Fixed (set out n w)
   unfolding putCount putLast putOut
-  put-word last piece w e = rw e (refl, refl, refl)
+  put-word last addend w e = rw e (refl, refl, refl)
 
   module _ (last : Last) (m : ℕ) where
     pub put-fixed : last ≡ Fixed → Puts out n last (Gap m) (n + 1) (Grows m) (set out n (word 3 m 0))

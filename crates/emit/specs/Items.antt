@@ -1,4 +1,5 @@
 -- The item of a token entry, and one item more at the end of words. Assumes nothing: these are definitions.
+-- To be believed: nothing.
 use mathlib.Core.Bool.{Bool, true, false, cond}
 use mathlib.Core.Option.{Option, none, some}
 use mathlib.Core.List.{List}
@@ -10,8 +11,8 @@ use Rattle.meaning.specs.Programs.{byte, mask, negatedMask, Item, Prog, one, ju
 use Rattle.meaning.specs.Words.{fieldSize, word}
 use Rattle.compiling.specs.ProgramWords.{wordFor}
 use Rattle.compiling.specs.Compiling.{jumpOf}
-use Rattle.emit.specs.declared.Piece.{Piece}
-use Rattle.emit.specs.declared.Piece.the-variants.{Word, Gap}
+use Rattle.emit.specs.declared.Addend.{Addend}
+use Rattle.emit.specs.declared.Addend.the-variants.{Word, Gap}
 use Rattle.emit.specs.declared.Last.{Last}
 use Rattle.emit.specs.declared.Last.the-variants.{Grows, Fixed}
 
@@ -36,11 +37,11 @@ entryItem k a b =
     (cond (eqb k 3) (notMaskItem a b) (jumpItem (a % fieldSize) (b % fieldSize)))))
 
 -- what an item of one word adds; an alternation is none
-unfoldable pub pieceOf : Item → Piece
-pieceOf (one t) = Word (wordFor t)
-pieceOf (jump n) = Gap n
-pieceOf (range a b) = Word (word 4 a b)
-pieceOf (alt bs) = Gap 0
+unfoldable pub addendOf : Item → Addend
+addendOf (one t) = Word (wordFor t)
+addendOf (jump n) = Gap n
+addendOf (range a b) = Word (word 4 a b)
+addendOf (alt bs) = Gap 0
 
 -- the last node of a program
 unfoldable pub growing : Option ℕ → Last
@@ -57,18 +58,18 @@ abbrev pub Behind : ℕ → Last → Type 0
 Behind n (Grows m) = 1 ≤ n
 Behind n Fixed = Unit {0}
 
--- a piece more after n words, the last of which is as told: the words then, the last node, and the buffer
-unfoldable pub putCount : ℕ → Last → Piece → ℕ
+-- an addend more after n words, the last of which is as told: the words then, the last node, and the buffer
+unfoldable pub putCount : ℕ → Last → Addend → ℕ
 putCount n last (Word w) = n + 1
 putCount n Fixed (Gap m) = n + 1
 putCount n (Grows l) (Gap m) = cond (leb (l + m) jumpLimit) n (n + 1)
 
-unfoldable pub putLast : Last → Piece → Last
+unfoldable pub putLast : Last → Addend → Last
 putLast last (Word w) = Fixed
 putLast Fixed (Gap m) = Grows m
 putLast (Grows l) (Gap m) = cond (leb (l + m) jumpLimit) (Grows (l + m)) (Grows m)
 
-unfoldable pub putOut : List ℕ → ℕ → Last → Piece → List ℕ
+unfoldable pub putOut : List ℕ → ℕ → Last → Addend → List ℕ
 putOut out n last (Word w) = set out n w
 putOut out n Fixed (Gap m) = set out n (word 3 m 0)
 putOut out n (Grows l) (Gap m) = cond (leb (l + m) jumpLimit) (set out (n - 1) (word 3 (l + m) 0)) (set out n (word 3 m 0))

@@ -1,4 +1,5 @@
 -- The program of a list's entries, token by token. Assumes nothing: these are definitions.
+-- To be believed: nothing.
 use mathlib.Core.Path.{_≡_}
 use mathlib.Core.Bool.{Bool, true, cond}
 use mathlib.Core.List.{List, [], _∷_, _++_}
@@ -11,10 +12,10 @@ use Rattle.meaning.specs.Entries.{listCount, entriesOf, entries, listEntries}
 use Rattle.meaning.specs.Programs.{Item, Prog, Branches, one, jump, range, alt, end, stop, or}
 use Rattle.compiling.specs.ProgramWords.{wordsFor}
 use Rattle.compiling.specs.Compiling.{add}
-use Rattle.compiling.specs.Compile.{plainBranches, simple}
+use Rattle.compiling.specs.Compile.{flatBranches, simple}
 use Rattle.emit.specs.declared.Last.{Last}
 use Rattle.emit.specs.declared.Last.the-variants.{Fixed}
-use Rattle.emit.specs.Items.{entryItem, pieceOf, placeOf, putCount, putLast, putOut}
+use Rattle.emit.specs.Items.{entryItem, addendOf, placeOf, putCount, putLast, putOut}
 
 -- the items f 0, f 1, .. added one by one, k of them
 unfoldable pub addedTo : (ℕ → Item) → ℕ → Prog
@@ -37,11 +38,11 @@ unfoldable pub branchesAt : Bool → ℕ → List ℕ → Branches
 branchesAt b zero ws = stop
 branchesAt b (suc n) ws = or (listProgram b (take (4 * getD ws 1 0) (drop 4 ws))) (branchesAt b n (drop (4 + 4 * getD ws 1 0) ws))
 
--- words that are the marks and entries of so many lists, which hold tokens of one entry each
-pub record Listed (n : ℕ) (ws : List ℕ) : Type 0 where
+-- words that are the marks and entries of so many lists of flat tokens
+pub record FlatLists (n : ℕ) (ws : List ℕ) : Type 0 where
   pub lists : Lists
   pub entered : ws ≡ listEntries lists
-  pub plainly : plainBranches lists ≡ true
+  pub flatly : flatBranches lists ≡ true
   pub many : listCount lists ≡ n
 
 -- the branches of the alternatives at a place, and the item of the token there
@@ -60,31 +61,31 @@ tokensProgram b ws st = addedTo (tokenItem b ws st) (length st)
 
 -- an item more after n words: the words then, the last node, and the buffer
 unfoldable pub itemCount : ℕ → Last → Item → ℕ
-itemCount n last (one t) = putCount n last (pieceOf (one t))
-itemCount n last (jump m) = putCount n last (pieceOf (jump m))
-itemCount n last (range a b) = putCount n last (pieceOf (range a b))
+itemCount n last (one t) = putCount n last (addendOf (one t))
+itemCount n last (jump m) = putCount n last (addendOf (jump m))
+itemCount n last (range a b) = putCount n last (addendOf (range a b))
 itemCount n last (alt bs) = n + length (wordsFor (alt bs))
 
 unfoldable pub itemLast : Last → Item → Last
-itemLast last (one t) = putLast last (pieceOf (one t))
-itemLast last (jump m) = putLast last (pieceOf (jump m))
-itemLast last (range a b) = putLast last (pieceOf (range a b))
+itemLast last (one t) = putLast last (addendOf (one t))
+itemLast last (jump m) = putLast last (addendOf (jump m))
+itemLast last (range a b) = putLast last (addendOf (range a b))
 itemLast last (alt bs) = Fixed
 
 unfoldable pub itemOut : List ℕ → ℕ → Last → Item → List ℕ
-itemOut out n last (one t) = putOut out n last (pieceOf (one t))
-itemOut out n last (jump m) = putOut out n last (pieceOf (jump m))
-itemOut out n last (range a b) = putOut out n last (pieceOf (range a b))
+itemOut out n last (one t) = putOut out n last (addendOf (one t))
+itemOut out n last (jump m) = putOut out n last (addendOf (jump m))
+itemOut out n last (range a b) = putOut out n last (addendOf (range a b))
 itemOut out n last (alt bs) = take n out ++ (wordsFor (alt bs) ++ drop (n + length (wordsFor (alt bs))) out)
 
 -- the words of the token at a place
 unfoldable pub sizeAt : List ℕ → ℕ → ℕ
 sizeAt ws at = cond (eqb (getD ws at 0) 5) (4 + 4 * getD ws (at + 2) 0) 4
 
--- a whole token stands at a place, and alternatives there hold tokens of one entry each
+-- a whole token stands at a place, and alternatives there hold flat tokens
 pub record Stands (ws : List ℕ) (at : ℕ) : Type 0 where
   pub fits : at + sizeAt ws at ≤ length ws
-  pub opened : getD ws at 0 ≡ 5 → Listed (getD ws (at + 1) 0) (take (4 * getD ws (at + 2) 0) (drop (at + 4) ws))
+  pub opened : getD ws at 0 ≡ 5 → FlatLists (getD ws (at + 1) 0) (take (4 * getD ws (at + 2) 0) (drop (at + 4) ws))
 
 -- where the tokens of a list start, which itself starts at `at`
 unfoldable pub offsets : ℕ → Tokens → List ℕ

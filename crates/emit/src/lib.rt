@@ -11,10 +11,10 @@ ghost use Rattle.meaning.specs.Programs.{alt};
 ghost use Rattle.meaning.specs.Words.{word};
 ghost use Rattle.compiling.specs.ProgramWords.{wordsFor, wordsOf, wordsIn, nodes};
 ghost use Rattle.emit.specs.declared.Last.the-variants.{Grows};
-ghost use Rattle.emit.specs.declared.Piece.the-variants.{Gap};
-ghost use Rattle.emit.specs.Items.{byteIn, entryItem, maskItem, notMaskItem, jumpItem, pieceOf, Behind, putCount, putLast, putOut, placeOf};
+ghost use Rattle.emit.specs.declared.Addend.the-variants.{Gap};
+ghost use Rattle.emit.specs.Items.{byteIn, entryItem, maskItem, notMaskItem, jumpItem, addendOf, Behind, putCount, putLast, putOut, placeOf};
 ghost use Rattle.compiling.specs.Compile.{shortIn, shortOf, short};
-ghost use Rattle.emit.specs.Lists.{listProgram, branchesAt, Listed, altAt, tokenAt, itemCount, itemLast, itemOut, sizeAt, Stands, tokensProgram, Outlined};
+ghost use Rattle.emit.specs.Lists.{listProgram, branchesAt, FlatLists, altAt, tokenAt, itemCount, itemLast, itemOut, sizeAt, Stands, tokensProgram, Outlined};
 use base::BRANCH_LIMIT;
 use base::JUMP_LIMIT;
 use nodes::ByteTest;
@@ -27,7 +27,7 @@ use nodes::field;
 use nodes::node_word;
 
 // What a token of one entry adds: a node's word, or a jump, which may grow the last node.
-pub enum Piece {
+pub enum Addend {
     Word(NodeWord),
     Gap(Field),
 }
@@ -45,39 +45,39 @@ pub struct Tail {
 }
 
 // `?X`, `X?` and `??`. The values that a text can spell are below 16: the remainder spares a requirement.
-fn mask_piece(a: u32, b: u32) -> Piece
-    ensures { λ r. ⌜ r ≡ pieceOf (maskItem a b) ⌝ }
+fn mask_addend(a: u32, b: u32) -> Addend
+    ensures { λ r. ⌜ r ≡ addendOf (maskItem a b) ⌝ }
 {
     let v = (a % 16) as u8;
     if b == 0 {
-        return Piece::Word(node_word(Node::One(ByteTest::Mask(v, 0x0F))));
+        return Addend::Word(node_word(Node::One(ByteTest::Mask(v, 0x0F))));
     }
     if b == 1 {
-        return Piece::Word(node_word(Node::One(ByteTest::Mask(16 * v, 0xF0))));
+        return Addend::Word(node_word(Node::One(ByteTest::Mask(16 * v, 0xF0))));
     }
-    Piece::Gap(1)
+    Addend::Gap(1)
 }
 
-fn not_mask_piece(a: u32, b: u32) -> Piece
-    ensures { λ r. ⌜ r ≡ pieceOf (notMaskItem a b) ⌝ }
+fn not_mask_addend(a: u32, b: u32) -> Addend
+    ensures { λ r. ⌜ r ≡ addendOf (notMaskItem a b) ⌝ }
 {
     let v = (a % 16) as u8;
     if b == 0 {
-        return Piece::Word(node_word(Node::One(ByteTest::NegatedMask(v, 0x0F))));
+        return Addend::Word(node_word(Node::One(ByteTest::NegatedMask(v, 0x0F))));
     }
     if b == 1 {
-        return Piece::Word(node_word(Node::One(ByteTest::NegatedMask(16 * v, 0xF0))));
+        return Addend::Word(node_word(Node::One(ByteTest::NegatedMask(16 * v, 0xF0))));
     }
-    Piece::Word(node_word(Node::One(ByteTest::NegatedMask(0, 0))))
+    Addend::Word(node_word(Node::One(ByteTest::NegatedMask(0, 0))))
 }
 
-fn jump_piece(a: Field, b: Field) -> Piece
-    ensures { λ r. ⌜ r ≡ pieceOf (jumpItem a b) ⌝ }
+fn jump_addend(a: Field, b: Field) -> Addend
+    ensures { λ r. ⌜ r ≡ addendOf (jumpItem a b) ⌝ }
 {
     if a < b {
-        return Piece::Word(node_word(Node::JumpRange(a, b)));
+        return Addend::Word(node_word(Node::JumpRange(a, b)));
     }
-    Piece::Gap(a)
+    Addend::Gap(a)
 }
 
 // The byte of an entry. Bytes that a text can spell are below 256: the remainder spares a requirement, and so do the fields of jumps below.
@@ -88,16 +88,16 @@ fn byte_in(value: u32) -> u8
 }
 
 // What a token of one entry adds, by its kind and its first two values.
-pub fn entry_piece(kind: u32, a: u32, b: u32) -> Piece
-    ensures { λ r. ⌜ r ≡ pieceOf (entryItem kind a b) ⌝ }
+pub fn entry_addend(kind: u32, a: u32, b: u32) -> Addend
+    ensures { λ r. ⌜ r ≡ addendOf (entryItem kind a b) ⌝ }
 {
     let v = byte_in(a);
     match kind {
-        0 => Piece::Word(node_word(Node::One(ByteTest::Byte(v)))),
-        1 => Piece::Word(node_word(Node::One(ByteTest::NegatedMask(v, 0xFF)))),
-        2 => mask_piece(a, b),
-        3 => not_mask_piece(a, b),
-        _ => jump_piece(field(a), field(b)),
+        0 => Addend::Word(node_word(Node::One(ByteTest::Byte(v)))),
+        1 => Addend::Word(node_word(Node::One(ByteTest::NegatedMask(v, 0xFF)))),
+        2 => mask_addend(a, b),
+        3 => not_mask_addend(a, b),
+        _ => jump_addend(field(a), field(b)),
     }
 }
 
@@ -134,21 +134,21 @@ fn add_jump(out: &mut [NodeWord], n: usize, last: Last, len: Field) -> Tail
     }
 }
 
-// One piece more after n words.
-fn add_piece(out: &mut [NodeWord], n: usize, last: Last, piece: Piece) -> Tail
+// One addend more after n words.
+fn add_one(out: &mut [NodeWord], n: usize, last: Last, addend: Addend) -> Tail
     requires { ⌜ (n < length (now out)) × Behind n last ⌝ }
-    ensures { λ r. ⌜ (r .count ≡ putCount n last piece) × (r .last ≡ putLast last piece)
-        × (now (out .exit) ≡ putOut (now (out .entry)) n last piece) ⌝ }
+    ensures { λ r. ⌜ (r .count ≡ putCount n last addend) × (r .last ≡ putLast last addend)
+        × (now (out .exit) ≡ putOut (now (out .entry)) n last addend) ⌝ }
 {
-    match piece {
-        Piece::Word(w) => {
+    match addend {
+        Addend::Word(w) => {
             out[n] = w;
             Tail {
                 count: n + 1,
                 last: Last::Fixed,
             }
         }
-        Piece::Gap(len) => add_jump(out, n, last, len),
+        Addend::Gap(len) => add_jump(out, n, last, len),
     }
 }
 
@@ -175,8 +175,8 @@ pub fn add_list(entries: &[u32], backwards: bool, out: &mut [NodeWord]) -> usize
     let mut k = 0;
     while k < count {
         let at = 4 * place(backwards, count, k);
-        let piece = entry_piece(entries[at], entries[at + 1], entries[at + 2]);
-        let tail = add_piece(out, n, last, piece);
+        let addend = entry_addend(entries[at], entries[at + 1], entries[at + 2]);
+        let tail = add_one(out, n, last, addend);
         n = tail.count;
         last = tail.last;
         k += 1;
@@ -201,7 +201,7 @@ fn longer(long: bool, n: usize) -> bool
 
 // Lists behind their marks: each is a branch, with its own mark before its nodes.
 pub fn add_lists(entries: &[u32], lists: usize, backwards: bool, out: &mut [NodeWord]) -> Branched
-    requires { ⌜ Listed lists (now entries) × (length (now entries) ≤ tokenPool) × (length (now entries) ≤ 4 * length (now out)) ⌝ }
+    requires { ⌜ FlatLists lists (now entries) × (length (now entries) ≤ tokenPool) × (length (now entries) ≤ 4 * length (now out)) ⌝ }
     ensures { λ r. ⌜ (r .count ≡ length (wordsIn (branchesAt backwards lists (now (entries .entry)))))
         × (r .long ≡ not (shortIn (branchesAt backwards lists (now (entries .entry)))))
         × (now (out .exit) ≡ wordsIn (branchesAt backwards lists (now (entries .entry))) ++ drop (r .count) (now (out .entry))) ⌝ }
@@ -279,8 +279,8 @@ fn add_token(
             long: either(long, b.long),
         };
     }
-    let piece = entry_piece(kind, tokens[at + 1], tokens[at + 2]);
-    let tail = add_piece(out, n, last, piece);
+    let addend = entry_addend(kind, tokens[at + 1], tokens[at + 2]);
+    let tail = add_one(out, n, last, addend);
     let next = tail.last;
     Step {
         count: tail.count,

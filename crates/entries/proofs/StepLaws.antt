@@ -9,7 +9,7 @@ use lib.Dec.{eqb, ltb}
 use lib.ListN.{length, drop, getD, length-drop}
 use borrow.Author.Tests.{lt-ltb, le-ltb}
 use Rattle.meaning.specs.Tokens.{nothing, _then_, neither, _or_}
-use Rattle.entries.specs.Words.{firstEntry, walk, flatIn, ends, inside, listsIn, tokenIn, width, tokensIn}
+use Rattle.entries.specs.Words.{firstEntry, walk, branchIn, ends, inside, listsIn, tokenIn, width, tokensIn}
 
 -- ---- the bound on the depth of calls does not matter
 
@@ -48,13 +48,13 @@ module _ {A : Type 0} (stop : A) (make : List ℕ → A → A) (step : List ℕ 
 
 -- ---- lists without alternatives
 
-pub flat-end : (ws : List ℕ) → length ws < 4 → flatIn ws ≡ nothing
-unfolding flatIn
-flat-end ws h = walk-end nothing (λ w ts. firstEntry w then ts) (λ w. 4) (length ws) ws h
+pub branch-end : (ws : List ℕ) → length ws < 4 → branchIn ws ≡ nothing
+unfolding branchIn
+branch-end ws h = walk-end nothing (λ w ts. firstEntry w then ts) (λ w. 4) (length ws) ws h
 
-pub flat-step : (ws : List ℕ) → 4 ≤ length ws → flatIn ws ≡ firstEntry ws then flatIn (drop 4 ws)
-unfolding flatIn
-flat-step ws h = walk-step nothing (λ w ts. firstEntry w then ts) (λ w. 4) (λ w l. le-refl 4) ws h
+pub branch-step : (ws : List ℕ) → 4 ≤ length ws → branchIn ws ≡ firstEntry ws then branchIn (drop 4 ws)
+unfolding branchIn
+branch-step ws h = walk-step nothing (λ w ts. firstEntry w then ts) (λ w. 4) (λ w l. le-refl 4) ws h
 
 -- ---- lists after their marks
 
@@ -68,11 +68,11 @@ ends-long ws h = omega arith
 
 pub lists-end : (ws : List ℕ) → length ws < 4 → listsIn ws ≡ neither
 unfolding listsIn
-lists-end ws h = walk-end neither (λ w ls. flatIn (inside w) or ls) ends (length ws) ws h
+lists-end ws h = walk-end neither (λ w ls. branchIn (inside w) or ls) ends (length ws) ws h
 
-pub lists-step : (ws : List ℕ) → 4 ≤ length ws → listsIn ws ≡ flatIn (inside ws) or listsIn (drop (ends ws) ws)
+pub lists-step : (ws : List ℕ) → 4 ≤ length ws → listsIn ws ≡ branchIn (inside ws) or listsIn (drop (ends ws) ws)
 unfolding listsIn
-lists-step ws h = walk-step neither (λ w ls. flatIn (inside w) or ls) ends ends-long ws h
+lists-step ws h = walk-step neither (λ w ls. branchIn (inside w) or ls) ends ends-long ws h
 
 -- ---- tokens
 

@@ -1,5 +1,6 @@
 -- Token entries, four words each, taken for the tokens that they stand for. Total: what is no entry of a token is taken for a jump.
 -- Assumes nothing: these are definitions; crate runs shows (EntryLaws) that the entries of tokens are taken for those tokens.
+-- To be believed: nothing.
 use mathlib.Core.Bool.{cond}
 use mathlib.Core.List.{List}
 use Prim.Native.Nat.{ℕ, zero, suc, _+_, _-_, _*_, min}
@@ -18,9 +19,9 @@ unfoldable pub walk : {A : Type 0} → A → (List ℕ → A → A) → (List �
 walk stop make step zero ws = stop
 walk stop make step (suc n) ws = cond (ltb (length ws) 4) stop (make ws (walk stop make step n (drop (step ws) ws)))
 
--- a list without alternatives
-unfoldable pub flatIn : List ℕ → Tokens
-flatIn ws = walk nothing (λ w ts. firstEntry w then ts) (λ w. 4) (length ws) ws
+-- a branch: a list without alternatives
+unfoldable pub branchIn : List ℕ → Tokens
+branchIn ws = walk nothing (λ w ts. firstEntry w then ts) (λ w. 4) (length ws) ws
 
 -- where the words within an entry of alternatives or a list mark end
 unfoldable pub ends : List ℕ → ℕ
@@ -32,7 +33,7 @@ inside ws = take (ends ws - 4) (drop 4 ws)
 
 -- lists, each after its mark
 unfoldable pub listsIn : List ℕ → Lists
-listsIn ws = walk neither (λ w ls. flatIn (inside w) or ls) ends (length ws) ws
+listsIn ws = walk neither (λ w ls. branchIn (inside w) or ls) ends (length ws) ws
 
 -- the token at the front, and its words
 unfoldable pub tokenIn : List ℕ → Token

@@ -4,8 +4,8 @@ ghost use mathlib.Core.Path.{_≡_};
 ghost use Prim.Native.Nat.{_≤_};
 ghost use lib.ListN.{length};
 ghost use Rattle.picking.specs.Literals.{plainList, plainLists};
-ghost use Rattle.picking.specs.Runs.{plain};
-ghost use Rattle.entries.specs.Words.{flatIn, ends, listsIn, width, tokensIn};
+ghost use Rattle.picking.specs.Runs.{plainAlternatives};
+ghost use Rattle.entries.specs.Words.{branchIn, ends, listsIn, width, tokensIn};
 
 // Where the words within an entry of alternatives or a list mark end.
 pub fn end_of(ws: &[u32]) -> usize
@@ -25,7 +25,7 @@ pub fn width_of(ws: &[u32]) -> usize
 }
 
 fn plain_list(ws: &[u32]) -> bool
-    ensures { λ r. ⌜ r ≡ plainList (flatIn (now (ws .entry))) ⌝ }
+    ensures { λ r. ⌜ r ≡ plainList (branchIn (now (ws .entry))) ⌝ }
 {
     let mut rest = ws;
     while 4 <= rest.len() {
@@ -52,8 +52,8 @@ fn plain_lists(ws: &[u32]) -> bool
 }
 
 // All alternatives hold only bytes and classes.
-pub fn is_plain(ws: &[u32]) -> bool
-    ensures { λ r. ⌜ r ≡ plain (tokensIn (now (ws .entry))) ⌝ }
+pub fn plain_alternatives(ws: &[u32]) -> bool
+    ensures { λ r. ⌜ r ≡ plainAlternatives (tokensIn (now (ws .entry))) ⌝ }
 {
     let mut rest = ws;
     while 4 <= rest.len() {

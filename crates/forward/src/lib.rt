@@ -8,7 +8,7 @@ ghost use mathlib.Core.Logic.{_⊎_};
 ghost use mathlib.Core.List.{_∷_};
 ghost use Rattle.meaning.specs.Programs.{range, alt, _▹_};
 ghost use Rattle.meaning.specs.Rows.{forward};
-ghost use Rattle.meaning.specs.Words.{kindOf, prog, branchesOf, Sound, SoundBranches, plainWords};
+ghost use Rattle.meaning.specs.Words.{kindOf, prog, branchesOf, Sound, SoundBranches, flatWords};
 ghost use Rattle.steps.specs.Steps.{answer};
 use nodes::Field;
 use nodes::JUMP;
@@ -28,7 +28,7 @@ use steps::word_passes;
 
 // A branch, which holds nodes of fixed length only: what it leaves of mem.
 fn flat(branch: &[NodeWord], mem: &[u8]) -> Found
-    requires { ⌜ plainWords (now branch) ≡ true ⌝ }
+    requires { ⌜ flatWords (now branch) ≡ true ⌝ }
     ensures { λ r. ⌜ r ≡ answer (forward (prog (now (branch .entry))) (now (mem .entry))) ⌝ }
 {
     let mut ns = branch;

@@ -1,4 +1,5 @@
 -- What is left in the lent buffers once literals are written. Assumes nothing: these are definitions.
+-- To be believed: `over`.
 use mathlib.Core.Path.{_≡_}
 use mathlib.Core.Bool.{Bool, cond, _&&_}
 use mathlib.Core.List.{List, _++_, map, flatten}

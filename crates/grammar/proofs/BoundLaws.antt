@@ -7,7 +7,7 @@ use borrow.Author.Tests.{le-leb}
 use lib.Dec.{leb}
 use Rattle.meaning.specs.Tokens.{Token, Tokens, Byte, NotByte, MaskedByte, NotMaskedByte, Jump, Alternatives, nothing, _then_}
 use Rattle.meaning.specs.Entries.{tokenCount}
-use Rattle.reading.specs.Lists.{isJump, begins, endsIn, ends, atBound}
+use Rattle.reading.specs.Lists.{isJump, jumpFirst, jumpLastIn, jumpLast, atBound}
 use Rattle.reading.proofs.PieceLaws.{never}
 use Rattle.grammar.proofs.Spelling.{NoJump, EndsWell, Bounded}
 
@@ -29,18 +29,18 @@ is-no-jump (NotMaskedByte v m) h = refl
 is-no-jump (Jump from to) h = absurd h
 is-no-jump (Alternatives ls) h = refl
 
-ends-well : (tok : Token) (ts : Tokens) → endsIn tok ts ≡ false → EndsWell tok ts
-unfolding endsIn EndsWell
+ends-well : (tok : Token) (ts : Tokens) → jumpLastIn tok ts ≡ false → EndsWell tok ts
+unfolding jumpLastIn EndsWell
 ends-well tok nothing h = no-jump tok h
 ends-well tok (next then ts) h = ends-well next ts h
 
-is-ends-well : (tok : Token) (ts : Tokens) → EndsWell tok ts → endsIn tok ts ≡ false
-unfolding endsIn EndsWell
+is-ends-well : (tok : Token) (ts : Tokens) → EndsWell tok ts → jumpLastIn tok ts ≡ false
+unfolding jumpLastIn EndsWell
 is-ends-well tok nothing h = is-no-jump tok h
 is-ends-well tok (next then ts) h = is-ends-well next ts h
 
 pub bounded : (tok : Token) (ts : Tokens) → atBound (tok then ts) ≡ false → Bounded (tok then ts)
-unfolding atBound begins ends endsIn tokenCount EndsWell Bounded
+unfolding atBound jumpFirst jumpLast jumpLastIn tokenCount EndsWell Bounded
 bounded tok nothing h = go (isJump tok) refl h
   where
     go : (a : Bool) → isJump tok ≡ a → a || (leb 2 1 && isJump tok) ≡ false → NoJump tok × NoJump tok
@@ -48,11 +48,11 @@ bounded tok nothing h = go (isJump tok) refl h
     go false d h = (no-jump tok d, no-jump tok d)
 bounded tok (next then ts) h = go (isJump tok) (leb 2 (suc (suc (tokenCount ts)))) refl (le-leb 2 (suc (suc (tokenCount ts))) (omega arith)) h
   where
-    go : (a b : Bool) → isJump tok ≡ a → b ≡ true → a || (b && endsIn next ts) ≡ false → NoJump tok × EndsWell next ts
+    go : (a b : Bool) → isJump tok ≡ a → b ≡ true → a || (b && jumpLastIn next ts) ≡ false → NoJump tok × EndsWell next ts
     go true b d e h = never (cc)
     go false true d e h = (no-jump tok d, ends-well next ts h)
     go false false d e h = never (cc)
 
 pub is-bounded : (tok : Token) (ts : Tokens) → Bounded (tok then ts) → atBound (tok then ts) ≡ false
-unfolding atBound begins ends Bounded
+unfolding atBound jumpFirst jumpLast Bounded
 is-bounded tok ts h = rw (is-no-jump tok (h .0), is-ends-well tok ts (h .1)) (and-false (leb 2 (tokenCount (tok then ts))))

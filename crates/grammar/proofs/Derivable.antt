@@ -8,7 +8,7 @@ use lib.ListN.{length}
 use Rattle.base.specs.declared.Refusal.{Refusal}
 use Rattle.meaning.specs.Limits.{textLimit, levelLimit}
 use Rattle.meaning.specs.Tokens.{Tokens}
-use Rattle.reading.specs.Lists.{Outcome, accepted, rejected, reading}
+use Rattle.reading.specs.Lists.{Verdict, accepted, rejected, reading}
 use Rattle.grammar.specs.Grammar as rule
 use Rattle.grammar.specs.Grammar.{Derives}
 use Rattle.grammar.specs.Faults.{Fault}
@@ -62,7 +62,7 @@ rejected-underivable t r p h e ts d = rejected-unspelled t r p e ts h (derives-s
 pub derived-or-fault : (t : List ℕ) → ((e : ℕ) × (ts : Tokens) × Derives t e ts) ⊎ ((r : Refusal) × (p : ℕ) × Fault t r p)
 derived-or-fault t = go (reading t) refl
   where
-    go : (o : Outcome) → reading t ≡ o → ((e : ℕ) × (ts : Tokens) × Derives t e ts) ⊎ ((r : Refusal) × (p : ℕ) × Fault t r p)
+    go : (o : Verdict) → reading t ≡ o → ((e : ℕ) × (ts : Tokens) × Derives t e ts) ⊎ ((r : Refusal) × (p : ℕ) × Fault t r p)
     go (accepted e ts) h = inl (e, ts, accepted-derived t e ts h)
     go (rejected r p) h = inr (r, p, fault-exactly t r p .0 h)
 

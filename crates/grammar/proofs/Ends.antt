@@ -13,7 +13,7 @@ use Rattle.base.specs.declared.Refusal.the-variants.{TooManyTokens}
 use Rattle.meaning.specs.Limits.{tokenLimit, innerJumpLimit}
 use Rattle.meaning.specs.Tokens.{Mask, left, right, all, Token, Tokens, Lists}
 use Rattle.reading.specs.Blanks.{here, skip}
-use Rattle.reading.specs.Pieces.{Seen, found, absent, refused, upTo, _else_, digit, Hex, whole, masked, twoDigits, byteAt, oneDigit, maskedAt, hexAt, plainly, negated, notAt, numberAt, Range, between, checked, closedAt, upperAt, dashAt, lowerAt, rangeAt, jumped, plainAt}
+use Rattle.reading.specs.Pieces.{Seen, found, absent, refused, upTo, _else_, digit, Hex, whole, masked, twoDigits, byteAt, oneDigit, maskedAt, hexAt, hexToken, negated, notAt, numberAt, Range, between, checked, closedAt, upperAt, dashAt, lowerAt, rangeAt, jumped, leafAt}
 use Rattle.reading.specs.Lists.{Parsed, read, missing, stopped, tokenOr, asToken, bracketed, beside, token, list, lists}
 use Rattle.reading.proofs.PieceLaws.{skip-from}
 use Rattle.reading.proofs.ListSteps.{list-gone, token-step, lists-closed, lists-barred, lists-else, lists-missing, lists-stopped}
@@ -63,12 +63,12 @@ module _ (t : List ℕ) where
   unfolding hexAt byteAt
   hex-ends at = else-ends (byteAt t at) (maskedAt t at) (two-ends at (digit (here t at)) (digit (here t (at + 1)))) (masked-ends at)
 
-  plainly-ends : (x : Seen Hex) → Ends t x → Ends t (plainly x)
-  unfolding Ends plainly
-  plainly-ends (found (whole v) s e) h = h
-  plainly-ends (found (masked v m) s e) h = h
-  plainly-ends absent h = tt
-  plainly-ends (refused r p) h = tt
+  hex-token-ends : (x : Seen Hex) → Ends t x → Ends t (hexToken x)
+  unfolding Ends hexToken
+  hex-token-ends (found (whole v) s e) h = h
+  hex-token-ends (found (masked v m) s e) h = h
+  hex-token-ends absent h = tt
+  hex-token-ends (refused r p) h = tt
 
   negated-ends : (at : ℕ) (x : Seen Hex) → Ends t x → Ends t (negated at x)
   unfolding Ends negated
@@ -111,17 +111,17 @@ module _ (t : List ℕ) where
   jumped-ends inside at absent h = tt
   jumped-ends inside at (refused r p) h = tt
 
-  plain-ends : (inside : Bool) (at : ℕ) → Ends t (plainAt t inside at)
-  unfolding Ends plainAt notAt rangeAt
-  plain-ends inside at =
+  leaf-ends : (inside : Bool) (at : ℕ) → Ends t (leafAt t inside at)
+  unfolding Ends leafAt notAt rangeAt
+  leaf-ends inside at =
       else-ends (cond (eqb (here t at) (code "~")) (negated at (hexAt t (at + 1))) absent) _ (cond-ends (eqb (here t at) (code "~")) _ _ (negated-ends at (hexAt t (at + 1)) (hex-ends (at + 1))) tt)
-      (else-ends (plainly (hexAt t at)) _ (plainly-ends (hexAt t at) (hex-ends at))
+      (else-ends (hexToken (hexAt t at)) _ (hex-token-ends (hexAt t at) (hex-ends at))
       (jumped-ends inside at (cond (eqb (here t at) (code "[")) (lowerAt t at (skip t (at + 1)) (numberAt t (skip t (at + 1)))) absent)
       (cond-ends (eqb (here t at) (code "[")) _ _ (lower-ends at (skip t (at + 1)) (numberAt t (skip t (at + 1)))) tt)))
 
-  pub plain-clear : (inside : Bool) (at : ℕ) (tok : Token) (s e : ℕ) → plainAt t inside at ≡ found tok s e → NoBlank (drop e t)
+  pub leaf-clear : (inside : Bool) (at : ℕ) (tok : Token) (s e : ℕ) → leafAt t inside at ≡ found tok s e → NoBlank (drop e t)
   unfolding Ends
-  plain-clear inside at tok s e h = subst (λ (x : Seen Token). Ends t x) h (plain-ends inside at)
+  leaf-clear inside at tok s e h = subst (λ (x : Seen Token). Ends t x) h (leaf-ends inside at)
 
   -- lists in brackets are not missing, and no blank follows them
   unfoldable After : Parsed Lists → Type 0
@@ -160,10 +160,10 @@ module _ (t : List ℕ) where
       let k = skip-from t (e + 1) in
       lists-after n level d (skip t (e + 1)) e (omega arith))
 
-  -- a token that is read has no blank after it; one that is missing is no plain token, and no `(` stands there
+  -- a token that is read has no blank after it; one that is missing is no leaf, and no `(` stands there
   unfoldable pub TokenAfter : ℕ → ℕ → Parsed Token → Type 0
   TokenAfter level at (read tok e d) = NoBlank (drop e t)
-  TokenAfter level at missing = (plainAt t (ltb 1 level) at ≡ absent) × (here t at ≡ code "(" → ⊥)
+  TokenAfter level at missing = (leafAt t (ltb 1 level) at ≡ absent) × (here t at ≡ code "(" → ⊥)
   TokenAfter level at (stopped r p) = Unit {0}
 
   as-after : (level at : ℕ) (x : Parsed Lists) → After x → TokenAfter level at (asToken x)
@@ -174,21 +174,21 @@ module _ (t : List ℕ) where
 
   pub token-after : (level count at : ℕ) → TokenAfter level at (token t level count at)
   unfolding tokenOr bracketed TokenAfter
-  token-after level count at = subst (λ (x : Parsed Token). TokenAfter level at x) (sym (token-step t level count at)) (go (plainAt t (ltb 1 level) at) refl)
+  token-after level count at = subst (λ (x : Parsed Token). TokenAfter level at x) (sym (token-step t level count at)) (go (leafAt t (ltb 1 level) at) refl)
     where
       inner : Parsed Lists
       inner = lists t (level + 1) (count + 1) (skip t (at + 1)) (skip t (at + 1))
 
-      opens : plainAt t (ltb 1 level) at ≡ absent → (a b : Bool) → eqb (here t at) (code "(") ≡ a → TokenAfter level at (cond a (cond b (asToken inner) (stopped TooManyTokens at)) missing)
+      opens : leafAt t (ltb 1 level) at ≡ absent → (a b : Bool) → eqb (here t at) (code "(") ≡ a → TokenAfter level at (cond a (cond b (asToken inner) (stopped TooManyTokens at)) missing)
       opens q true true i = as-after level at inner (lists-after (suc (length t - skip t (at + 1))) (level + 1) (count + 1) (skip t (at + 1)) (skip t (at + 1)) (omega arith))
       opens q true false i = tt
       opens q false b i = (q, eqb-false (here t at) (code "(") i)
 
-      counts : (tok : Token) (s e : ℕ) → plainAt t (ltb 1 level) at ≡ found tok s e → (a : Bool) → TokenAfter level at (cond a (read tok e (count + 1)) (stopped TooManyTokens at))
-      counts tok s e q true = plain-clear (ltb 1 level) at tok s e q
+      counts : (tok : Token) (s e : ℕ) → leafAt t (ltb 1 level) at ≡ found tok s e → (a : Bool) → TokenAfter level at (cond a (read tok e (count + 1)) (stopped TooManyTokens at))
+      counts tok s e q true = leaf-clear (ltb 1 level) at tok s e q
       counts tok s e q false = tt
 
-      go : (x : Seen Token) → plainAt t (ltb 1 level) at ≡ x → TokenAfter level at (tokenOr at count x (bracketed t at count inner))
+      go : (x : Seen Token) → leafAt t (ltb 1 level) at ≡ x → TokenAfter level at (tokenOr at count x (bracketed t at count inner))
       go (found tok s e) q = counts tok s e q (ltb count tokenLimit)
       go absent q = opens q (eqb (here t at) (code "(")) (ltb count tokenLimit) refl
       go (refused r p) q = tt

@@ -16,8 +16,8 @@ use Rattle.meaning.specs.Tokens.{Token, Tokens, Byte, nothing, _then_, totalIn}
 use Rattle.reading.specs.Blanks.{here, skip}
 use Rattle.reading.specs.Given as given
 use Rattle.reading.specs.Given.{Given}
-use Rattle.reading.specs.Pieces.{found, plainAt}
-use Rattle.reading.specs.Lists.{read, missing, before, isJump, begins, endsIn, ends, atBound, token, more, list, rejected, reading}
+use Rattle.reading.specs.Pieces.{found, leafAt}
+use Rattle.reading.specs.Lists.{read, missing, before, isJump, jumpFirst, jumpLastIn, jumpLast, atBound, token, more, list, rejected, reading}
 use Rattle.reading.proofs.PieceLaws.{never}
 use Rattle.reading.proofs.GivenLaws.{given-exactly, given-one}
 use Rattle.reading.proofs.ListSteps.{token-gone, list-gone, more-read, more-none}
@@ -29,7 +29,7 @@ use Rattle.grammar.proofs.Spelling.{NoJump, EndsWell, Bounded}
 use Rattle.grammar.proofs.BoundLaws.{is-no-jump, bounded}
 use Rattle.grammar.proofs.RulesSpell.{solid-spells}
 use Rattle.grammar.proofs.FaultPieces.{mark-there, mark-here}
-use Rattle.grammar.proofs.FaultTokens.{Level, seen, token-stands, token-there, token-here, plain-there, in-token-there, in-token-here, missing-there, missing-here}
+use Rattle.grammar.proofs.FaultTokens.{Level, seen, token-stands, token-there, token-here, leaf-there, in-token-there, in-token-here, missing-there, missing-here}
 use Rattle.grammar.proofs.FaultLists.{Chain, chain, list-there, list-here, list-missing}
 
 -- a jump is a gap, and no other token is
@@ -43,11 +43,11 @@ of-gap (fault.stands h (rule.bounded p q r) c) = (fault.stands h (inr (rule.boun
 of-gap (fault.stands h (rule.unbounded p q) c) = (fault.stands h (inr (rule.unbounded p q)) c, (λ z. z), refl)
 
 -- a jump at a list's bounds is its first token or its last one
-at-bound : (tok : Token) (ts : Tokens) → atBound (tok then ts) ≡ true → (isJump tok ≡ true) ⊎ (endsIn tok ts ≡ true)
-unfolding atBound begins ends
-at-bound tok ts h = go (isJump tok) (leb 2 (tokenCount (tok then ts))) (endsIn tok ts) refl refl h
+at-bound : (tok : Token) (ts : Tokens) → atBound (tok then ts) ≡ true → (isJump tok ≡ true) ⊎ (jumpLastIn tok ts ≡ true)
+unfolding atBound jumpFirst jumpLast
+at-bound tok ts h = go (isJump tok) (leb 2 (tokenCount (tok then ts))) (jumpLastIn tok ts) refl refl h
   where
-    go : (a b c : Bool) → isJump tok ≡ a → endsIn tok ts ≡ c → a || (b && c) ≡ true → (isJump tok ≡ true) ⊎ (endsIn tok ts ≡ true)
+    go : (a b c : Bool) → isJump tok ≡ a → jumpLastIn tok ts ≡ c → a || (b && c) ≡ true → (isJump tok ≡ true) ⊎ (jumpLastIn tok ts ≡ true)
     go true b c i j h = inl i
     go false true c i j h = inr (j ∙ h)
     go false false c i j h = never (cc)
@@ -95,8 +95,8 @@ module _ {t : List ℕ} where
       along ts (x .1) (x .0) e d h (looked-next h k (x .2) .0) (x .3)
 
   -- the last of them is a jump
-  last-there : {l start : ℕ} (tok : Token) (ts : Tokens) (c at e d : ℕ) → Level l → fault.Looked t l c at start → more t l c at ≡ read (tok then ts) e d → endsIn tok ts ≡ true → Fault t JumpAtBound start
-  unfolding Chain endsIn
+  last-there : {l start : ℕ} (tok : Token) (ts : Tokens) (c at e d : ℕ) → Level l → fault.Looked t l c at start → more t l c at ≡ read (tok then ts) e d → jumpLastIn tok ts ≡ true → Fault t JumpAtBound start
+  unfolding Chain jumpLastIn
   last-there {l} tok nothing c at e d h k q j =
       let x = chain t l c at (tok then nothing) e d q in
       let y = chain t l (x .1) (x .0) nothing e d (x .3) in
@@ -116,7 +116,7 @@ module _ {t : List ℕ} where
       fault.jump-first (a .0) (a .1) (gap-of h (token-there t l c start tok (x .0) (x .1) h (x .2) .0) j)
 
   bound-there : {l start : ℕ} (ts : Tokens) (c e d : ℕ) → Level l → fault.Looked t l c start start → more t l c start ≡ read ts e d → atBound ts ≡ true → Fault t JumpAtBound start
-  unfolding atBound begins ends tokenCount
+  unfolding atBound jumpFirst jumpLast tokenCount
   bound-there nothing c e d h k q w = never (cc)
   bound-there (tok then ts) c e d h k q w = ⊎-elim (λ j. first-there tok ts c e d h k q j) (λ j. last-there tok ts c _ e d h k q j) (at-bound tok ts w)
 
@@ -144,7 +144,7 @@ module _ {t : List ℕ} where
       let x = looked-there k in
       let y = x .3 in
       let z : c ≡ tokenLimit = omega arith in
-      fault.too-many (subst (λ (n : ℕ). fault.Looked t l n at (x .0)) z (x .1)) (plain-there t l at tok s e (x .2) q)
+      fault.too-many (subst (λ (n : ℕ). fault.Looked t l n at (x .0)) z (x .1)) (leaf-there t l at tok s e (x .2) q)
   given-fault (given.too-many-brackets {level = l} {count = c} {at = at} k h q) =
       let x = looked-there k in
       let y = x .3 in
@@ -265,7 +265,7 @@ module _ {t : List ℕ} where
   fault-given (fault.too-deep b h) = given.too-deep (inner (omega arith) (begins-here b) .0) h
   fault-given (fault.too-many {level = l} {at = at} {e = e} {tok = tok} k s) = let x = looked-here k in go (x .0) (seen (x .1) s)
     where
-      go : given.Looked t l tokenLimit at → ((y : ℕ) × (plainAt t (ltb 1 l) at ≡ found tok y e)) ⊎ (here t at ≡ code "(") → Given t TooManyTokens at
+      go : given.Looked t l tokenLimit at → ((y : ℕ) × (leafAt t (ltb 1 l) at ≡ found tok y e)) ⊎ (here t at ≡ code "(") → Given t TooManyTokens at
       go k (inl y) = given.too-many k (omega arith) (y .1)
       go k (inr o) = given.too-many-brackets k (omega arith) o
   fault-given (fault.too-many-brackets k m) = given.too-many-brackets (looked-here k .0) (omega arith) (mark-here m .0)

@@ -16,7 +16,7 @@ use Rattle.reading.proofs.PieceLaws.{never}
 use Rattle.reading.proofs.ListSteps.{token-gone, more-read, more-none, more-stopped, list-deep, list-of}
 use Rattle.grammar.specs.Grammar.{TokenList}
 use Rattle.grammar.specs.Faults as fault
-use Rattle.grammar.specs.Faults.{Missing, Listed}
+use Rattle.grammar.specs.Faults.{Missing, ListEnds}
 use Rattle.grammar.proofs.Spelling.{NoBlank, SpellsList, depth}
 use Rattle.grammar.proofs.ListsSpelled.{Right, list-right-all}
 use Rattle.grammar.proofs.ListsRead.{more-is-read, list-bounded}
@@ -94,7 +94,7 @@ module _ (t : List ℕ) (level : ℕ) where
       go true i = absurd (n (sym q ∙ list-deep t level count at (ltb-true levelLimit level i)))
       go false i = ltb-false levelLimit level i
 
-  pub list-there : (count at : ℕ) (ts : Tokens) (e d : ℕ) → 1 ≤ level → count ≤ tokenLimit → list t level count at ≡ read ts e d → Listed t level count at d e
+  pub list-there : (count at : ℕ) (ts : Tokens) (e d : ℕ) → 1 ≤ level → count ≤ tokenLimit → list t level count at ≡ read ts e d → ListEnds t level count at d e
   unfolding Right
   list-there count at ts e d l k q =
       let h = list-level count at (read ts e d) q (λ z. never (cc)) in
@@ -103,10 +103,10 @@ module _ (t : List ℕ) (level : ℕ) where
       let p = subst (λ (x : Parsed Tokens). Right (SpellsList (ltb 1 level)) (λ us. total us) (λ us. depth us) t (suc levelLimit - level) count at x) q (list-right-all (enough t at) t level count at l k) in
       let s = p .0 in
       let w = stand t (TokenList level ts) at e (s .string) (s .split) (list-derived ts level (s .string) l (p .3) (s .spelled .0) (s .spelled .1)) (n .0) (s .reach) in
-      fault.listed h w (p .1) (p .2) (missing-there t level d e (l, h) (n .1))
+      fault.list-ends h w (p .1) (p .2) (missing-there t level d e (l, h) (n .1))
 
-pub list-here : {t : List ℕ} {level count at d e : ℕ} → 1 ≤ level → Listed t level count at d e → (ts : Tokens) × (list t level count at ≡ read ts e d)
-list-here {t} {level} {count} {at} l (fault.listed {d = d} {e = e} {ts = ts} h m c k n) =
+pub list-here : {t : List ℕ} {level count at d e : ℕ} → 1 ≤ level → ListEnds t level count at d e → (ts : Tokens) × (list t level count at ≡ read ts e d)
+list-here {t} {level} {count} {at} l (fault.list-ends {d = d} {e = e} {ts = ts} h m c k n) =
     let s = stood m in
     let p = list-spells l h (s .3) in
     let z = s .5 in
@@ -115,7 +115,7 @@ list-here {t} {level} {count} {at} l (fault.listed {d = d} {e = e} {ts = ts} h m
     let q = more-is-read ts t level count at (s .0) (s .1) (s .2) (s .4) o (p .0) l (omega arith) (omega arith) in
     (ts, list-bounded t level count at ts e d h (p .1) (q ∙ ap₂ (λ (a b : ℕ). read ts a b) (sym z) (sym c)))
 
-pub list-stands : (t : List ℕ) (level count at d e : ℕ) → 1 ≤ level → count ≤ tokenLimit → ((ts : Tokens) × (list t level count at ≡ read ts e d)) ↔ Listed t level count at d e
+pub list-stands : (t : List ℕ) (level count at d e : ℕ) → 1 ≤ level → count ≤ tokenLimit → ((ts : Tokens) × (list t level count at ≡ read ts e d)) ↔ ListEnds t level count at d e
 list-stands t level count at d e l k = ((λ q. list-there t level count at (q .0) e d l k (q .1)), λ m. list-here l m)
 
 -- and it is missing exactly if its first token is

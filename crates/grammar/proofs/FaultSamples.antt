@@ -10,7 +10,7 @@ use Rattle.base.specs.Text.{ascii}
 use Rattle.base.specs.declared.Refusal.the-variants.{Unexpected, JumpAtBound}
 use Rattle.meaning.specs.Tokens.{Jump, total, totalIn, totals}
 use Rattle.reading.specs.Blanks.{blank, blanks, skip}
-use Rattle.reading.specs.Pieces.{within, digit, twoDigits, byteAt, oneDigit, maskedAt, hexAt, plainly, negated, notAt, decimals, numeral, numberAt, dashAt, lowerAt, rangeAt, jumped, plainAt, _else_}
+use Rattle.reading.specs.Pieces.{within, digit, twoDigits, byteAt, oneDigit, maskedAt, hexAt, hexToken, negated, notAt, decimals, numeral, numberAt, dashAt, lowerAt, rangeAt, jumped, leafAt, _else_}
 use Rattle.reading.specs.Lists.{tokenOr, bracketed, tokenF}
 use Rattle.grammar.specs.Grammar as rule
 use Rattle.grammar.specs.Grammar.{Text, Clear, Gap}
@@ -30,14 +30,14 @@ abbrev two-bytes : Text
 two-bytes = ascii "{ AB CD x }"
 
 third : Missing two-bytes 1 8
-unfolding within digit twoDigits byteAt oneDigit maskedAt hexAt plainly negated notAt rangeAt jumped plainAt _else_ tokenOr bracketed tokenF
+unfolding within digit twoDigits byteAt oneDigit maskedAt hexAt hexToken negated notAt rangeAt jumped leafAt _else_ tokenOr bracketed tokenF
 third = missing-there two-bytes 1 2 8 (omega arith, omega arith) refl
 
 pub not-closed : Fault (ascii "{ AB CD x }") Unexpected 8
 unfolding total totalIn totals
 not-closed =
     fault.not-closed (fault.outermost (omega arith) (fault.stands {s = ascii "{ "} {r = ascii "AB CD x }"} refl (rule.mark one) (clear (code "A") (omega arith))))
-    (fault.listed (omega arith) (fault.stands {s = ascii "AB CD "} {r = ascii "x }"} refl (rule.more {a = ascii "AB "} refl ab (rule.list (rule.only cd))) (clear 120 (omega arith))) refl (omega arith) third)
+    (fault.list-ends (omega arith) (fault.stands {s = ascii "AB CD "} {r = ascii "x }"} refl (rule.more {a = ascii "AB "} refl ab (rule.list (rule.only cd))) (clear 120 (omega arith))) refl (omega arith) third)
     (λ e m. let h = mark-here m .0 in omega arith)
 
 -- `AB [2-3] ` ends at 11 with a jump, at 2 it begins
@@ -53,7 +53,7 @@ jump =
     (λ h k. omega arith) (λ h. omega arith)
 
 after-jump : Missing then-jump 1 11
-unfolding blank blanks skip within digit twoDigits byteAt oneDigit maskedAt hexAt plainly negated notAt decimals numeral numberAt dashAt lowerAt rangeAt jumped plainAt _else_ tokenOr bracketed tokenF
+unfolding blank blanks skip within digit twoDigits byteAt oneDigit maskedAt hexAt hexToken negated notAt decimals numeral numberAt dashAt lowerAt rangeAt jumped leafAt _else_ tokenOr bracketed tokenF
 after-jump = missing-there then-jump 1 2 11 (omega arith, omega arith) refl
 
 pub ends-with-jump : Fault (ascii "{ AB [2-3] [x }") JumpAtBound 2

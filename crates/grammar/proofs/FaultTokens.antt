@@ -16,10 +16,10 @@ use Rattle.meaning.specs.Limits.{tokenLimit, levelLimit}
 use Rattle.meaning.specs.Tokens.{left, right, all, Token, Lists, NotByte, NotMaskedByte, Jump, Alternatives, totalIn}
 use Rattle.reading.specs.Blanks.{here, skip}
 use Rattle.reading.specs.Given as given
-use Rattle.reading.specs.Pieces.{Seen, found, absent, refused, _else_, Hex, whole, masked, hexAt, negated, plainAt}
+use Rattle.reading.specs.Pieces.{Seen, found, absent, refused, _else_, Hex, whole, masked, hexAt, negated, leafAt}
 use Rattle.reading.specs.Lists.{Parsed, read, missing, stopped, tokenOr, asToken, bracketed, token, lists, enough}
 use Rattle.reading.proofs.PieceLaws.{never}
-use Rattle.reading.proofs.PieceSteps.{not-hex, plain-not}
+use Rattle.reading.proofs.PieceSteps.{not-hex, leaf-not}
 use Rattle.reading.proofs.InToken.{opens, in-token-refuses, refused-in-token}
 use Rattle.reading.proofs.ListSteps.{token-step}
 use Rattle.grammar.specs.Grammar.{Gap}
@@ -28,8 +28,8 @@ use Rattle.grammar.specs.Faults.{Stands, Spells, Missing}
 use Rattle.grammar.proofs.Spelling.{_⨾_, NoBlank, SpellsToken, NoJump, depthIn}
 use Rattle.grammar.proofs.Standing.{after, here-is, here-cons}
 use Rattle.grammar.proofs.Fronts.{marked-form}
-use Rattle.grammar.proofs.PiecesSpelled.{Plain, plain-or}
-use Rattle.grammar.proofs.PiecesRead.{plain-found}
+use Rattle.grammar.proofs.PiecesSpelled.{Leaf, leaf-or}
+use Rattle.grammar.proofs.PiecesRead.{leaf-found}
 use Rattle.grammar.proofs.ListsSpelled.{Right, token-right}
 use Rattle.grammar.proofs.ListsRead.{token-is-read, token-found}
 use Rattle.grammar.proofs.Ends.{TokenAfter, token-after}
@@ -55,14 +55,14 @@ token-spells level tok s l d p = go (jump-or tok)
         inr (subst (λ (x : Token). Gap level x s) (sym (j .2)) q)
 
 -- what stands there is seen: a token other than alternatives, or the `(` of those
-pub seen : {t : List ℕ} {level at e : ℕ} {tok : Token} → Level level → Stands t (Spells level tok) at e → ((s : ℕ) × (plainAt t (ltb 1 level) at ≡ found tok s e)) ⊎ (here t at ≡ code "(")
+pub seen : {t : List ℕ} {level at e : ℕ} {tok : Token} → Level level → Stands t (Spells level tok) at e → ((s : ℕ) × (leafAt t (ltb 1 level) at ≡ found tok s e)) ⊎ (here t at ≡ code "(")
 unfolding SpellsToken _⨾_
-seen {t} {level} {at} {e} {tok} l m = go (plain-or tok) (stood m)
+seen {t} {level} {at} {e} {tok} l m = go (leaf-or tok) (stood m)
   where
-    go : Plain tok ⊎ ((ls : Lists) × (tok ≡ Alternatives ls)) → ((s : List ℕ) × (r : List ℕ) × (drop at t ≡ s ++ r) × Spells level tok s × NoBlank r × (e ≡ at + length s))
-        → ((s : ℕ) × (plainAt t (ltb 1 level) at ≡ found tok s e)) ⊎ (here t at ≡ code "(")
+    go : Leaf tok ⊎ ((ls : Lists) × (tok ≡ Alternatives ls)) → ((s : List ℕ) × (r : List ℕ) × (drop at t ≡ s ++ r) × Spells level tok s × NoBlank r × (e ≡ at + length s))
+        → ((s : ℕ) × (leafAt t (ltb 1 level) at ≡ found tok s e)) ⊎ (here t at ≡ code "(")
     go (inl k) s =
-        let q = plain-found t (ltb 1 level) at tok (s .0) (s .1) k (s .2) (spells-token l (s .3) .0) (s .4) in
+        let q = leaf-found t (ltb 1 level) at tok (s .0) (s .1) k (s .2) (spells-token l (s .3) .0) (s .4) in
         inl (q .0, q .1 ∙ ap (λ (x : ℕ). found tok (q .0) x) (sym (s .5)))
     go (inr k) s =
         let p = subst (λ (x : Token). SpellsToken (ltb 1 level) x (s .0)) (k .1) (spells-token l (s .3) .0) in
@@ -97,8 +97,8 @@ token-stands t level count at tok e d l = (
 )
 
 -- a token other than alternatives stands where it is found
-pub plain-there : (t : List ℕ) (level at : ℕ) (tok : Token) (s e : ℕ) → Level level → plainAt t (ltb 1 level) at ≡ found tok s e → Stands t (Spells level tok) at e
-plain-there t level at tok s e l q = token-there t level 0 at tok e 1 l (token-found t level 0 at tok s e q (omega arith)) .0
+pub leaf-there : (t : List ℕ) (level at : ℕ) (tok : Token) (s e : ℕ) → Level level → leafAt t (ltb 1 level) at ≡ found tok s e → Stands t (Spells level tok) at e
+leaf-there t level at tok s e l q = token-there t level 0 at tok e 1 l (token-found t level 0 at tok s e q (omega arith)) .0
 
 -- refusals within a token
 no-tilde : {A : Type 0} (t : List ℕ) (at : ℕ) → here t at ≡ code "[" → here t at ≡ code "~" → A
@@ -132,14 +132,14 @@ tilde-first t at h = let e : suc at ≡ at + 1 = omega arith in here-cons t at (
 
 pub in-token-there : {t : List ℕ} {level at p : ℕ} {r : Refusal} → Level level → given.InToken t (ltb 1 level) at r p → fault.InToken t level at r p
 in-token-there {t} {level} {at} l (given.after-tilde h q) =
-    let x : plainAt t (ltb 1 level) at ≡ refused Unexpected (at + 1) = in-token-refuses (given.after-tilde h q) in
+    let x : leafAt t (ltb 1 level) at ≡ refused Unexpected (at + 1) = in-token-refuses (given.after-tilde h q) in
     fault.after-tilde (tilde-first t at h) (λ u e.
     let m = marks-here t at u e in
-    let y : plainAt t (ltb 1 level) at ≡ refused CannotNegateMaskAll at = in-token-refuses (given.tilde-all h (m .0) (m .1)) in
+    let y : leafAt t (ltb 1 level) at ≡ refused CannotNegateMaskAll at = in-token-refuses (given.tilde-all h (m .0) (m .1)) in
     let z : at ≡ at + 1 = cc in
     omega arith) (λ tok e s. go x (seen l s))
   where
-    go : {tok : Token} {e p : ℕ} {r : Refusal} → plainAt t (ltb 1 level) at ≡ refused r p → ((s : ℕ) × (plainAt t (ltb 1 level) at ≡ found tok s e)) ⊎ (here t at ≡ code "(") → ⊥
+    go : {tok : Token} {e p : ℕ} {r : Refusal} → leafAt t (ltb 1 level) at ≡ refused r p → ((s : ℕ) × (leafAt t (ltb 1 level) at ≡ found tok s e)) ⊎ (here t at ≡ code "(") → ⊥
     go x (inl y) = let z = y .1 in never (cc)
     go x (inr y) = omega arith
 in-token-there {t} {level} {at} l (given.tilde-all h k m) = fault.tilde-all (tilde-first t at h ∙ ap (λ (x : List ℕ). code "~" ∷ x) (marks-after t at k m))
@@ -157,23 +157,23 @@ tilde-here t level at r l h n k = go (hexAt t (at + 1)) refl
     o : here t at ≡ code "~"
     o = here-is t at (code "~") r h
 
-    stops : (x : Refusal) (p : ℕ) → plainAt t (ltb 1 level) at ≡ refused x p → hexAt t (at + 1) ≡ absent
+    stops : (x : Refusal) (p : ℕ) → leafAt t (ltb 1 level) at ≡ refused x p → hexAt t (at + 1) ≡ absent
     stops x p q = by (at-tilde (refused-in-token t at (ltb 1 level) x p q) o)
       where
         by : (hexAt t (at + 1) ≡ absent) ⊎ ((here t (at + 1) ≡ code "?") × (here t (at + 2) ≡ code "?")) → hexAt t (at + 1) ≡ absent
         by (inl e) = e
         by (inr e) = absurd (n (drop (at + 3) t) (sym (after t at (code "~" ∷ []) r h) ∙ marks-after t at (e .0) (e .1)))
 
-    stood-there : {A : Type 0} (tok : Token) (s e : ℕ) → plainAt t (ltb 1 level) at ≡ found tok s e → A
-    stood-there tok s e q = absurd (k tok e (plain-there t level at tok s e l q))
+    stood-there : {A : Type 0} (tok : Token) (s e : ℕ) → leafAt t (ltb 1 level) at ≡ found tok s e → A
+    stood-there tok s e q = absurd (k tok e (leaf-there t level at tok s e l q))
 
     go : (x : Seen Hex) → hexAt t (at + 1) ≡ x → hexAt t (at + 1) ≡ absent
-    go (found (whole v) s e) j = stood-there (NotByte v) s e (plain-not t at (ltb 1 level) (not-hex t at o j))
-    go (found (masked v left) s e) j = stood-there (NotMaskedByte v left) s e (plain-not t at (ltb 1 level) (not-hex t at o j))
-    go (found (masked v right) s e) j = stood-there (NotMaskedByte v right) s e (plain-not t at (ltb 1 level) (not-hex t at o j))
-    go (found (masked v all) s e) j = stops _ at (plain-not t at (ltb 1 level) (not-hex t at o j))
+    go (found (whole v) s e) j = stood-there (NotByte v) s e (leaf-not t at (ltb 1 level) (not-hex t at o j))
+    go (found (masked v left) s e) j = stood-there (NotMaskedByte v left) s e (leaf-not t at (ltb 1 level) (not-hex t at o j))
+    go (found (masked v right) s e) j = stood-there (NotMaskedByte v right) s e (leaf-not t at (ltb 1 level) (not-hex t at o j))
+    go (found (masked v all) s e) j = stops _ at (leaf-not t at (ltb 1 level) (not-hex t at o j))
     go absent j = j
-    go (refused x p) j = stops x p (plain-not t at (ltb 1 level) (not-hex t at o j))
+    go (refused x p) j = stops x p (leaf-not t at (ltb 1 level) (not-hex t at o j))
 
 pub in-token-here : {t : List ℕ} {level at p : ℕ} {r : Refusal} → Level level → fault.InToken t level at r p → given.InToken t (ltb 1 level) at r p
 in-token-here {t} {level} {at} l (fault.after-tilde {r = r} h n k) = given.after-tilde (here-is t at (code "~") r h) (tilde-here t level at r l h n k)
@@ -199,13 +199,13 @@ missing-there t level count at l q =
     let a = subst (λ (x : Parsed Token). TokenAfter t level at x) q (token-after t level count at) in
     ((λ tok e s. go (a .0) (a .1) (seen l s)), (λ r p i. let x = in-token-refuses (in-token-here l i) in let y = a .0 in never (cc)), λ e m. a .1 (mark-here m .0))
   where
-    go : {tok : Token} {e : ℕ} → plainAt t (ltb 1 level) at ≡ absent → (here t at ≡ code "(" → ⊥) → ((s : ℕ) × (plainAt t (ltb 1 level) at ≡ found tok s e)) ⊎ (here t at ≡ code "(") → ⊥
+    go : {tok : Token} {e : ℕ} → leafAt t (ltb 1 level) at ≡ absent → (here t at ≡ code "(" → ⊥) → ((s : ℕ) × (leafAt t (ltb 1 level) at ≡ found tok s e)) ⊎ (here t at ≡ code "(") → ⊥
     go x y (inl z) = let w = z .1 in never (cc)
     go x y (inr z) = y z
 
 pub missing-here : (t : List ℕ) (level count at : ℕ) → Level level → Missing t level at → token t level count at ≡ missing
 unfolding tokenOr bracketed
-missing-here t level count at l m = token-step t level count at ∙ go (plainAt t (ltb 1 level) at) refl
+missing-here t level count at l m = token-step t level count at ∙ go (leafAt t (ltb 1 level) at) refl
   where
     inner : Parsed Lists
     inner = lists t (level + 1) (count + 1) (skip t (at + 1)) (skip t (at + 1))
@@ -214,8 +214,8 @@ missing-here t level count at l m = token-step t level count at ∙ go (plainAt 
     bracket true i = absurd (m .2 (skip t (at + 1)) (mark-there t "(" at (eqb-true (here t at) (code "(") i) (omega arith)))
     bracket false i = refl
 
-    go : (x : Seen Token) → plainAt t (ltb 1 level) at ≡ x → tokenOr at count x (bracketed t at count inner) ≡ missing
-    go (found tok s e) q = absurd (m .0 tok e (plain-there t level at tok s e l q))
+    go : (x : Seen Token) → leafAt t (ltb 1 level) at ≡ x → tokenOr at count x (bracketed t at count inner) ≡ missing
+    go (found tok s e) q = absurd (m .0 tok e (leaf-there t level at tok s e l q))
     go absent q = bracket (eqb (here t at) (code "(")) refl
     go (refused r p) q = absurd (m .1 r p (in-token-there l (refused-in-token t at (ltb 1 level) r p q)))
 

@@ -13,15 +13,15 @@ use lib.ListN.{length, drop}
 use Rattle.meaning.specs.Limits.{tokenLimit, levelLimit}
 use Rattle.meaning.specs.Tokens.{Token, Tokens, Lists, Byte, NotByte, MaskedByte, NotMaskedByte, Jump, Alternatives, nothing, _then_, neither, _or_, totalIn, total, totals}
 use Rattle.reading.specs.Blanks.{here, skip}
-use Rattle.reading.specs.Pieces.{found, absent, within, digit, plainAt}
+use Rattle.reading.specs.Pieces.{found, absent, within, digit, leafAt}
 use Rattle.reading.specs.Lists.{Parsed, read, missing, tokenOr, asToken, bracketed, before, listOf, beside, token, more, list, lists}
 use Rattle.reading.proofs.ListSteps.{token-step, more-read, more-none, list-of, lists-closed, lists-barred}
 use Rattle.grammar.proofs.Spelling.{_⨾_, NoBlank, Bounded, SpellsToken, SpellsTokens, SpellsLists, SpellsRest, SpellsList, Marked, depthIn, depth, depths}
 use Rattle.grammar.proofs.Standing.{after, cut, here-is}
 use Rattle.grammar.proofs.Fronts.{Opens, opens-clear, opens-seq, cons-clear, mark-opens, token-opens, tokens-clear, marked-form, mark-seen}
-use Rattle.grammar.proofs.PiecesSpelled.{Plain}
-use Rattle.grammar.proofs.PiecesRead.{plain-found, plain-absent}
-use Rattle.grammar.proofs.ListsSpelled.{plain-one}
+use Rattle.grammar.proofs.PiecesSpelled.{Leaf}
+use Rattle.grammar.proofs.PiecesRead.{leaf-found, leaf-absent}
+use Rattle.grammar.proofs.ListsSpelled.{leaf-one}
 use Rattle.grammar.proofs.BoundLaws.{is-bounded}
 
 -- what ends a list: `)`, `|`, `}`
@@ -37,10 +37,10 @@ pub no-digits : (digit (code ")") ≡ none) × (digit (code "|") ≡ none) × (d
 unfolding digit within
 no-digits = (refl, refl, refl, refl)
 
-pub none-at : (t : List ℕ) (inside : Bool) (at c : ℕ) → here t at ≡ c → Closer c → plainAt t inside at ≡ absent
-none-at t inside at c h (inl e) = plain-absent t inside at (code ")") (h ∙ e) (no-digits .0) (omega arith) (omega arith) (omega arith)
-none-at t inside at c h (inr (inl e)) = plain-absent t inside at (code "|") (h ∙ e) (no-digits .1) (omega arith) (omega arith) (omega arith)
-none-at t inside at c h (inr (inr e)) = plain-absent t inside at (code "}") (h ∙ e) (no-digits .2) (omega arith) (omega arith) (omega arith)
+pub none-at : (t : List ℕ) (inside : Bool) (at c : ℕ) → here t at ≡ c → Closer c → leafAt t inside at ≡ absent
+none-at t inside at c h (inl e) = leaf-absent t inside at (code ")") (h ∙ e) (no-digits .0) (omega arith) (omega arith) (omega arith)
+none-at t inside at c h (inr (inl e)) = leaf-absent t inside at (code "|") (h ∙ e) (no-digits .1) (omega arith) (omega arith) (omega arith)
+none-at t inside at c h (inr (inr e)) = leaf-absent t inside at (code "}") (h ∙ e) (no-digits .2) (omega arith) (omega arith) (omega arith)
 
 no-bracket : (t : List ℕ) (at count c : ℕ) (ls : Parsed Lists) → here t at ≡ c → Closer c → bracketed t at count ls ≡ missing
 unfolding bracketed
@@ -56,7 +56,7 @@ token-missing t level count at c h k =
     ∙ rw (none-at t (ltb 1 level) at c h k) (no-bracket t at count c (lists t (level + 1) (count + 1) (skip t (at + 1)) (skip t (at + 1))) h k)
 
 -- a token other than alternatives
-pub token-found : (t : List ℕ) (level count at : ℕ) (tok : Token) (s e : ℕ) → plainAt t (ltb 1 level) at ≡ found tok s e → count < tokenLimit → token t level count at ≡ read tok e (count + 1)
+pub token-found : (t : List ℕ) (level count at : ℕ) (tok : Token) (s e : ℕ) → leafAt t (ltb 1 level) at ≡ found tok s e → count < tokenLimit → token t level count at ≡ read tok e (count + 1)
 unfolding tokenOr
 token-found t level count at tok s e h l = token-step t level count at ∙ rw (h, lt-ltb count tokenLimit l) refl
 
@@ -66,7 +66,7 @@ token-bracketed : (t : List ℕ) (level count at x : ℕ) (ls : Lists) (e c : �
 unfolding tokenOr bracketed asToken
 token-bracketed t level count at x ls e c h s l k =
     token-step t level count at
-    ∙ rw (plain-absent t (ltb 1 level) at (code "(") h (no-digits .3) (omega arith) (omega arith) (omega arith), h, s, lt-ltb count tokenLimit l, k) refl
+    ∙ rw (leaf-absent t (ltb 1 level) at (code "(") h (no-digits .3) (omega arith) (omega arith) (omega arith), h, s, lt-ltb count tokenLimit l, k) refl
 
 -- a list
 pub list-bounded : (t : List ℕ) (level count at : ℕ) (ts : Tokens) (e c : ℕ) → level ≤ levelLimit → Bounded ts → more t level count at ≡ read ts e c → list t level count at ≡ read ts e c
@@ -113,10 +113,10 @@ RestRead ls =
     (t : List ℕ) (level count at miss : ℕ) (ts : Tokens) (x n : ℕ) (w r : List ℕ) → list t level count at ≡ read ts x n → drop x t ≡ w ++ r → NoBlank r → SpellsRest ls w
     → 2 ≤ level → level + depths ls ≤ suc levelLimit → n + totals ls ≤ tokenLimit → lists t level count at miss ≡ read (ts or ls) (x + length w) (n + totals ls)
 
-plain-read : (tok : Token) → Plain tok → TokenRead tok
-plain-read tok k t level count at w r h q p l d n =
-    let x = plain-found t (ltb 1 level) at tok w r k h p q in
-    let o = plain-one tok k in
+leaf-read : (tok : Token) → Leaf tok → TokenRead tok
+leaf-read tok k t level count at w r h q p l d n =
+    let x = leaf-found t (ltb 1 level) at tok w r k h p q in
+    let o = leaf-one tok k in
     let e : count + 1 ≡ count + totalIn tok = omega arith in
     token-found t level count at tok (x .0) (at + length w) (x .1) (omega arith) ∙ ap (λ (m : ℕ). read tok (at + length w) m) e
 
@@ -224,14 +224,14 @@ unfolding SpellsLists
 lists-read ts ls x y t level count at miss w r h q p l d n = both-read ts ls x y t level count at miss w r h q (p .0) (p .1) l d n
 
 mutual
-  unfolding Plain
+  unfolding Leaf
 
   pub token-is-read : (tok : Token) → TokenRead tok
-  token-is-read (Byte v) = plain-read (Byte v) tt
-  token-is-read (NotByte v) = plain-read (NotByte v) tt
-  token-is-read (MaskedByte v m) = plain-read (MaskedByte v m) tt
-  token-is-read (NotMaskedByte v m) = plain-read (NotMaskedByte v m) tt
-  token-is-read (Jump from to) = plain-read (Jump from to) tt
+  token-is-read (Byte v) = leaf-read (Byte v) tt
+  token-is-read (NotByte v) = leaf-read (NotByte v) tt
+  token-is-read (MaskedByte v m) = leaf-read (MaskedByte v m) tt
+  token-is-read (NotMaskedByte v m) = leaf-read (NotMaskedByte v m) tt
+  token-is-read (Jump from to) = leaf-read (Jump from to) tt
   token-is-read (Alternatives ls) = alternatives-read ls (lists-are-read ls)
 
   pub more-is-read : (ts : Tokens) → MoreRead ts

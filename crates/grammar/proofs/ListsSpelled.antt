@@ -11,11 +11,11 @@ use Rattle.base.specs.declared.Refusal.the-variants.{TooManyTokens, Unexpected,
 use Rattle.meaning.specs.Limits.{tokenLimit, levelLimit}
 use Rattle.meaning.specs.Tokens.{Token, Tokens, Lists, Byte, NotByte, MaskedByte, NotMaskedByte, Jump, Alternatives, nothing, _then_, neither, _or_, totalIn, total, totals}
 use Rattle.reading.specs.Blanks.{here, skip}
-use Rattle.reading.specs.Pieces.{Seen, found, absent, refused, plainAt}
+use Rattle.reading.specs.Pieces.{Seen, found, absent, refused, leafAt}
 use Rattle.reading.specs.Lists.{Parsed, read, missing, stopped, tokenOr, asToken, bracketed, before, thenMore, atBound, listOf, beside, thenLists, tokenF, moreF, listF, listsF}
 use Rattle.grammar.proofs.Spelling.{Language, _⨾_, Marked, SpellsToken, SpellsTokens, SpellsLists, SpellsRest, SpellsList, depthIn, depth, depths}
 use Rattle.grammar.proofs.Standing.{Stands, seq, change, mark-stands}
-use Rattle.grammar.proofs.PiecesSpelled.{Sound, Plain, SpellsPlain, plain-sound, nothing-stands}
+use Rattle.grammar.proofs.PiecesSpelled.{Sound, Leaf, SpellsLeaf, leaf-sound, nothing-stands}
 use Rattle.grammar.proofs.BoundLaws.{bounded}
 
 -- what was read stands there; it has the tokens that were counted, at most 512 with those before it; and it has no more levels than were left
@@ -36,23 +36,23 @@ ListRight t level count at = Right (SpellsList (ltb 1 level)) (λ ts. total ts) 
 abbrev ListsRight : List ℕ → ℕ → ℕ → ℕ → Parsed Lists → Type 0
 ListsRight t level count at = Right (λ ls s. SpellsLists ls s) (λ ls. totals ls) (λ ls. depths ls) t (suc levelLimit - level) count at
 
-pub plain-one : (tok : Token) → Plain tok → (totalIn tok ≡ 1) × (depthIn tok ≡ 0)
-unfolding Plain totalIn depthIn
-plain-one (Byte v) h = (refl, refl)
-plain-one (NotByte v) h = (refl, refl)
-plain-one (MaskedByte v m) h = (refl, refl)
-plain-one (NotMaskedByte v m) h = (refl, refl)
-plain-one (Jump from to) h = (refl, refl)
-plain-one (Alternatives ls) h = absurd h
+pub leaf-one : (tok : Token) → Leaf tok → (totalIn tok ≡ 1) × (depthIn tok ≡ 0)
+unfolding Leaf totalIn depthIn
+leaf-one (Byte v) h = (refl, refl)
+leaf-one (NotByte v) h = (refl, refl)
+leaf-one (MaskedByte v m) h = (refl, refl)
+leaf-one (NotMaskedByte v m) h = (refl, refl)
+leaf-one (Jump from to) h = (refl, refl)
+leaf-one (Alternatives ls) h = absurd h
 
-token-or-right : (t : List ℕ) (level count at : ℕ) (x : Seen Token) (other : Parsed Token) → Sound (SpellsPlain (ltb 1 level)) t at x → TokenRight t level count at other
+token-or-right : (t : List ℕ) (level count at : ℕ) (x : Seen Token) (other : Parsed Token) → Sound (SpellsLeaf (ltb 1 level)) t at x → TokenRight t level count at other
     → TokenRight t level count at (tokenOr at count x other)
-unfolding Right Sound tokenOr SpellsPlain
+unfolding Right Sound tokenOr SpellsLeaf
 token-or-right t level count at (found tok s e) other p q = go (ltb count tokenLimit) refl
   where
     go : (a : Bool) → ltb count tokenLimit ≡ a → TokenRight t level count at (cond a (read tok e (count + 1)) (stopped TooManyTokens at))
     go true d =
-        let o = plain-one tok (p .spelled .1) in
+        let o = leaf-one tok (p .spelled .1) in
         let l : count < tokenLimit = ltb-true count tokenLimit d in
         (change (λ u z. z .0) p, omega arith, omega arith, omega arith)
     go false d = tt
@@ -159,7 +159,7 @@ mutual
   pub token-right : (f : ℕ) (t : List ℕ) (level count at : ℕ) → 1 ≤ level → TokenRight t level count at (tokenF f t level count at)
   token-right zero t level count at l = tt
   token-right (suc f) t level count at l =
-      token-or-right t level count at (plainAt t (ltb 1 level) at) (bracketed t at count (listsF f t (level + 1) (count + 1) (skip t (at + 1)) (skip t (at + 1)))) (plain-sound t (ltb 1 level) at)
+      token-or-right t level count at (leafAt t (ltb 1 level) at) (bracketed t at count (listsF f t (level + 1) (count + 1) (skip t (at + 1)) (skip t (at + 1)))) (leaf-sound t (ltb 1 level) at)
       (bracketed-right t level count at (listsF f t (level + 1) (count + 1) (skip t (at + 1)) (skip t (at + 1)))
       (λ h. lists-right-all f t (level + 1) (count + 1) (skip t (at + 1)) (skip t (at + 1)) (omega arith) (omega arith)))
 

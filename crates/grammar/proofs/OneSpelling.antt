@@ -13,8 +13,8 @@ use Rattle.reading.proofs.PieceLaws.{never}
 use Rattle.grammar.proofs.Spelling.{_⨾_, NoBlank, Marked, SpellsToken, SpellsTokens, SpellsLists, SpellsRest, SpellsString, SpellsText}
 use Rattle.grammar.proofs.Standing.{cut, here-is}
 use Rattle.grammar.proofs.Fronts.{opens-clear, cons-clear, tokens-clear, marked-form, mark-seen}
-use Rattle.grammar.proofs.PiecesSpelled.{Plain, plain-or}
-use Rattle.grammar.proofs.PiecesRead.{plain-found, plain-absent}
+use Rattle.grammar.proofs.PiecesSpelled.{Leaf, leaf-or}
+use Rattle.grammar.proofs.PiecesRead.{leaf-found, leaf-absent}
 use Rattle.grammar.proofs.ListsRead.{Closer, closer-high, no-digits, none-at, lists-clear, rest-form, rest-opens, outer-clear}
 
 mark-front : (t : List ℕ) (at c : ℕ) (w a b r : List ℕ) → drop at t ≡ w ++ r → w ≡ a ++ b → Marked c a → here t at ≡ c
@@ -28,23 +28,23 @@ unfolding SpellsToken _⨾_
 bracket-front ls inside t at w r h p = mark-front t at (code "(") w (p .0) (p .1) r h (p .2) (p .3)
 
 not-both : (ls : Lists) (inside : Bool) (t : List ℕ) (at : ℕ) (tok : Token) (w r w′ r′ : List ℕ) → drop at t ≡ w ++ r → SpellsToken inside (Alternatives ls) w
-    → Plain tok → drop at t ≡ w′ ++ r′ → NoBlank r′ → SpellsToken inside tok w′ → ⊥
+    → Leaf tok → drop at t ≡ w′ ++ r′ → NoBlank r′ → SpellsToken inside tok w′ → ⊥
 not-both ls inside t at tok w r w′ r′ h p k h′ q′ p′ =
-    let a = plain-absent t inside at (code "(") (bracket-front ls inside t at w r h p) (no-digits .3) (omega arith) (omega arith) (omega arith) in
-    let f = plain-found t inside at tok w′ r′ k h′ p′ q′ in
+    let a = leaf-absent t inside at (code "(") (bracket-front ls inside t at w r h p) (no-digits .3) (omega arith) (omega arith) (omega arith) in
+    let f = leaf-found t inside at tok w′ r′ k h′ p′ q′ in
     never (cc (a, f .1))
 
 -- nor does any where a list ends
 no-token : (inside : Bool) (t : List ℕ) (at c : ℕ) (tok : Token) (w r : List ℕ) → here t at ≡ c → Closer c → drop at t ≡ w ++ r → NoBlank r → SpellsToken inside tok w → ⊥
-no-token inside t at c tok w r e k h q p = go (plain-or tok)
+no-token inside t at c tok w r e k h q p = go (leaf-or tok)
   where
     bracket : c ≡ code "(" → Closer c → ⊥
     bracket z (inl y) = omega arith
     bracket z (inr (inl y)) = omega arith
     bracket z (inr (inr y)) = omega arith
 
-    go : Plain tok ⊎ ((ls : Lists) × (tok ≡ Alternatives ls)) → ⊥
-    go (inl l) = let f = plain-found t inside at tok w r l h p q in never (cc (none-at t inside at c e k, f .1))
+    go : Leaf tok ⊎ ((ls : Lists) × (tok ≡ Alternatives ls)) → ⊥
+    go (inl l) = let f = leaf-found t inside at tok w r l h p q in never (cc (none-at t inside at c e k, f .1))
     go (inr x) = bracket (sym e ∙ bracket-front (x .0) inside t at w r h (subst (λ (y : Token). SpellsToken inside y w) (x .1) p)) k
 
 mark-once : (t : List ℕ) (at c : ℕ) (w r w′ r′ : List ℕ) → drop at t ≡ w ++ r → NoBlank r → Marked c w → drop at t ≡ w′ ++ r′ → NoBlank r′ → Marked c w′ → length w ≡ length w′
@@ -75,13 +75,13 @@ RestOnce ls =
     (t : List ℕ) (at : ℕ) (ls′ : Lists) (w r w′ r′ : List ℕ) → drop at t ≡ w ++ r → NoBlank r → SpellsRest ls w → drop at t ≡ w′ ++ r′ → NoBlank r′ → SpellsRest ls′ w′
     → (ls ≡ ls′) × (length w ≡ length w′)
 
-plain-once : (tok : Token) → Plain tok → TokenOnce tok
-plain-once tok k inside t at tok′ w r w′ r′ h q p h′ q′ p′ = go (plain-or tok′)
+leaf-once : (tok : Token) → Leaf tok → TokenOnce tok
+leaf-once tok k inside t at tok′ w r w′ r′ h q p h′ q′ p′ = go (leaf-or tok′)
   where
-    go : Plain tok′ ⊎ ((ls : Lists) × (tok′ ≡ Alternatives ls)) → (tok ≡ tok′) × (length w ≡ length w′)
+    go : Leaf tok′ ⊎ ((ls : Lists) × (tok′ ≡ Alternatives ls)) → (tok ≡ tok′) × (length w ≡ length w′)
     go (inl l) =
-        let f = plain-found t inside at tok w r k h p q in
-        let g = plain-found t inside at tok′ w′ r′ l h′ p′ q′ in
+        let f = leaf-found t inside at tok w r k h p q in
+        let g = leaf-found t inside at tok′ w′ r′ l h′ p′ q′ in
         let e : at + length w ≡ at + length w′ = cc (f .1, g .1) in
         (cc (f .1, g .1), omega arith)
     go (inr x) = absurd (not-both (x .0) inside t at tok w′ r′ w r h′ (subst (λ (y : Token). SpellsToken inside y w′) (x .1) p′) k h q p)
@@ -102,9 +102,9 @@ alternatives-same ls k inside t at ls′ w r w′ r′ h q p h′ q′ p′ =
     (x .0, omega arith)
 
 alternatives-once : (ls : Lists) → ListsOnce ls → TokenOnce (Alternatives ls)
-alternatives-once ls k inside t at tok′ w r w′ r′ h q p h′ q′ p′ = go (plain-or tok′)
+alternatives-once ls k inside t at tok′ w r w′ r′ h q p h′ q′ p′ = go (leaf-or tok′)
   where
-    go : Plain tok′ ⊎ ((ls′ : Lists) × (tok′ ≡ Alternatives ls′)) → (Alternatives ls ≡ tok′) × (length w ≡ length w′)
+    go : Leaf tok′ ⊎ ((ls′ : Lists) × (tok′ ≡ Alternatives ls′)) → (Alternatives ls ≡ tok′) × (length w ≡ length w′)
     go (inl l) = absurd (not-both ls inside t at tok′ w r w′ r′ h p l h′ q′ p′)
     go (inr x) =
         let y = alternatives-same ls k inside t at (x .0) w r w′ r′ h q p h′ q′ (subst (λ (z : Token). SpellsToken inside z w′) (x .1) p′) in
@@ -197,14 +197,14 @@ next-once ts ls x y t at (ts′ or ls′) w r w′ r′ h q p h′ q′ p′ =
     (g .0, omega arith)
 
 mutual
-  unfolding Plain
+  unfolding Leaf
 
   token-is-one : (tok : Token) → TokenOnce tok
-  token-is-one (Byte v) = plain-once (Byte v) tt
-  token-is-one (NotByte v) = plain-once (NotByte v) tt
-  token-is-one (MaskedByte v m) = plain-once (MaskedByte v m) tt
-  token-is-one (NotMaskedByte v m) = plain-once (NotMaskedByte v m) tt
-  token-is-one (Jump from to) = plain-once (Jump from to) tt
+  token-is-one (Byte v) = leaf-once (Byte v) tt
+  token-is-one (NotByte v) = leaf-once (NotByte v) tt
+  token-is-one (MaskedByte v m) = leaf-once (MaskedByte v m) tt
+  token-is-one (NotMaskedByte v m) = leaf-once (NotMaskedByte v m) tt
+  token-is-one (Jump from to) = leaf-once (Jump from to) tt
   token-is-one (Alternatives ls) = alternatives-once ls (lists-are-one ls)
 
   more-is-one : (ts : Tokens) → MoreOnce ts

@@ -13,13 +13,13 @@ use lib.ListN.{length, drop}
 use Rattle.meaning.specs.Limits.{innerJumpLimit}
 use Rattle.meaning.specs.Tokens.{Mask, left, right, all, Token, Byte, NotByte, MaskedByte, NotMaskedByte, Jump, Alternatives}
 use Rattle.reading.specs.Blanks.{here, skip}
-use Rattle.reading.specs.Pieces.{found, absent, _else_, within, digit, Hex, whole, masked, hexAt, plainly, negated, decimals, numeral, numberAt, between, checked, closedAt, upperAt, dashAt, lowerAt, rangeAt, jumpToken, jumped, plainAt}
+use Rattle.reading.specs.Pieces.{found, absent, _else_, within, digit, Hex, whole, masked, hexAt, hexToken, negated, decimals, numeral, numberAt, between, checked, closedAt, upperAt, dashAt, lowerAt, rangeAt, jumpToken, jumped, leafAt}
 use Rattle.reading.proofs.PieceSteps.{byte-none, byte-half, byte-both, masked-all, masked-left, masked-right, masked-no-right, hex-byte, hex-masked, not-else, not-hex, number-absent, number-found, checked-open, checked-both, closed-at, dash-at, range-else, range-at, lower-closed, lower-dash, jumped-open, jumped-found}
 use Rattle.grammar.proofs.Spelling.{_⨾_, Blank, Blanks, NoBlank, Spaced, Sign, Marked, HexDigit, Whole, Masked, Decimals, value, Numeral, Number, From, To, Single, Dashed, Bracketed, Ordered, Bounds, Allowed, NotOne, AsJump, Negatable, SpellsToken}
 use Rattle.grammar.proofs.Standing.{after, cut, here-is, skips}
 use Rattle.grammar.proofs.DigitLaws.{digit-complete, digits-count, digits-value, in-within, below-within}
 use Rattle.grammar.proofs.Fronts.{digit-range, two-form, two-seen, mark-seen, marked-form, number-opens, mark-opens, opens-clear, opens-seq, cons-clear, from-clear, to-clear, OpensLow, whole-low, masked-low}
-use Rattle.grammar.proofs.PiecesSpelled.{Plain, SpellsHex}
+use Rattle.grammar.proofs.PiecesSpelled.{Leaf, SpellsHex}
 
 -- a byte
 byte-found : (t : List ℕ) (at v : ℕ) (w r : List ℕ) → drop at t ≡ w ++ r → Spaced (Whole v) w → NoBlank r → hexAt t at ≡ found (whole v) (at + 2) (at + length w)
@@ -249,55 +249,55 @@ hex-absent t at c p h n =
     let d : digit (here t at) ≡ none = ap digit p ∙ h in
     hex-masked t at (byte-none t at d) ∙ masked-no-right t at (λ e. n (sym p ∙ e)) d
 
-pub plain-absent : (t : List ℕ) (inside : Bool) (at c : ℕ) → here t at ≡ c → digit c ≡ none → (c ≡ code "?" → ⊥) → (c ≡ code "~" → ⊥) → (c ≡ code "[" → ⊥) → plainAt t inside at ≡ absent
-unfolding plainAt plainly jumped _else_
-plain-absent t inside at c p h i j k = rw (not-else t at (λ e. j (sym p ∙ e)), hex-absent t at c p h i, range-else t at (λ e. k (sym p ∙ e))) refl
+pub leaf-absent : (t : List ℕ) (inside : Bool) (at c : ℕ) → here t at ≡ c → digit c ≡ none → (c ≡ code "?" → ⊥) → (c ≡ code "~" → ⊥) → (c ≡ code "[" → ⊥) → leafAt t inside at ≡ absent
+unfolding leafAt hexToken jumped _else_
+leaf-absent t inside at c p h i j k = rw (not-else t at (λ e. j (sym p ∙ e)), hex-absent t at c p h i, range-else t at (λ e. k (sym p ∙ e))) refl
 
 -- the tokens that are no alternatives
-plain-hex : (t : List ℕ) (inside : Bool) (at : ℕ) (x : Hex) (tok : Token) (s e : ℕ) → (here t at ≡ code "~" → ⊥) → hexAt t at ≡ found x s e → plainly (found x s e) ≡ found tok s e
-    → plainAt t inside at ≡ found tok s e
-unfolding plainAt _else_
-plain-hex t inside at x tok s e n h k = rw (not-else t at n, h, k) refl
+leaf-hex : (t : List ℕ) (inside : Bool) (at : ℕ) (x : Hex) (tok : Token) (s e : ℕ) → (here t at ≡ code "~" → ⊥) → hexAt t at ≡ found x s e → hexToken (found x s e) ≡ found tok s e
+    → leafAt t inside at ≡ found tok s e
+unfolding leafAt _else_
+leaf-hex t inside at x tok s e n h k = rw (not-else t at n, h, k) refl
 
-plain-negated : (t : List ℕ) (inside : Bool) (at : ℕ) (x : Hex) (tok : Token) (s e : ℕ) → here t at ≡ code "~" → hexAt t (at + 1) ≡ found x s e
-    → negated at (found x s e) ≡ found tok s e → plainAt t inside at ≡ found tok s e
-unfolding plainAt _else_
-plain-negated t inside at x tok s e p h k = rw (not-hex t at p h, k) refl
+leaf-negated : (t : List ℕ) (inside : Bool) (at : ℕ) (x : Hex) (tok : Token) (s e : ℕ) → here t at ≡ code "~" → hexAt t (at + 1) ≡ found x s e
+    → negated at (found x s e) ≡ found tok s e → leafAt t inside at ≡ found tok s e
+unfolding leafAt _else_
+leaf-negated t inside at x tok s e p h k = rw (not-hex t at p h, k) refl
 
 no-digit-opening : digit (code "[") ≡ none
 unfolding digit within
 no-digit-opening = refl
 
-plain-jump : (t : List ℕ) (inside : Bool) (at from : ℕ) (to : Option ℕ) (tok : Token) (s e : ℕ) → here t at ≡ code "[" → rangeAt t at ≡ found (between from to) s e
-    → jumped inside at (found (between from to) s e) ≡ found tok s e → plainAt t inside at ≡ found tok s e
-unfolding plainAt plainly _else_
-plain-jump t inside at from to tok s e p h k = rw (not-else t at (omega arith), hex-absent t at (code "[") p no-digit-opening (omega arith), h, k) refl
+leaf-jump : (t : List ℕ) (inside : Bool) (at from : ℕ) (to : Option ℕ) (tok : Token) (s e : ℕ) → here t at ≡ code "[" → rangeAt t at ≡ found (between from to) s e
+    → jumped inside at (found (between from to) s e) ≡ found tok s e → leafAt t inside at ≡ found tok s e
+unfolding leafAt hexToken _else_
+leaf-jump t inside at from to tok s e p h k = rw (not-else t at (omega arith), hex-absent t at (code "[") p no-digit-opening (omega arith), h, k) refl
 
 low-found : (t : List ℕ) (inside : Bool) (at : ℕ) (x : Hex) (tok : Token) (w r : List ℕ) → drop at t ≡ w ++ r → SpellsHex x w → OpensLow w → NoBlank r
-    → plainly (found x (at + 2) (at + length w)) ≡ found tok (at + 2) (at + length w) → (s : ℕ) × (plainAt t inside at ≡ found tok s (at + length w))
+    → hexToken (found x (at + 2) (at + length w)) ≡ found tok (at + 2) (at + length w) → (s : ℕ) × (leafAt t inside at ≡ found tok s (at + length w))
 low-found t inside at x tok w r h p o q k =
     let i : o .0 ≤ code "f" = o .4 in
     let j : here t at ≡ o .0 = here-is t at (o .0) (o .1 ++ r) (h ∙ ap (λ (s : List ℕ). s ++ r) (o .2)) in
-    (at + 2, plain-hex t inside at x tok (at + 2) (at + length w) (omega arith) (hex-found t at x w r h p q) k)
+    (at + 2, leaf-hex t inside at x tok (at + 2) (at + length w) (omega arith) (hex-found t at x w r h p q) k)
 
 not-found : (t : List ℕ) (inside : Bool) (at : ℕ) (x : Hex) (tok : Token) (w r : List ℕ) → drop at t ≡ w ++ r → (Sign (code "~") ⨾ SpellsHex x) w → NoBlank r
-    → ((s e : ℕ) → negated at (found x s e) ≡ found tok s e) → (s : ℕ) × (plainAt t inside at ≡ found tok s (at + length w))
+    → ((s e : ℕ) → negated at (found x s e) ≡ found tok s e) → (s : ℕ) × (leafAt t inside at ≡ found tok s (at + length w))
 unfolding _⨾_ Sign
 not-found t inside at x tok w r h p q k =
     let c = cut t at w (code "~" ∷ []) (p .1) r h (p .2 ∙ ap (λ (s : List ℕ). s ++ p .1) (p .3)) in
     let l : length w ≡ 1 + length (p .1) = c .2 in
     let e : at + 1 + length (p .1) ≡ at + length w = omega arith in (
       at + 1 + 2,
-      plain-negated t inside at x tok (at + 1 + 2) (at + length w) (here-is t at (code "~") (p .1 ++ r) (c .0))
+      leaf-negated t inside at x tok (at + 1 + 2) (at + length w) (here-is t at (code "~") (p .1 ++ r) (c .0))
           (hex-found t (at + 1) x (p .1) r (c .1) (p .4) q ∙ ap (λ (y : ℕ). found x (at + 1 + 2) y) e) (k (at + 1 + 2) (at + length w)),
     )
 
 bounds-found : (t : List ℕ) (inside : Bool) (at from : ℕ) (to : Option ℕ) (tok : Token) (w r : List ℕ) → drop at t ≡ w ++ r → Bounds from to w → NoBlank r
-    → ((s e : ℕ) → jumped inside at (found (between from to) s e) ≡ found tok s e) → (s : ℕ) × (plainAt t inside at ≡ found tok s (at + length w))
+    → ((s e : ℕ) → jumped inside at (found (between from to) s e) ≡ found tok s e) → (s : ℕ) × (leafAt t inside at ≡ found tok s (at + length w))
 bounds-found t inside at from to tok w r h p q k =
     let x = range-found t at from to w r h p q in
     let f = bounds-front from to w p in
-    (x .0, plain-jump t inside at from to tok (x .0) (at + length w) (here-is t at (code "[") (f .0 ++ r) (h ∙ ap (λ (s : List ℕ). s ++ r) (f .1))) (x .1) (k (x .0) (at + length w)))
+    (x .0, leaf-jump t inside at from to tok (x .0) (at + length w) (here-is t at (code "[") (f .0 ++ r) (h ∙ ap (λ (s : List ℕ). s ++ r) (f .1))) (x .1) (k (x .0) (at + length w)))
 
 not-one : (from to : ℕ) → (from ≡ 1 → to ≡ 1 → ⊥) → jumpToken from to ≡ Jump from (some to)
 unfolding jumpToken
@@ -321,7 +321,7 @@ one-made true at s e = refl
 one-made false at s e = refl
 
 as-jump-found : (t : List ℕ) (inside : Bool) (at v : ℕ) (m : Mask) (w r : List ℕ) → drop at t ≡ w ++ r → AsJump v m w → NoBlank r
-    → (s : ℕ) × (plainAt t inside at ≡ found (MaskedByte v m) s (at + length w))
+    → (s : ℕ) × (leafAt t inside at ≡ found (MaskedByte v m) s (at + length w))
 unfolding AsJump
 as-jump-found t inside at v left w r h p q = absurd p
 as-jump-found t inside at v right w r h p q = absurd p
@@ -335,13 +335,13 @@ negated-made at v left s e n = refl
 negated-made at v right s e n = refl
 negated-made at v all s e n = absurd n
 
-pub plain-found : (t : List ℕ) (inside : Bool) (at : ℕ) (tok : Token) (w r : List ℕ) → Plain tok → drop at t ≡ w ++ r → SpellsToken inside tok w → NoBlank r
-    → (s : ℕ) × (plainAt t inside at ≡ found tok s (at + length w))
-unfolding Plain SpellsToken SpellsHex plainly negated
-plain-found t inside at (Byte v) w r l h p q = low-found t inside at (whole v) (Byte v) w r h p (whole-low v w p) q refl
-plain-found t inside at (NotByte v) w r l h p q = not-found t inside at (whole v) (NotByte v) w r h p q (λ s e. refl)
-plain-found t inside at (MaskedByte v m) w r l h (inl p) q = low-found t inside at (masked v m) (MaskedByte v m) w r h p (masked-low v m w p) q refl
-plain-found t inside at (MaskedByte v m) w r l h (inr p) q = as-jump-found t inside at v m w r h p q
-plain-found t inside at (NotMaskedByte v m) w r l h p q = not-found t inside at (masked v m) (NotMaskedByte v m) w r h (p .1) q (λ s e. negated-made at v m s e (p .0))
-plain-found t inside at (Jump from to) w r l h p q = bounds-found t inside at from to (Jump from to) w r h (p .0) q (λ s e. jump-made inside at from to s e (p .1) (p .2))
-plain-found t inside at (Alternatives ls) w r l h p q = absurd l
+pub leaf-found : (t : List ℕ) (inside : Bool) (at : ℕ) (tok : Token) (w r : List ℕ) → Leaf tok → drop at t ≡ w ++ r → SpellsToken inside tok w → NoBlank r
+    → (s : ℕ) × (leafAt t inside at ≡ found tok s (at + length w))
+unfolding Leaf SpellsToken SpellsHex hexToken negated
+leaf-found t inside at (Byte v) w r l h p q = low-found t inside at (whole v) (Byte v) w r h p (whole-low v w p) q refl
+leaf-found t inside at (NotByte v) w r l h p q = not-found t inside at (whole v) (NotByte v) w r h p q (λ s e. refl)
+leaf-found t inside at (MaskedByte v m) w r l h (inl p) q = low-found t inside at (masked v m) (MaskedByte v m) w r h p (masked-low v m w p) q refl
+leaf-found t inside at (MaskedByte v m) w r l h (inr p) q = as-jump-found t inside at v m w r h p q
+leaf-found t inside at (NotMaskedByte v m) w r l h p q = not-found t inside at (masked v m) (NotMaskedByte v m) w r h (p .1) q (λ s e. negated-made at v m s e (p .0))
+leaf-found t inside at (Jump from to) w r l h p q = bounds-found t inside at from to (Jump from to) w r h (p .0) q (λ s e. jump-made inside at from to s e (p .1) (p .2))
+leaf-found t inside at (Alternatives ls) w r l h p q = absurd l

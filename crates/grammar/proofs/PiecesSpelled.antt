@@ -14,7 +14,7 @@ use Rattle.base.specs.declared.Refusal.the-variants.{NumberTooBig, JumpEmpty, J
 use Rattle.meaning.specs.Limits.{numberLimit, innerJumpLimit}
 use Rattle.meaning.specs.Tokens.{left, right, all, Token, Lists, Byte, NotByte, MaskedByte, NotMaskedByte, Jump, Alternatives}
 use Rattle.reading.specs.Blanks.{here, skip}
-use Rattle.reading.specs.Pieces.{Seen, found, absent, refused, upTo, _else_, within, digit, Hex, whole, masked, twoDigits, byteAt, oneDigit, maskedAt, hexAt, plainly, negated, notAt, decimals, numeral, numberAt, Range, between, checked, closedAt, upperAt, dashAt, lowerAt, rangeAt, jumpToken, jumped, plainAt}
+use Rattle.reading.specs.Pieces.{Seen, found, absent, refused, upTo, _else_, within, digit, Hex, whole, masked, twoDigits, byteAt, oneDigit, maskedAt, hexAt, hexToken, negated, notAt, decimals, numeral, numberAt, Range, between, checked, closedAt, upperAt, dashAt, lowerAt, rangeAt, jumpToken, jumped, leafAt}
 use Rattle.reading.proofs.PieceLaws.{within-true}
 use Rattle.grammar.proofs.Spelling.{Language, _⨾_, Spaced, Sign, Marked, HexDigit, Whole, Masked, value, Numeral, Number, From, To, Single, Dashed, Bracketed, Ordered, Bounds, Allowed, NotOne, AsJump, Negatable, SpellsToken}
 use Rattle.grammar.proofs.Standing.{Stands, stands, seq, change, here-cons, sign-stands, spaced-stands, mark-stands}
@@ -189,46 +189,46 @@ range-sound t at = go (eqb (here t at) (code "[")) refl
     go false d = tt
 
 -- a token other than alternatives
-unfoldable pub Plain : Token → Type 0
-Plain (Byte v) = Unit {0}
-Plain (NotByte v) = Unit {0}
-Plain (MaskedByte v m) = Unit {0}
-Plain (NotMaskedByte v m) = Unit {0}
-Plain (Jump from to) = Unit {0}
-Plain (Alternatives ls) = ⊥
+unfoldable pub Leaf : Token → Type 0
+Leaf (Byte v) = Unit {0}
+Leaf (NotByte v) = Unit {0}
+Leaf (MaskedByte v m) = Unit {0}
+Leaf (NotMaskedByte v m) = Unit {0}
+Leaf (Jump from to) = Unit {0}
+Leaf (Alternatives ls) = ⊥
 
-pub plain-or : (tok : Token) → Plain tok ⊎ ((ls : Lists) × (tok ≡ Alternatives ls))
-unfolding Plain
-plain-or (Byte v) = inl tt
-plain-or (NotByte v) = inl tt
-plain-or (MaskedByte v m) = inl tt
-plain-or (NotMaskedByte v m) = inl tt
-plain-or (Jump from to) = inl tt
-plain-or (Alternatives ls) = inr (ls, refl)
+pub leaf-or : (tok : Token) → Leaf tok ⊎ ((ls : Lists) × (tok ≡ Alternatives ls))
+unfolding Leaf
+leaf-or (Byte v) = inl tt
+leaf-or (NotByte v) = inl tt
+leaf-or (MaskedByte v m) = inl tt
+leaf-or (NotMaskedByte v m) = inl tt
+leaf-or (Jump from to) = inl tt
+leaf-or (Alternatives ls) = inr (ls, refl)
 
-unfoldable pub SpellsPlain : Bool → Token → Language
-SpellsPlain inside tok s = SpellsToken inside tok s × Plain tok
+unfoldable pub SpellsLeaf : Bool → Token → Language
+SpellsLeaf inside tok s = SpellsToken inside tok s × Leaf tok
 
 -- `[1]` and `[1-1]` spell `??`, and the rest jumps
 jump-spelled : (t : List ℕ) (inside : Bool) (at from to e : ℕ) → Allowed inside (some to) → Stands (Bounds from (some to)) t at e
-    → Stands (λ s. SpellsPlain inside (jumpToken from to) s) t at e
-unfolding jumpToken SpellsPlain SpellsToken Plain NotOne AsJump
+    → Stands (λ s. SpellsLeaf inside (jumpToken from to) s) t at e
+unfolding jumpToken SpellsLeaf SpellsToken Leaf NotOne AsJump
 jump-spelled t inside at from to e w p = go (eqb from 1) (eqb to 1) refl refl
   where
-    go : (a b : Bool) → eqb from 1 ≡ a → eqb to 1 ≡ b → Stands (λ s. SpellsPlain inside (cond (a && b) (MaskedByte 0 all) (Jump from (some to))) s) t at e
+    go : (a b : Bool) → eqb from 1 ≡ a → eqb to 1 ≡ b → Stands (λ s. SpellsLeaf inside (cond (a && b) (MaskedByte 0 all) (Jump from (some to))) s) t at e
     go true true c d =
         change (λ s q. (inr (refl, subst (λ (y : ℕ). Bounds 1 (some y) s) (eqb-true to 1 d) (subst (λ (x : ℕ). Bounds x (some to) s) (eqb-true from 1 c) q)), tt)) p
     go true false c d = change (λ s q. ((q, (λ x y. eqb-false to 1 d y), w), tt)) p
     go false b c d = change (λ s q. ((q, (λ x y. eqb-false from 1 c x), w), tt)) p
 
-jumped-sound : (t : List ℕ) (inside : Bool) (at : ℕ) (r : Seen Range) → Sound SpellsRange t at r → Sound (SpellsPlain inside) t at (jumped inside at r)
-unfolding Sound jumped SpellsRange SpellsPlain SpellsToken Plain NotOne Allowed
+jumped-sound : (t : List ℕ) (inside : Bool) (at : ℕ) (r : Seen Range) → Sound SpellsRange t at r → Sound (SpellsLeaf inside) t at (jumped inside at r)
+unfolding Sound jumped SpellsRange SpellsLeaf SpellsToken Leaf NotOne Allowed
 jumped-sound t true at (found (between from none) s e) p = tt
 jumped-sound t false at (found (between from none) s e) p = change (λ u q. ((q, tt, tt), tt)) p
 jumped-sound t inside at (found (between from (some to)) s e) p = go inside (ltb innerJumpLimit to) refl p
   where
     go : (i c : Bool) → ltb innerJumpLimit to ≡ c → Stands (Bounds from (some to)) t at e
-        → Sound (SpellsPlain i) t at (cond (i && c) (refused JumpTooBigInAlternation at) (found (jumpToken from to) s e))
+        → Sound (SpellsLeaf i) t at (cond (i && c) (refused JumpTooBigInAlternation at) (found (jumpToken from to) s e))
     go true true g p = tt
     go true false g p = jump-spelled t true at from to e (ltb-false innerJumpLimit to g) p
     go false c g p = jump-spelled t false at from to e tt p
@@ -236,16 +236,16 @@ jumped-sound t inside at absent p = tt
 jumped-sound t inside at (refused r z) p = tt
 
 -- bytes
-plainly-sound : (t : List ℕ) (inside : Bool) (at : ℕ) (h : Seen Hex) → Sound SpellsHex t at h → Sound (SpellsPlain inside) t at (plainly h)
-unfolding Sound plainly SpellsHex SpellsPlain SpellsToken Plain
-plainly-sound t inside at (found (whole v) s e) p = change (λ u q. (q, tt)) p
-plainly-sound t inside at (found (masked v m) s e) p = change (λ u q. (inl q, tt)) p
-plainly-sound t inside at absent p = tt
-plainly-sound t inside at (refused r z) p = tt
+hex-token-sound : (t : List ℕ) (inside : Bool) (at : ℕ) (h : Seen Hex) → Sound SpellsHex t at h → Sound (SpellsLeaf inside) t at (hexToken h)
+unfolding Sound hexToken SpellsHex SpellsLeaf SpellsToken Leaf
+hex-token-sound t inside at (found (whole v) s e) p = change (λ u q. (q, tt)) p
+hex-token-sound t inside at (found (masked v m) s e) p = change (λ u q. (inl q, tt)) p
+hex-token-sound t inside at absent p = tt
+hex-token-sound t inside at (refused r z) p = tt
 
 negated-sound : (t : List ℕ) (inside : Bool) (at : ℕ) (h : Seen Hex) → Stands (Sign (code "~")) t at (at + 1) → Sound SpellsHex t (at + 1) h
-    → Sound (SpellsPlain inside) t at (negated at h)
-unfolding Sound negated SpellsHex SpellsPlain SpellsToken Plain Negatable
+    → Sound (SpellsLeaf inside) t at (negated at h)
+unfolding Sound negated SpellsHex SpellsLeaf SpellsToken Leaf Negatable
 negated-sound t inside at (found (whole v) s e) m p = change (λ u q. (q, tt)) (seq m (change {Q = Spaced (Whole v)} (λ u q. q) p))
 negated-sound t inside at (found (masked v left) s e) m p = change (λ u q. ((tt, q), tt)) (seq m (change {Q = Spaced (Masked v left)} (λ u q. q) p))
 negated-sound t inside at (found (masked v right) s e) m p = change (λ u q. ((tt, q), tt)) (seq m (change {Q = Spaced (Masked v right)} (λ u q. q) p))
@@ -253,17 +253,17 @@ negated-sound t inside at (found (masked v all) s e) m p = tt
 negated-sound t inside at absent m p = tt
 negated-sound t inside at (refused r z) m p = tt
 
-not-sound : (t : List ℕ) (inside : Bool) (at : ℕ) → Sound (SpellsPlain inside) t at (notAt t at)
+not-sound : (t : List ℕ) (inside : Bool) (at : ℕ) → Sound (SpellsLeaf inside) t at (notAt t at)
 unfolding Sound notAt
 not-sound t inside at = go (eqb (here t at) (code "~")) refl
   where
-    go : (a : Bool) → eqb (here t at) (code "~") ≡ a → Sound (SpellsPlain inside) t at (cond a (negated at (hexAt t (at + 1))) absent)
+    go : (a : Bool) → eqb (here t at) (code "~") ≡ a → Sound (SpellsLeaf inside) t at (cond a (negated at (hexAt t (at + 1))) absent)
     go true d = negated-sound t inside at (hexAt t (at + 1)) (sign-stands t at (code "~") (eqb-true (here t at) (code "~") d) (omega arith)) (hex-sound t (at + 1))
     go false d = tt
 
-pub plain-sound : (t : List ℕ) (inside : Bool) (at : ℕ) → Sound (SpellsPlain inside) t at (plainAt t inside at)
-unfolding plainAt
-plain-sound t inside at =
-    else-sound (SpellsPlain inside) t at (notAt t at) (plainly (hexAt t at) else jumped inside at (rangeAt t at)) (not-sound t inside at)
-    (else-sound (SpellsPlain inside) t at (plainly (hexAt t at)) (jumped inside at (rangeAt t at)) (plainly-sound t inside at (hexAt t at) (hex-sound t at))
+pub leaf-sound : (t : List ℕ) (inside : Bool) (at : ℕ) → Sound (SpellsLeaf inside) t at (leafAt t inside at)
+unfolding leafAt
+leaf-sound t inside at =
+    else-sound (SpellsLeaf inside) t at (notAt t at) (hexToken (hexAt t at) else jumped inside at (rangeAt t at)) (not-sound t inside at)
+    (else-sound (SpellsLeaf inside) t at (hexToken (hexAt t at)) (jumped inside at (rangeAt t at)) (hex-token-sound t inside at (hexAt t at) (hex-sound t at))
     (jumped-sound t inside at (rangeAt t at) (range-sound t at)))

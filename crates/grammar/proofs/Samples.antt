@@ -11,8 +11,8 @@ use Rattle.base.specs.declared.Refusal.the-variants.{Unexpected, NumberTooBig, 
 use Rattle.meaning.specs.Entries.{tokenCount}
 use Rattle.meaning.specs.Tokens.{Tokens, Byte, Jump, Alternatives, nothing, _then_, neither, _or_, total, totalIn, totals}
 use Rattle.reading.specs.Blanks.{blank, blanks, skip}
-use Rattle.reading.specs.Pieces.{within, digit, twoDigits, byteAt, oneDigit, maskedAt, hexAt, plainly, negated, notAt, decimals, numeral, numberAt, checked, closedAt, upperAt, dashAt, lowerAt, rangeAt, jumpToken, jumped, plainAt, _else_}
-use Rattle.reading.specs.Lists.{tokenOr, asToken, bracketed, before, thenMore, isJump, begins, endsIn, ends, atBound, listOf, beside, thenLists, tokenF, moreF, listF, listsF, closing, reading}
+use Rattle.reading.specs.Pieces.{within, digit, twoDigits, byteAt, oneDigit, maskedAt, hexAt, hexToken, negated, notAt, decimals, numeral, numberAt, checked, closedAt, upperAt, dashAt, lowerAt, rangeAt, jumpToken, jumped, leafAt, _else_}
+use Rattle.reading.specs.Lists.{tokenOr, asToken, bracketed, before, thenMore, isJump, jumpFirst, jumpLastIn, jumpLast, atBound, listOf, beside, thenLists, tokenF, moreF, listF, listsF, closing, reading}
 use Rattle.grammar.specs.Grammar as rule
 use Rattle.grammar.specs.Grammar.{Text, Derives}
 use Rattle.grammar.specs.Faults.{Fault}
@@ -90,7 +90,7 @@ with-rest =
     (rule.other (λ b. past-blanks 122 (omega arith) (blank-spells b))) (omega arith) (omega arith)
 
 pub samples-hold : Every samples
-unfolding samples Right blank blanks skip within digit twoDigits byteAt oneDigit maskedAt hexAt plainly negated notAt decimals numeral numberAt checked closedAt upperAt dashAt lowerAt rangeAt jumpToken jumped plainAt _else_ tokenOr asToken bracketed before thenMore isJump begins endsIn ends atBound listOf beside thenLists tokenF moreF listF listsF closing reading tokenCount
+unfolding samples Right blank blanks skip within digit twoDigits byteAt oneDigit maskedAt hexAt hexToken negated notAt decimals numeral numberAt checked closedAt upperAt dashAt lowerAt rangeAt jumpToken jumped leafAt _else_ tokenOr asToken bracketed before thenMore isJump jumpFirst jumpLastIn jumpLast atBound listOf beside thenLists tokenF moreF listF listsF closing reading tokenCount
 samples-hold =
     fault-exactly (ascii "{ AB [0] CD }") JumpEmpty 5 .0 refl
     also fault-exactly (ascii "{ [5] AB }") JumpAtBound 2 .0 refl

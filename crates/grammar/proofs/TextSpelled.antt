@@ -12,20 +12,20 @@ use Rattle.base.specs.declared.Refusal.the-variants.{Unexpected, TextTooLong}
 use Rattle.meaning.specs.Limits.{textLimit, tokenLimit}
 use Rattle.meaning.specs.Tokens.{Tokens, total}
 use Rattle.reading.specs.Blanks.{here, skip}
-use Rattle.reading.specs.Lists.{Parsed, read, missing, stopped, list, enough, Outcome, accepted, rejected, closing, reading}
+use Rattle.reading.specs.Lists.{Parsed, read, missing, stopped, list, enough, Verdict, accepted, rejected, closing, reading}
 use Rattle.grammar.proofs.Spelling.{Marked, SpellsString, SpellsText, Spelled}
 use Rattle.grammar.proofs.Standing.{Stands, seq, skip-clear, mark-stands}
 use Rattle.grammar.proofs.ListsSpelled.{Right, ListRight, list-right-all}
 
-abbrev OutcomeRight : List ℕ → Outcome → Type 0
-OutcomeRight t (accepted e ts) = Spelled t e ts
-OutcomeRight t (rejected r p) = Unit {0}
+abbrev VerdictRight : List ℕ → Verdict → Type 0
+VerdictRight t (accepted e ts) = Spelled t e ts
+VerdictRight t (rejected r p) = Unit {0}
 
-closing-right : (t : List ℕ) (at : ℕ) (x : Parsed Tokens) → length t ≤ textLimit → Stands (Marked (code "{")) t 0 at → ListRight t 1 0 at x → OutcomeRight t (closing t at x)
+closing-right : (t : List ℕ) (at : ℕ) (x : Parsed Tokens) → length t ≤ textLimit → Stands (Marked (code "{")) t 0 at → ListRight t 1 0 at x → VerdictRight t (closing t at x)
 unfolding Right closing SpellsString SpellsText
 closing-right t at (read ts e c) l m p = go (eqb (here t e) (code "}")) refl
   where
-    go : (a : Bool) → eqb (here t e) (code "}") ≡ a → OutcomeRight t (cond a (accepted (skip t (e + 1)) ts) (rejected Unexpected e))
+    go : (a : Bool) → eqb (here t e) (code "}") ≡ a → VerdictRight t (cond a (accepted (skip t (e + 1)) ts) (rejected Unexpected e))
     go true d =
         let s = seq m (seq (p .0) (mark-stands t e (code "}") (eqb-true (here t e) (code "}") d) (omega arith))) in
         let q : skip t (e + 1) ≡ 0 + length (s .string) = s .reach in
@@ -36,12 +36,12 @@ closing-right t at (read ts e c) l m p = go (eqb (here t e) (code "}")) refl
 closing-right t at missing l m p = tt
 closing-right t at (stopped r z) l m p = tt
 
-reading-right : (t : List ℕ) → OutcomeRight t (reading t)
+reading-right : (t : List ℕ) → VerdictRight t (reading t)
 unfolding reading
 reading-right t = go (leb (length t) textLimit) (eqb (here t 0) (code "{")) refl refl
   where
     go : (a b : Bool) → leb (length t) textLimit ≡ a → eqb (here t 0) (code "{") ≡ b
-        → OutcomeRight t (cond a (cond b (closing t (skip t 1) (list t 1 0 (skip t 1))) (rejected Unexpected 0)) (rejected TextTooLong 0))
+        → VerdictRight t (cond a (cond b (closing t (skip t 1) (list t 1 0 (skip t 1))) (rejected Unexpected 0)) (rejected TextTooLong 0))
     go true true d e =
         closing-right t (skip t 1) (list t 1 0 (skip t 1)) (leb-true (length t) textLimit d) (mark-stands t 0 (code "{") (eqb-true (here t 0) (code "{") e) (omega arith))
         (list-right-all (enough t (skip t 1)) t 1 0 (skip t 1) (omega arith) (omega arith))
@@ -50,4 +50,4 @@ reading-right t = go (leb (length t) textLimit) (eqb (here t 0) (code "{")) refl
 
 -- an accepted text spells the tokens read, up to the offset reached, within the limits
 pub accepted-spelled : (t : List ℕ) (e : ℕ) (ts : Tokens) → reading t ≡ accepted e ts → Spelled t e ts
-accepted-spelled t e ts h = subst (λ (o : Outcome). OutcomeRight t o) h (reading-right t)
+accepted-spelled t e ts h = subst (λ (o : Verdict). VerdictRight t o) h (reading-right t)

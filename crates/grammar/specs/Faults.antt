@@ -1,4 +1,5 @@
 -- When each refusal of a text is given, and its place: 01's table, over the grammar. Assumes nothing: these are definitions.
+-- To be believed: all.
 use mathlib.Core.Path.{_≡_}
 use mathlib.Core.Logic.{_⊎_}
 use mathlib.Core.Option.{Option, none, some}
@@ -61,15 +62,15 @@ abbrev pub Missing : (t : Text) (level at : ℕ) → Type 0
 Missing t level at = ((tok : Token) → Lacks t (Spells level tok) at) × ((r : Refusal) (p : ℕ) → InToken t level at r p → ⊥) × Lacks t (Mark "(") at
 
 -- from `at` up to e stands a list of this level, and no token follows; with those before it, it has d tokens
-pub data Listed (t : Text) (level count at : ℕ) : (d e : ℕ) → Type 0 where
-  listed : {d e : ℕ} {ts : Tokens} → level ≤ levelLimit → Stands t (TokenList level ts) at e → d ≡ count + total ts → d ≤ tokenLimit → Missing t level e → Listed t level count at d e
+pub data ListEnds (t : Text) (level count at : ℕ) : (d e : ℕ) → Type 0 where
+  list-ends : {d e : ℕ} {ts : Tokens} → level ≤ levelLimit → Stands t (TokenList level ts) at e → d ≡ count + total ts → d ≤ tokenLimit → Missing t level e → ListEnds t level count at d e
 
 mutual
   -- a list of this level should begin at `at`, after so many tokens, and would be missed at `miss`: after `{`, after `(`, or after `|`
   pub data Begins (t : Text) : (level count at miss : ℕ) → Type 0 where
     outermost : {at : ℕ} → length t ≤ textLimit → Stands t (Mark "{") 0 at → Begins t 1 0 at at
     opened : {level count at start x : ℕ} → Looked t level count at start → Stands t (Mark "(") at x → count < tokenLimit → Begins t (suc level) (suc count) x x
-    barred : {level count at miss d e x : ℕ} → Begins t level count at miss → 1 < level → Listed t level count at d e → Stands t (Mark "|") e x → Begins t level d x e
+    barred : {level count at miss d e x : ℕ} → Begins t level count at miss → 1 < level → ListEnds t level count at d e → Stands t (Mark "|") e x → Begins t level d x e
 
   -- in a list of this level that begins at `start`, a token is looked for at `at`, after so many tokens
   pub data Looked (t : Text) : (level count at start : ℕ) → Type 0 where
@@ -82,8 +83,8 @@ pub data Fault (t : Text) : Refusal → (place : ℕ) → Type 0 where
   -- 2: no `{` at the start; no list; something else than what should close the outer list, or one in brackets
   not-opened : length t ≤ textLimit → Lacks t (Mark "{") 0 → Fault t Unexpected 0
   no-list : {level count at miss : ℕ} → Begins t level count at miss → level ≤ levelLimit → Missing t level at → Fault t Unexpected miss
-  not-closed : {at miss d e : ℕ} → Begins t 1 0 at miss → Listed t 1 0 at d e → Lacks t (Mark "}") e → Fault t Unexpected e
-  not-bracketed : {level count at miss d e : ℕ} → Begins t level count at miss → 1 < level → Listed t level count at d e → Lacks t (Mark ")") e → Lacks t (Mark "|") e → Fault t Unexpected e
+  not-closed : {at miss d e : ℕ} → Begins t 1 0 at miss → ListEnds t 1 0 at d e → Lacks t (Mark "}") e → Fault t Unexpected e
+  not-bracketed : {level count at miss d e : ℕ} → Begins t level count at miss → 1 < level → ListEnds t level count at d e → Lacks t (Mark ")") e → Lacks t (Mark "|") e → Fault t Unexpected e
   -- 2 after `~`, 3, 4, 5, 7, 8, 9: within a token
   in-token : {level count at start p : ℕ} {r : Refusal} → Looked t level count at start → InToken t level at r p → Fault t r p
   -- 6: a jump at the start of a list, or at its end, once it has ended

@@ -1,5 +1,6 @@
 -- Hexadecimal strings as a grammar: YARA's, with `~` and the limits of 01. A rule says of which strings a string is made and which tokens it
 -- spells; there is no offset in it, no order of trial and no refusal. Assumes nothing: these are definitions.
+-- To be believed: all.
 use mathlib.Core.Path.{_≡_}
 use mathlib.Core.Option.{Option, none, some}
 use mathlib.Core.List.{List, [], _∷_, _++_}

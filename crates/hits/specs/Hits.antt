@@ -1,4 +1,5 @@
 -- The last place at which a search finds. Assumes nothing: these are definitions.
+-- To be believed: nothing.
 use mathlib.Core.Bool.{cond}
 use mathlib.Core.Option.{Option, none, some}
 use mathlib.Core.List.{List}

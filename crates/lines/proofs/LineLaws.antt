@@ -1,7 +1,7 @@
 -- Laws of the lines: how long a node's line can be, and the literals taken one by one. Assumes nothing.
 use mathlib.Core.Path.{_≡_, refl, sym, ap, _∙_}
 use mathlib.Core.Bool.{Bool, true, false, cond}
-use mathlib.Core.List.{List, [], _∷_, _++_}
+use mathlib.Core.List.{List, [], _∷_, _++_, flatMap}
 use Prim.Native.Nat.{ℕ, suc, _+_, _-_, _*_, _^_, _≤_, _<_, min}
 use native.Mathlib.Omega.{arith}
 use native.Mathlib.Numerals.{add-one}
@@ -13,7 +13,6 @@ use Rattle.meaning.specs.Words.{fieldSize, countBy, kindOf, firstOf, secondOf, 
 use Rattle.nodes.specs.declared.Node.{Node}
 use Rattle.nodes.specs.Nodes.{shapeOf}
 use Rattle.base.specs.Text.{ascii}
-use Rattle.printing.specs.Laid.{each}
 use Rattle.printing.specs.Numbers.{hexOf, decimalOf}
 use Rattle.lines.specs.Lines.{blank, lineEnd, numberLine, numbersLine, byteLine, maskLine, shapeLine, nodeLine, literalLine, literalLines, cut}
 use Rattle.printing.proofs.NumberLaws.{decimal-length, length-hexes}
@@ -62,7 +61,7 @@ length-node w = shape-length (kindOf w) (firstOf w) (secondOf w) (omega arith) (
 
 pub length-literal : (s : List ℕ) → length (literalLine s) ≡ 2 * length s + 1
 unfolding literalLine
-length-literal s = length-append (each hexOf s) lineEnd ∙ rw (length-hexes s) refl
+length-literal s = length-append (flatMap hexOf s) lineEnd ∙ rw (length-hexes s) refl
 
 -- no more is taken than there is
 take-least : (n : ℕ) (l : List ℕ) → take (min n (length l)) l ≡ take n l

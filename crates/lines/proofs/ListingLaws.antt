@@ -1,7 +1,7 @@
 -- Laws of a whole listing: how long it can be, and the literals out of the picker's buffers. Assumes nothing.
 use mathlib.Core.Path.{_≡_, refl, ap, _∙_}
 use mathlib.Core.Bool.{Bool, true, false}
-use mathlib.Core.List.{List, [], _∷_, _++_, map, append-assoc, flatten}
+use mathlib.Core.List.{List, [], _∷_, _++_, map, append-assoc, flatten, flatMap}
 use Prim.Native.Nat.{ℕ, suc, _+_, _*_, _^_, _≤_, _<_}
 use native.Mathlib.Omega.{arith}
 use lib.Dec.{leb}
@@ -12,8 +12,7 @@ use Rattle.lines.specs.declared.Listed.{Listed}
 use Rattle.lines.specs.declared.Listed.the-variants.{Wrote, NoRoom}
 use Rattle.lines.specs.Listed.{listedOf}
 use Rattle.base.specs.Text.{ascii}
-use Rattle.printing.specs.Laid.{each}
-use Rattle.lines.specs.Lines.{numberLine, nodeLine, numbersLine, programLines, literalLine, literalLines, literalsLines, cut, Picked, picked, unpicked, pickedLines, literalsRefusedLine, refusedLine, programsLines, compiled, refused, listing}
+use Rattle.lines.specs.Lines.{numberLine, nodeLine, numbersLine, programLines, literalLine, literalLines, literalsLines, cut, LiteralsGot, got, notGot, gotLines, literalsRefusedLine, refusedLine, programsLines, compiled, refused, listing}
 use Rattle.lines.proofs.LineLaws.{length-number, length-numbers, length-node, length-literal}
 
 -- cut by their lengths they are the literals again, whatever the buffers hold beyond
@@ -27,20 +26,20 @@ cut-flatten (l ∷ ls) rest =
     ∙ ap (λ (x : List ℕ). l ∷ cut (map length ls) x) (drop-append-seam l (flatten ls ++ rest))
     ∙ ap (λ (x : List (List ℕ)). l ∷ x) (cut-flatten ls rest)
 
-length-nodes : (ws : List ℕ) → length (each nodeLine ws) ≤ 14 * length ws
-unfolding each
+length-nodes : (ws : List ℕ) → length (flatMap nodeLine ws) ≤ 14 * length ws
+unfolding flatMap
 length-nodes [] = omega arith
 length-nodes (w ∷ ws) =
     let a : length (nodeLine w) ≤ 14 = length-node w in
-    let b : length (each nodeLine ws) ≤ 14 * length ws = length-nodes ws in
-    rw (length-append (nodeLine w) (each nodeLine ws)) (omega arith)
+    let b : length (flatMap nodeLine ws) ≤ 14 * length ws = length-nodes ws in
+    rw (length-append (nodeLine w) (flatMap nodeLine ws)) (omega arith)
 
 pub length-program : (name ws : List ℕ) (k : ℕ) → length ws < 10 ^ suc k → length (programLines name ws) ≤ length name + suc k + 1 + 14 * length ws
 unfolding programLines
 length-program name ws k h =
     let a : length (numberLine name (length ws)) ≤ length name + suc k + 1 = length-number name k (length ws) h in
-    let b : length (each nodeLine ws) ≤ 14 * length ws = length-nodes ws in
-    rw (length-append (numberLine name (length ws)) (each nodeLine ws)) (omega arith)
+    let b : length (flatMap nodeLine ws) ≤ 14 * length ws = length-nodes ws in
+    rw (length-append (numberLine name (length ws)) (flatMap nodeLine ws)) (omega arith)
 
 length-lines : (ls : List (List ℕ)) → length (literalLines ls) ≡ 2 * length (flatten ls) + length ls
 unfolding literalLines flatten
@@ -48,17 +47,17 @@ length-lines [] = refl
 length-lines (l ∷ ls) = length-append (literalLine l) (literalLines ls) ∙ rw (length-literal l, length-lines ls, length-append l (flatten ls)) (omega arith)
 
 -- what the picker gives with 32,768 bytes and 256 lengths lent
-abbrev pub Small : Picked → Type 0
-Small (picked rank ls) = (rank < 10 ^ 10) × (length ls ≤ 256) × (length (flatten ls) ≤ 32768)
-Small (unpicked n) = n < 10 ^ 10
+abbrev pub Small : LiteralsGot → Type 0
+Small (got rank ls) = (rank < 10 ^ 10) × (length ls ≤ 256) × (length (flatten ls) ≤ 32768)
+Small (notGot n) = n < 10 ^ 10
 
-length-picked : (p : Picked) → Small p → length (pickedLines p) ≤ 29 + 256 + 65536
-unfolding pickedLines literalsLines literalsRefusedLine
-length-picked (picked rank ls) (a, b, c) =
+length-got : (p : LiteralsGot) → Small p → length (gotLines p) ≤ 29 + 256 + 65536
+unfolding gotLines literalsLines literalsRefusedLine
+length-got (got rank ls) (a, b, c) =
     let h : length (numbersLine (ascii "literals ") (length ls) (ascii " rank ") rank) ≤ 9 + 3 + 6 + 10 + 1 = length-numbers (ascii "literals ") (ascii " rank ") 2 9 (length ls) rank (omega arith) a in
     let l : length (literalLines ls) ≡ 2 * length (flatten ls) + length ls = length-lines ls in
     rw (length-append (numbersLine (ascii "literals ") (length ls) (ascii " rank ") rank) (literalLines ls)) (omega arith)
-length-picked (unpicked n) h =
+length-got (notGot n) h =
     let l : length (numberLine (ascii "literals refused ") n) ≤ 17 + 10 + 1 = length-number (ascii "literals refused ") 9 n h in
     omega arith
 
@@ -70,12 +69,12 @@ programs-fit f r a b =
     rw (length-append (programLines (ascii "forward ") f) (programLines (ascii "reverse ") r)) (omega arith)
 
 -- so 81,920 bytes have room for every listing
-pub listing-fits : (f r : List ℕ) (p : Picked) → length f ≤ 512 → length r ≤ 512 → Small p → length (listing (compiled f r p)) ≤ 81920
+pub listing-fits : (f r : List ℕ) (p : LiteralsGot) → length f ≤ 512 → length r ≤ 512 → Small p → length (listing (compiled f r p)) ≤ 81920
 unfolding listing
 listing-fits f r p a b s =
     let x : length (programsLines f r) ≤ 14360 = programs-fit f r a b in
-    let z : length (pickedLines p) ≤ 29 + 256 + 65536 = length-picked p s in
-    rw (length-append (programsLines f r) (pickedLines p)) (omega arith)
+    let z : length (gotLines p) ≤ 29 + 256 + 65536 = length-got p s in
+    rw (length-append (programsLines f r) (gotLines p)) (omega arith)
 
 pub refused-fits : (n place : ℕ) → n < 10 ^ 10 → place < 10 ^ 20 → length (listing (refused n place)) ≤ 81920
 unfolding listing refusedLine

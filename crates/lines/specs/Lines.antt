@@ -1,11 +1,11 @@
 -- The lines of a listing, as 01 has them. Assumes nothing: these are definitions.
-use mathlib.Core.List.{List, [], _∷_, _++_}
+-- To be believed: `blank` `lineEnd` `numberLine` `numbersLine` `byteLine` `maskLine` `programLines` `literalLine` `literalLines` `literalsLines` `refusedLine` `literalsRefusedLine` `LiteralsGot` `gotLines` `Contents` `programsLines` `listing`.
+use mathlib.Core.List.{List, [], _∷_, _++_, flatMap}
 use Prim.Native.Nat.{ℕ}
 use lib.ListN.{length, take, drop}
 use Rattle.meaning.specs.Programs.{Item, one, jump, range, alt, Test, byte, mask, negatedMask, any, dot}
 use Rattle.meaning.specs.Words.{Shape, item, opens, mark, wrong, shape}
 use Rattle.base.specs.Text.{ascii}
-use Rattle.printing.specs.Laid.{each}
 use Rattle.printing.specs.Numbers.{hexOf, decimalOf}
 
 abbrev pub blank : List ℕ
@@ -52,11 +52,11 @@ nodeLine w = shapeLine (shape w)
 
 -- a program: its name with the count of its nodes, and a line for each of them
 unfoldable pub programLines : List ℕ → List ℕ → List ℕ
-programLines name ws = numberLine name (length ws) ++ each nodeLine ws
+programLines name ws = numberLine name (length ws) ++ flatMap nodeLine ws
 
 -- a literal in hexadecimal, on a line of its own
 unfoldable pub literalLine : List ℕ → List ℕ
-literalLine bs = each hexOf bs ++ lineEnd
+literalLine bs = flatMap hexOf bs ++ lineEnd
 
 unfoldable pub literalLines : List (List ℕ) → List ℕ
 literalLines [] = []
@@ -78,24 +78,24 @@ refusedLine n place = numbersLine (ascii "refused ") n (ascii " at ") place
 unfoldable pub literalsRefusedLine : ℕ → List ℕ
 literalsRefusedLine n = numberLine (ascii "literals refused ") n
 
--- what picking gives: a rank and literals, or a refusal's number
-pub data Picked : Type 0 where
-  picked : ℕ → List (List ℕ) → Picked
-  unpicked : ℕ → Picked
+-- what is got from picking: a rank and literals, or a refusal's number
+pub data LiteralsGot : Type 0 where
+  got : ℕ → List (List ℕ) → LiteralsGot
+  notGot : ℕ → LiteralsGot
 
-unfoldable pub pickedLines : Picked → List ℕ
-pickedLines (picked rank ls) = literalsLines rank ls
-pickedLines (unpicked n) = literalsRefusedLine n
+unfoldable pub gotLines : LiteralsGot → List ℕ
+gotLines (got rank ls) = literalsLines rank ls
+gotLines (notGot n) = literalsRefusedLine n
 
--- what reading, compiling and picking give of a text: both programs' words with what was picked, or a refusal's number and place
-pub data Outcome : Type 0 where
-  compiled : List ℕ → List ℕ → Picked → Outcome
-  refused : ℕ → ℕ → Outcome
+-- what a listing tells of a text: both programs' words with what was got from picking, or a refusal's number and place
+pub data Contents : Type 0 where
+  compiled : List ℕ → List ℕ → LiteralsGot → Contents
+  refused : ℕ → ℕ → Contents
 
 unfoldable pub programsLines : List ℕ → List ℕ → List ℕ
 programsLines f r = programLines (ascii "forward ") f ++ programLines (ascii "reverse ") r
 
 -- the whole listing
-unfoldable pub listing : Outcome → List ℕ
-listing (compiled f r p) = programsLines f r ++ pickedLines p
+unfoldable pub listing : Contents → List ℕ
+listing (compiled f r p) = programsLines f r ++ gotLines p
 listing (refused n place) = refusedLine n place

@@ -1,4 +1,5 @@
 -- What a door says of a listing that it was to write. Assumes nothing: this is a definition.
+-- To be believed: nothing.
 use mathlib.Core.Bool.{cond}
 use Prim.Native.Nat.{ℕ}
 use lib.Dec.{leb}

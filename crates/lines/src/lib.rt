@@ -2,13 +2,14 @@
 ghost use mathlib.Core.Path.{_≡_};
 ghost use Prim.Native.Nat.{_+_, _*_, _<_, _^_, min};
 ghost use lib.ListN.{length};
-ghost use Rattle.printing.specs.Laid.{Put, each};
+ghost use Rattle.printing.specs.Laid.{Put};
 ghost use Rattle.nodes.specs.Nodes.{testOf};
 ghost use Rattle.lines.specs.Lines.{numberLine, numbersLine, byteLine, maskLine, testLine, nodeLine, programLines, literalLine, literalLines, literalsLines, cut, refusedLine, literalsRefusedLine, programsLines};
 ghost use Rattle.lines.specs.Listed.{listedOf};
 use nodes::ByteTest;
 use nodes::Node;
 use nodes::NodeWord;
+ghost use mathlib.Core.List.{flatMap};
 
 // A line that ends with a number.
 fn put_number_line(out: &mut [u8], at: usize, name: &[u8], n: usize) -> usize
@@ -87,7 +88,7 @@ fn put_node(out: &mut [u8], at: usize, w: NodeWord) -> usize
 
 fn put_nodes(out: &mut [u8], at: usize, words: &[NodeWord]) -> usize
     requires { ⌜ at + 64 + 14 * length (now words) < 2 ^ 64 ⌝ }
-    ensures { λ r. ⌜ Put (now (out .entry)) at (each nodeLine (now (words .entry))) r (now (out .exit)) ⌝ }
+    ensures { λ r. ⌜ Put (now (out .entry)) at (flatMap nodeLine (now (words .entry))) r (now (out .exit)) ⌝ }
 {
     let mut k = at;
     let mut i = 0;

@@ -14,21 +14,21 @@ use Rattle.base.specs.Refusals.{numberOf}
 use Rattle.meaning.specs.Limits.{textLimit, nodeLimit}
 use Rattle.meaning.specs.Tokens.{Tokens}
 use Rattle.meaning.proofs.SoundLaws.{and-left, and-right}
-use Rattle.reading.specs.Lists.{Outcome as Read, accepted, rejected, reading}
+use Rattle.reading.specs.Lists.{Verdict, accepted, rejected, reading}
 use Rattle.reading.proofs.Places.{rejected-place}
 use Rattle.compiling.specs.ProgramWords.{nodes}
 use Rattle.compiling.specs.Compiling.{forwardProgram, reverseProgram, forwardWords, reverseWords}
 use Rattle.compiling.specs.Compile.{few, Compiled, compiled as programs, refused as uncompiled, compile}
 use Rattle.compiling.proofs.GivenLaws.{programs-tests}
-use Rattle.picking.specs.Choice.{Picked as Choice, picked as chosen, unpicked as unchosen, pick}
+use Rattle.picking.specs.Candidates.{Picked, picked, unpicked, pick}
 use Rattle.lines.specs.declared.Listed.{Listed}
 use Rattle.lines.specs.declared.Listed.the-variants.{Wrote, NoRoom as Short}
 use Rattle.printing.specs.Laid.{laid}
 use Rattle.lines.specs.Listed.{listedOf}
-use Rattle.lines.specs.Lines.{picked, unpicked, listing}
+use Rattle.lines.specs.Lines.{got, notGot, listing}
 use Rattle.printing.proofs.LaidLaws.{laid-fits}
 use Rattle.lines.proofs.ListingLaws.{Small, listing-fits, refused-fits}
-use Rattle.lister.specs.Listings.{withRoom, withPrograms, outcome, listingOf}
+use Rattle.lister.specs.Listings.{withRoom, withPrograms, contents, listingOf}
 use Rattle.lister.proofs.RankLaws.{picked-low}
 
 -- ---- room
@@ -67,7 +67,7 @@ picked-small : (ts : Tokens) → Small (withRoom (pick ts))
 unfolding withRoom
 picked-small ts = go (pick ts) refl
   where
-    fit : (n : ℕ) (ls : List (List ℕ)) (b : Bool) → n ≤ 80 → (leb (length ls) lentLengths && leb (length (flatten ls)) lentBytes) ≡ b → Small (cond b (picked n ls) (unpicked (numberOf NoRoom)))
+    fit : (n : ℕ) (ls : List (List ℕ)) (b : Bool) → n ≤ 80 → (leb (length ls) lentLengths && leb (length (flatten ls)) lentBytes) ≡ b → Small (cond b (got n ls) (notGot (numberOf NoRoom)))
     fit n ls true h e = (
       omega arith,
       leb-true (length ls) lentLengths (and-left (leb (length ls) lentLengths) (leb (length (flatten ls)) lentBytes) e),
@@ -75,9 +75,9 @@ picked-small ts = go (pick ts) refl
     )
     fit n ls false h e = number-small NoRoom
 
-    go : (c : Choice) → pick ts ≡ c → Small (withRoom c)
-    go (chosen n ls) e = fit n ls (leb (length ls) lentLengths && leb (length (flatten ls)) lentBytes) (picked-low ts n ls e) refl
-    go (unchosen r) e = number-small r
+    go : (c : Picked) → pick ts ≡ c → Small (withRoom c)
+    go (picked n ls) e = fit n ls (leb (length ls) lentLengths && leb (length (flatten ls)) lentBytes) (picked-low ts n ls e) refl
+    go (unpicked r) e = number-small r
 
 programs-small : (ts : Tokens) (f r : List ℕ) → compile ts ≡ programs f r → (length f ≤ nodeLimit) × (length r ≤ nodeLimit)
 unfolding few forwardWords reverseWords
@@ -91,14 +91,14 @@ programs-small ts f r e =
 
 -- so the listing program, which lends as much, never wants room
 pub listing-room : (t : List ℕ) → length (listingOf t) ≤ listingLimit
-unfolding listingOf outcome withPrograms
+unfolding listingOf contents withPrograms
 listing-room t = go (reading t) refl
   where
     made : (ts : Tokens) (c : Compiled) → compile ts ≡ c → length (listing (withPrograms c (withRoom (pick ts)))) ≤ listingLimit
     made ts (programs f r) e = listing-fits f r (withRoom (pick ts)) (programs-small ts f r e .0) (programs-small ts f r e .1) (picked-small ts)
     made ts (uncompiled r) e = refused-fits (numberOf r) 0 (number-small r) (omega arith)
 
-    go : (o : Read) → reading t ≡ o → length (listing (outcome o)) ≤ listingLimit
+    go : (o : Verdict) → reading t ≡ o → length (listing (contents o)) ≤ listingLimit
     go (accepted end ts) e = made ts (compile ts) refl
     go (rejected r place) e = refused-fits (numberOf r) place (number-small r) (let p : place ≤ textLimit = place-small t r place e in omega arith)
 

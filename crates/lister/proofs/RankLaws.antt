@@ -15,7 +15,7 @@ use Rattle.atoms.specs.Score.{literalScore}
 use Rattle.atoms.proofs.Laws.{score-le}
 use Rattle.picking.specs.Literals.{literals, combinations}
 use Rattle.picking.specs.Runs.{runs, parts, Slice, slice, slices}
-use Rattle.picking.specs.Choice.{lowest, least, Ranked, ranked, skipped, excessive, rankValue, counted, combined, rank, Choice, unranked, chosen, tooMany, widened, against, rankOf, best, bytesOf, strong, aloneOr, inRun, beats, between, among, choice, picked, pick}
+use Rattle.picking.specs.Candidates.{lowest, least, Ranked, ranked, skipped, excessive, rankValue, counted, combined, rank, Candidate, unranked, chosen, tooMany, widened, against, rankOf, best, bytesOf, strong, aloneOr, inRun, beats, between, amongRuns, inPattern, picked, pick}
 use Rattle.picking.proofs.PickedLaws.{Source, picked-from}
 
 lowest-le : (ls : List (List ℕ)) (n : ℕ) → n ≤ 80 → lowest literalScore ls n ≤ 80
@@ -34,7 +34,7 @@ LowRank (ranked n) = n ≤ 80
 LowRank skipped = Unit {0}
 LowRank excessive = Unit {0}
 
-unfoldable Low : Choice → Type 0
+unfoldable Low : Candidate → Type 0
 Low unranked = Unit {0}
 Low (chosen n ts) = n ≤ 80
 Low tooMany = Unit {0}
@@ -55,11 +55,11 @@ slice-low : (s : Slice) → LowRank (rankOf s)
 unfolding rankOf
 slice-low (slice prior own next) = rank-low own
 
-low-by : (b : Bool) (c d : Choice) → Low c → Low d → Low (cond b c d)
+low-by : (b : Bool) (c d : Candidate) → Low c → Low d → Low (cond b c d)
 low-by true c d h k = h
 low-by false c d h k = k
 
-against-low : (c : Choice) (s : Slice) (r : Ranked) → LowRank r → Low c → Low (against c s r)
+against-low : (c : Candidate) (s : Slice) (r : Ranked) → LowRank r → Low c → Low (against c s r)
 unfolding against Low
 against-low unranked s (ranked n) e h = e
 against-low unranked s skipped e h = tt
@@ -69,12 +69,12 @@ against-low (chosen m ts) s skipped e h = h
 against-low (chosen m ts) s excessive e h = tt
 against-low tooMany s r e h = tt
 
-best-low : (ss : List Slice) (c : Choice) → Low c → Low (best c ss)
+best-low : (ss : List Slice) (c : Candidate) → Low c → Low (best c ss)
 unfolding best
 best-low [] c h = h
 best-low (s ∷ ss) c h = best-low ss (against c s (rankOf s)) (against-low c s (rankOf s) (slice-low s) h)
 
-alone-low : (o : Option Tokens) (c : Choice) → Low c → Low (aloneOr o c)
+alone-low : (o : Option Tokens) (c : Candidate) → Low c → Low (aloneOr o c)
 unfolding aloneOr Low
 alone-low (some p) c h = score-le (bytesOf p)
 alone-low none c h = h
@@ -83,7 +83,7 @@ run-low : (run : Tokens) → Low (inRun run)
 unfolding inRun Low
 run-low run = alone-low (strong (parts run)) _ (best-low (slices (parts run) nothing) unranked tt)
 
-between-low : (c d : Choice) → Low c → Low d → Low (between c d)
+between-low : (c d : Candidate) → Low c → Low d → Low (between c d)
 unfolding between Low
 between-low unranked d h k = k
 between-low (chosen m ts) unranked h k = h
@@ -91,14 +91,14 @@ between-low (chosen m ts) (chosen n us) h k = low-by (beats n us m ts) (chosen n
 between-low (chosen m ts) tooMany h k = tt
 between-low tooMany d h k = tt
 
-among-low : (rs : List Tokens) (c : Choice) → Low c → Low (among c rs)
-unfolding among
+among-low : (rs : List Tokens) (c : Candidate) → Low c → Low (amongRuns c rs)
+unfolding amongRuns
 among-low [] c h = h
 among-low (r ∷ rs) c h = among-low rs (between c (inRun r)) (between-low c (inRun r) h (run-low r))
 
-choice-low : (ts : Tokens) → Low (choice ts)
-unfolding choice Low
-choice-low ts = among-low (runs ts) unranked tt
+pattern-low : (ts : Tokens) → Low (inPattern ts)
+unfolding inPattern Low
+pattern-low ts = among-low (runs ts) unranked tt
 
 pub picked-low : (ts : Tokens) (n : ℕ) (ls : List (List ℕ)) → pick ts ≡ picked n ls → n ≤ 80
 unfolding Low
@@ -108,4 +108,4 @@ picked-low ts n ls h = ⊎-elim none-low some-low (picked-from ts n ls h)
     none-low (a, e) = omega arith
 
     some-low : (us : Tokens) × Source ts us n ls → n ≤ 80
-    some-low (us, s) = subst Low (s .given) (choice-low ts)
+    some-low (us, s) = subst Low (s .given) (pattern-low ts)

@@ -11,14 +11,14 @@ ghost use Prim.Native.Nat.{_<_, _^_};
 ghost use lib.ListN.{length};
 ghost use Rattle.reading.specs.Lists.{reading};
 ghost use Rattle.printing.specs.Laid.{laid, Put};
-ghost use Rattle.lines.specs.Lines.{pickedLines};
+ghost use Rattle.lines.specs.Lines.{gotLines};
 ghost use Rattle.lines.specs.Listed.{listedOf};
-ghost use Rattle.lister.specs.Listings.{pickedOf, listingOf};
+ghost use Rattle.lister.specs.Listings.{gotOf, listingOf};
 
 // Picks the literals, into bytes and lengths of its own, and writes their lines.
 fn put_picked(text: &[u8], out: &mut [u8], at: usize) -> usize
     requires { ⌜ at < 2 ^ 32 ⌝ }
-    ensures { λ r. ⌜ Put (now (out .entry)) at (pickedLines (pickedOf (reading (now (text .entry))))) r (now (out .exit)) ⌝ }
+    ensures { λ r. ⌜ Put (now (out .entry)) at (gotLines (gotOf (reading (now (text .entry))))) r (now (out .exit)) ⌝ }
 {
     let mut bytes = [0u8; LENT_BYTES];
     let mut lens = [0u16; LENT_LENGTHS];

@@ -14,10 +14,10 @@ use Rattle.base.proofs.RefusalLaws.{number-one}
 use Rattle.meaning.specs.Limits.{tokenLimit, literalLimit}
 use Rattle.meaning.specs.Tokens.{Tokens, Spans}
 use Rattle.meaning.specs.Values.{Bytes}
-use Rattle.reading.specs.Lists.{Outcome, accepted, reading}
+use Rattle.reading.specs.Lists.{Verdict, accepted, reading}
 use Rattle.reading.proofs.PieceLaws.{never}
-use Rattle.picking.specs.Runs.{plain, runs}
-use Rattle.picking.specs.Choice.{Choice, unranked, chosen, tooMany, choice, Picked, picked, unpicked, taking, pick}
+use Rattle.picking.specs.Runs.{plainAlternatives, runs}
+use Rattle.picking.specs.Candidates.{Candidate, unranked, chosen, tooMany, inPattern, Picked, picked, unpicked, taking, pick}
 use Rattle.picking.proofs.RefusalLaws.{Some, not-plain-is, too-many-given, too-many-only}
 use Rattle.picking.proofs.PickedLaws.{picked-few}
 use Rattle.picking.proofs.HoldLaws.{HoldsOne, match-holds-literal}
@@ -25,7 +25,7 @@ use Rattle.generator.specs.Output as output
 use Rattle.literaldoor.proofs.ReadLaws.{read-literal-bounds}
 use Rattle.literaldoor.specs.declared.LiteralsAnswer.{LiteralsAnswer}
 use Rattle.literaldoor.specs.declared.LiteralsAnswer.the-variants as answer
-use Rattle.literaldoor.specs.Door.{gives, refuses, said, pickedSays, pickedBytes, pickedLengths, outcomeSays, outcomeBytes, outcomeLengths, literalsSays, bytesLeft, lengthsLeft}
+use Rattle.literaldoor.specs.Door.{gives, refuses, literalsSaid, pickedSays, pickedBytes, pickedLengths, verdictSays, verdictBytes, verdictLengths, literalsSays, bytesLeft, lengthsLeft}
 
 -- ---- what a pick says
 
@@ -60,12 +60,12 @@ says-short e rank ls b l h = go (output.fits ls b l) refl
 -- a pick is never refused with 18: that is a matter of room
 never-eighteen : (ts : Tokens) (x : Refusal) → pick ts ≡ unpicked x → numberOf x ≡ 18 → ⊥
 unfolding pick taking
-never-eighteen ts x h n = go (plain ts) (choice ts) refl refl h
+never-eighteen ts x h n = go (plainAlternatives ts) (inPattern ts) refl refl h
   where
     other : (y : Refusal) → (numberOf y ≡ 18 → ⊥) → unpicked y ≡ unpicked x → ⊥
     other y f e = let k : y ≡ x = cc in f (ap numberOf k ∙ n)
 
-    go : (t : Bool) (c : Choice) → plain ts ≡ t → choice ts ≡ c → cond t (taking c) (unpicked NotPlain) ≡ unpicked x → ⊥
+    go : (t : Bool) (c : Candidate) → plainAlternatives ts ≡ t → inPattern ts ≡ c → cond t (taking c) (unpicked NotPlain) ≡ unpicked x → ⊥
     go true unranked p e q = let z : _≡_ {A = ℕ} 0 1 = cc in omega arith
     go true (chosen m us) p e q = let z : _≡_ {A = ℕ} 0 1 = cc in omega arith
     go true tooMany p e q = other TooManyLiterals (λ z. omega arith) q
@@ -97,16 +97,16 @@ pub record Handed (t : List ℕ) (e : ℕ) (ts : Tokens) (b l : List ℕ) (reach
 -- of a text that is read as the tokens ts, and any buffers
 module _ (t : List ℕ) (e : ℕ) (ts : Tokens) (read : reading t ≡ accepted e ts) (b l : List ℕ) where
   says-pick : literalsSays t b l ≡ pickedSays e (pick ts) b l
-  unfolding outcomeSays
-  says-pick = ap (λ (x : Outcome). outcomeSays x b l) read
+  unfolding verdictSays
+  says-pick = ap (λ (x : Verdict). verdictSays x b l) read
 
   -- 19 exactly if some alternatives hold more than bytes and classes
-  pub nineteen : (literalsSays t b l ≡ refuses 19 0) ↔ (plain ts ≡ false)
+  pub nineteen : (literalsSays t b l ≡ refuses 19 0) ↔ (plainAlternatives ts ≡ false)
   nineteen =
       (λ h. not-plain-is ts .0 (pick-refused e (pick ts) b l NotPlain (λ z. omega arith) (sym says-pick ∙ h)), λ h. says-pick ∙ refused-pick e (pick ts) b l NotPlain (not-plain-is ts .1 h))
 
   -- 17 exactly if they do not, and some candidate has more than 256 literals
-  pub seventeen : (literalsSays t b l ≡ refuses 17 0) ↔ ((plain ts ≡ true) × Some (runs ts))
+  pub seventeen : (literalsSays t b l ≡ refuses 17 0) ↔ ((plainAlternatives ts ≡ true) × Some (runs ts))
   seventeen = (
     λ h. too-many-only ts (pick-refused e (pick ts) b l TooManyLiterals (λ z. omega arith) (sym says-pick ∙ h)),
     λ h. says-pick ∙ refused-pick e (pick ts) b l TooManyLiterals (too-many-given ts (h .0) (h .1)),
@@ -122,7 +122,7 @@ module _ (t : List ℕ) (e : ℕ) (ts : Tokens) (read : reading t ≡ accepted e
 
   -- otherwise the literals are handed out
   pub handed : (reached n rank : ℕ) → literalsSays t b l ≡ gives reached n rank → Handed t e ts b l reached n rank
-  unfolding outcomeBytes outcomeLengths pickedSays pickedBytes pickedLengths output.bytesLeft output.lengthsLeft
+  unfolding verdictBytes verdictLengths pickedSays pickedBytes pickedLengths output.bytesLeft output.lengthsLeft
   handed reached n rank h = go (pick ts) refl
     where
       fitting : (m : ℕ) (ls : List (List ℕ)) → pick ts ≡ picked m ls → (x : Bool) → output.fits ls b l ≡ x → Handed t e ts b l reached n rank
@@ -139,8 +139,8 @@ module _ (t : List ℕ) (e : ℕ) (ts : Tokens) (read : reading t ≡ accepted e
             number = sym p;
             few = (let z = picked-few ts m ls g in omega arith);
             sized = λ s i. read-literal-bounds t e ts read m ls g s i;
-            bytes-are = ap (λ (x : Outcome). outcomeBytes x b l) read ∙ ap (λ (x : Picked). pickedBytes x b l) g ∙ ap (λ (x : Bool). cond x (output.over (flatten ls) b) b) f;
-            lengths-are = ap (λ (x : Outcome). outcomeLengths x b l) read ∙ ap (λ (x : Picked). pickedLengths x b l) g ∙ ap (λ (x : Bool). cond x (output.over (map length ls) l) l) f;
+            bytes-are = ap (λ (x : Verdict). verdictBytes x b l) read ∙ ap (λ (x : Picked). pickedBytes x b l) g ∙ ap (λ (x : Bool). cond x (output.over (flatten ls) b) b) f;
+            lengths-are = ap (λ (x : Verdict). verdictLengths x b l) read ∙ ap (λ (x : Picked). pickedLengths x b l) g ∙ ap (λ (x : Bool). cond x (output.over (map length ls) l) l) f;
           }
       fitting m ls g false f =
           let k : refuses 18 0 ≡ gives reached n rank = sym (says-pick ∙ ap (λ (q : Picked). pickedSays e q b l) g ∙ ap (λ (x : Bool). cond x (gives e (length ls) m) (refuses 18 0)) f) ∙ h in
@@ -157,12 +157,12 @@ module _ (t : List ℕ) (e : ℕ) (ts : Tokens) (read : reading t ≡ accepted e
       ⊎-elim (λ (z : k .texts ≡ []). inl (k .number ∙ ap length z)) (λ (f : (s : List ℕ) → Bytes s → Spans ts s → HoldsOne (k .texts) s). inr f) (match-holds-literal ts rank (k .texts) (k .picks))
 
 -- an answer is known by what it says
-said-one : (a b : LiteralsAnswer) → said a ≡ said b → a ≡ b
+said-one : (a b : LiteralsAnswer) → literalsSaid a ≡ literalsSaid b → a ≡ b
 said-one (answer.Picked e n r) (answer.Picked d m s) h = cc
 said-one (answer.Picked e n r) (answer.Refused c x) h = never (cc)
 said-one (answer.Refused c x) (answer.Picked d m s) h = never (cc)
 said-one (answer.Refused c x) (answer.Refused d y) h = let a : numberOf c ≡ numberOf d = cc in let b : x ≡ y = cc in ap₂ answer.Refused (number-one c d a) b
 
 -- the door's promise leaves one answer and one content of each buffer
-pub literals-single : (t b l : List ℕ) (a c : LiteralsAnswer) (u v x y : List ℕ) → said a ≡ literalsSays t b l → said c ≡ literalsSays t b l → u ≡ bytesLeft t b l → v ≡ bytesLeft t b l → x ≡ lengthsLeft t b l → y ≡ lengthsLeft t b l → (a ≡ c) × (u ≡ v) × (x ≡ y)
+pub literals-single : (t b l : List ℕ) (a c : LiteralsAnswer) (u v x y : List ℕ) → literalsSaid a ≡ literalsSays t b l → literalsSaid c ≡ literalsSays t b l → u ≡ bytesLeft t b l → v ≡ bytesLeft t b l → x ≡ lengthsLeft t b l → y ≡ lengthsLeft t b l → (a ≡ c) × (u ≡ v) × (x ≡ y)
 literals-single t b l a c u v x y h k i j m n = (said-one a c (h ∙ sym k), i ∙ sym j, m ∙ sym n)

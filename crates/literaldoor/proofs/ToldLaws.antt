@@ -1,4 +1,4 @@
--- What the choice asks of the words of an accepted text. Assumes nothing.
+-- What the chooser asks of the words of an accepted text. Assumes nothing.
 use mathlib.Core.Path.{_≡_, sym, ap, _∙_, subst}
 use mathlib.Core.Bool.{true}
 use mathlib.Core.List.{List, [], _∷_}
@@ -9,7 +9,7 @@ use Rattle.meaning.specs.Tokens.{Tokens}
 use Rattle.meaning.specs.Entries.{entries}
 use Rattle.reading.specs.Lists.{accepted, reading}
 use Rattle.reading.proofs.SpelledValues.{accepted-spelled}
-use Rattle.picking.specs.Runs.{plain, segments}
+use Rattle.picking.specs.Runs.{plainAlternatives, segments}
 use Rattle.picking.proofs.KeepLaws.{Every}
 use Rattle.picking.proofs.ShortestLaws.{segments-told}
 use Rattle.entries.specs.Words.{tokensIn}
@@ -24,12 +24,12 @@ every-told [] h = tt
 every-told (s ∷ ss) h = (h .0, every-told ss (h .1))
 
 module _ (t : List ℕ) (e : ℕ) (ts : Tokens) (r : reading t ≡ accepted e ts) (ws : List ℕ) (w : ws ≡ entries ts) where
-  plain-told : plain ts ≡ true → AllTold (segments (tokensIn ws))
+  plain-told : plainAlternatives ts ≡ true → AllTold (segments (tokensIn ws))
   plain-told p =
       subst AllTold (sym (ap (λ (x : List ℕ). segments (tokensIn x)) w ∙ segments-entries ts p (accepted-spelled t e ts r)))
       (every-told (segments ts) (segments-told ts p (accepted-spelled t e ts r)))
 
-  pub entries-asked : length (entries ts) ≤ 4092 → (length ws ≤ tokenPool) × Whole ws × (plain (tokensIn ws) ≡ true → AllTold (segments (tokensIn ws)))
+  pub entries-asked : length (entries ts) ≤ 4092 → (length ws ≤ tokenPool) × Whole ws × (plainAlternatives (tokensIn ws) ≡ true → AllTold (segments (tokensIn ws)))
   entries-asked h =
       let (few, whole) = entries-whole ts ws w h in
-      (few, whole, λ p. plain-told (sym (ap (λ (x : List ℕ). plain (tokensIn x)) w ∙ plain-entries ts) ∙ p))
+      (few, whole, λ p. plain-told (sym (ap (λ (x : List ℕ). plainAlternatives (tokensIn x)) w ∙ plain-entries ts) ∙ p))

@@ -1,33 +1,34 @@
 -- What the literal door answers, and what it leaves in the two buffers. Assumes nothing: these are definitions.
+-- To be believed: `LiteralsSaid` `literalsSaid`.
 use mathlib.Core.Path.{_≡_}
 use mathlib.Core.Bool.{cond}
 use mathlib.Core.List.{List}
 use Prim.Native.Nat.{ℕ}
 use lib.ListN.{length}
 use Rattle.base.specs.Refusals.{numberOf}
-use Rattle.reading.specs.Lists.{Outcome, accepted, rejected, reading}
-use Rattle.picking.specs.Choice.{Picked, picked, unpicked, pick}
+use Rattle.reading.specs.Lists.{Verdict, accepted, rejected, reading}
+use Rattle.picking.specs.Candidates.{Picked, picked, unpicked, pick}
 use Rattle.generator.specs.Output as output
 use Rattle.literaldoor.specs.declared.LiteralsAnswer.{LiteralsAnswer}
 use Rattle.literaldoor.specs.declared.LiteralsAnswer.the-variants as answer
 
 -- 01's values: the offset reached, how many literals and their rank; or the refusal's number and its place
-pub data Said : Type 0 where
-  gives : ℕ → ℕ → ℕ → Said
-  refuses : ℕ → ℕ → Said
+pub data LiteralsSaid : Type 0 where
+  gives : ℕ → ℕ → ℕ → LiteralsSaid
+  refuses : ℕ → ℕ → LiteralsSaid
 
-abbrev pub said : LiteralsAnswer → Said
-said (answer.Picked reached count rank) = gives reached count rank
-said (answer.Refused x place) = refuses (numberOf x) place
+abbrev pub literalsSaid : LiteralsAnswer → LiteralsSaid
+literalsSaid (answer.Picked reached count rank) = gives reached count rank
+literalsSaid (answer.Refused x place) = refuses (numberOf x) place
 
 -- a text's refusals have their places; 19, 17 and 18 have place 0, and 18 comes last
-unfoldable pub pickedSays : ℕ → Picked → List ℕ → List ℕ → Said
+unfoldable pub pickedSays : ℕ → Picked → List ℕ → List ℕ → LiteralsSaid
 pickedSays reached (picked rank ls) b l = cond (output.fits ls b l) (gives reached (length ls) rank) (refuses 18 0)
 pickedSays reached (unpicked x) b l = refuses (numberOf x) 0
 
-unfoldable pub outcomeSays : Outcome → List ℕ → List ℕ → Said
-outcomeSays (accepted end ts) b l = pickedSays end (pick ts) b l
-outcomeSays (rejected x place) b l = refuses (numberOf x) place
+unfoldable pub verdictSays : Verdict → List ℕ → List ℕ → LiteralsSaid
+verdictSays (accepted end ts) b l = pickedSays end (pick ts) b l
+verdictSays (rejected x place) b l = refuses (numberOf x) place
 
 -- the literals one after another, and the length of each; on a refusal nothing is written
 unfoldable pub pickedBytes : Picked → List ℕ → List ℕ → List ℕ
@@ -38,24 +39,24 @@ unfoldable pub pickedLengths : Picked → List ℕ → List ℕ → List ℕ
 pickedLengths (picked rank ls) b l = output.lengthsLeft ls b l
 pickedLengths (unpicked x) b l = l
 
-unfoldable pub outcomeBytes : Outcome → List ℕ → List ℕ → List ℕ
-outcomeBytes (accepted end ts) b l = pickedBytes (pick ts) b l
-outcomeBytes (rejected x place) b l = b
+unfoldable pub verdictBytes : Verdict → List ℕ → List ℕ → List ℕ
+verdictBytes (accepted end ts) b l = pickedBytes (pick ts) b l
+verdictBytes (rejected x place) b l = b
 
-unfoldable pub outcomeLengths : Outcome → List ℕ → List ℕ → List ℕ
-outcomeLengths (accepted end ts) b l = pickedLengths (pick ts) b l
-outcomeLengths (rejected x place) b l = l
+unfoldable pub verdictLengths : Verdict → List ℕ → List ℕ → List ℕ
+verdictLengths (accepted end ts) b l = pickedLengths (pick ts) b l
+verdictLengths (rejected x place) b l = l
 
 -- of a text, and buffers that were b and l
-abbrev pub literalsSays : List ℕ → List ℕ → List ℕ → Said
-literalsSays t b l = outcomeSays (reading t) b l
+abbrev pub literalsSays : List ℕ → List ℕ → List ℕ → LiteralsSaid
+literalsSays t b l = verdictSays (reading t) b l
 
 abbrev pub bytesLeft : List ℕ → List ℕ → List ℕ → List ℕ
-bytesLeft t b l = outcomeBytes (reading t) b l
+bytesLeft t b l = verdictBytes (reading t) b l
 
 abbrev pub lengthsLeft : List ℕ → List ℕ → List ℕ → List ℕ
-lengthsLeft t b l = outcomeLengths (reading t) b l
+lengthsLeft t b l = verdictLengths (reading t) b l
 
 -- below the door: what is said of a pick from a text that was read up to the offset reached, and the buffers that were b and l
-abbrev pub Picks : ℕ → Picked → Said → List ℕ → List ℕ → List ℕ → List ℕ → Type 0
-Picks reached p s b l b′ l′ = (s ≡ pickedSays reached p b l) × (b′ ≡ pickedBytes p b l) × (l′ ≡ pickedLengths p b l)
+abbrev pub HandsOut : ℕ → Picked → LiteralsSaid → List ℕ → List ℕ → List ℕ → List ℕ → Type 0
+HandsOut reached p s b l b′ l′ = (s ≡ pickedSays reached p b l) × (b′ ≡ pickedBytes p b l) × (l′ ≡ pickedLengths p b l)

@@ -3,7 +3,7 @@
 use base::Refusal;
 use base::TOKEN_POOL;
 use generator::Wrote;
-use picks::Pick;
+use picks::Winner;
 use readdoor::ReadAnswer;
 ghost use mathlib.Core.Path.{_≡_};
 ghost use mathlib.Core.Bool.{true};
@@ -12,13 +12,13 @@ ghost use lib.ListN.{length};
 ghost use Rattle.meaning.specs.Limits.{literalLimit, tokenPool};
 ghost use Rattle.picking.specs.Literals.{literals as literalsOf};
 ghost use Rattle.picking.specs.Numbers.{count};
-ghost use Rattle.picking.specs.Runs.{plain, segments};
-ghost use Rattle.picking.specs.Choice.{pick, taking, picked};
+ghost use Rattle.picking.specs.Runs.{plainAlternatives, segments};
+ghost use Rattle.picking.specs.Candidates.{pick, taking, picked};
 ghost use Rattle.entries.specs.Words.{tokensIn};
-ghost use Rattle.picks.specs.Ranks.{choiceSays};
+ghost use Rattle.picks.specs.Ranks.{winnerSays};
 ghost use Rattle.runs.specs.Whole.{Whole};
 ghost use Rattle.chooser.specs.Kept.{Kept, AllTold};
-ghost use Rattle.literaldoor.specs.Door.{said, literalsSays, bytesLeft, lengthsLeft, Picks};
+ghost use Rattle.literaldoor.specs.Door.{literalsSaid, literalsSays, bytesLeft, lengthsLeft, HandsOut};
 
 // The offset reached, as in reading, how many literals and their rank; or a refusal and its place.
 pub enum LiteralsAnswer {
@@ -39,7 +39,7 @@ fn write_taken(
     lengths: &mut [u16],
 ) -> LiteralsAnswer
     requires { ⌜ (length (now ws) ≤ tokenPool) × (count (tokensIn (now ws)) ≤ literalLimit) ⌝ }
-    ensures { λ r. ⌜ Picks reached (picked rank (literalsOf (tokensIn (now (ws .entry))))) (said r) (now (bytes .entry)) (now (lengths .entry)) (now (bytes .exit)) (now (lengths .exit)) ⌝ }
+    ensures { λ r. ⌜ HandsOut reached (picked rank (literalsOf (tokensIn (now (ws .entry))))) (literalsSaid r) (now (bytes .entry)) (now (lengths .entry)) (now (bytes .exit)) (now (lengths .exit)) ⌝ }
 {
     let w = generator::write_all(ws, bytes, lengths);
     match w {
@@ -53,42 +53,42 @@ fn write_taken(
 }
 
 // Nothing chosen is no literal of rank 0: the literals of no words would be one, the empty one.
-fn write_choice(
+fn write_winner(
     ws: &[u32],
     reached: usize,
-    choice: Pick,
+    winner: Winner,
     bytes: &mut [u8],
     lengths: &mut [u16],
 ) -> LiteralsAnswer
-    requires { ⌜ (length (now ws) ≤ tokenPool) × Kept (now ws) choice ⌝ }
-    ensures { λ r. ⌜ Picks reached (taking (choiceSays (now (ws .entry)) choice)) (said r) (now (bytes .entry)) (now (lengths .entry)) (now (bytes .exit)) (now (lengths .exit)) ⌝ }
+    requires { ⌜ (length (now ws) ≤ tokenPool) × Kept (now ws) winner ⌝ }
+    ensures { λ r. ⌜ HandsOut reached (taking (winnerSays (now (ws .entry)) winner)) (literalsSaid r) (now (bytes .entry)) (now (lengths .entry)) (now (bytes .exit)) (now (lengths .exit)) ⌝ }
 {
-    match choice {
-        Pick::Nothing => LiteralsAnswer::Picked {
+    match winner {
+        Winner::Nothing => LiteralsAnswer::Picked {
             reached,
             count: 0,
             rank: 0,
         },
-        Pick::Taken(from, to, rank) => write_taken(&ws[from..to], reached, rank, bytes, lengths),
-        Pick::TooMany => LiteralsAnswer::Refused(Refusal::TooManyLiterals, 0),
+        Winner::Taken(from, to, rank) => write_taken(&ws[from..to], reached, rank, bytes, lengths),
+        Winner::TooMany => LiteralsAnswer::Refused(Refusal::TooManyLiterals, 0),
     }
 }
 
 // 19, then 17, then 18.
 fn pick_tokens(ws: &[u32], reached: usize, bytes: &mut [u8], lengths: &mut [u16]) -> LiteralsAnswer
-    requires { ⌜ (length (now ws) ≤ tokenPool) × Whole (now ws) × (plain (tokensIn (now ws)) ≡ true → AllTold (segments (tokensIn (now ws)))) ⌝ }
-    ensures { λ r. ⌜ Picks reached (pick (tokensIn (now (ws .entry)))) (said r) (now (bytes .entry)) (now (lengths .entry)) (now (bytes .exit)) (now (lengths .exit)) ⌝ }
+    requires { ⌜ (length (now ws) ≤ tokenPool) × Whole (now ws) × (plainAlternatives (tokensIn (now ws)) ≡ true → AllTold (segments (tokensIn (now ws)))) ⌝ }
+    ensures { λ r. ⌜ HandsOut reached (pick (tokensIn (now (ws .entry)))) (literalsSaid r) (now (bytes .entry)) (now (lengths .entry)) (now (bytes .exit)) (now (lengths .exit)) ⌝ }
 {
-    if !entries::is_plain(ws) {
+    if !entries::plain_alternatives(ws) {
         return LiteralsAnswer::Refused(Refusal::NotPlain, 0);
     }
-    let choice = chooser::choose(ws);
-    write_choice(ws, reached, choice, bytes, lengths)
+    let winner = chooser::choose(ws);
+    write_winner(ws, reached, winner, bytes, lengths)
 }
 
 // Picks the literals of a text. The tokens are read into words of the stack.
 pub fn literals(text: &[u8], bytes: &mut [u8], lengths: &mut [u16]) -> LiteralsAnswer
-    ensures { λ r. ⌜ (said r ≡ literalsSays (now (text .entry)) (now (bytes .entry)) (now (lengths .entry)))
+    ensures { λ r. ⌜ (literalsSaid r ≡ literalsSays (now (text .entry)) (now (bytes .entry)) (now (lengths .entry)))
         × (now (bytes .exit) ≡ bytesLeft (now (text .entry)) (now (bytes .entry)) (now (lengths .entry)))
         × (now (lengths .exit) ≡ lengthsLeft (now (text .entry)) (now (bytes .entry)) (now (lengths .entry))) ⌝ }
 {

@@ -7,17 +7,17 @@ use lib.Dec.{eqb}
 use lib.ListN.{length, getD, take, drop, length-drop}
 use Rattle.meaning.specs.Limits.{tokenPool}
 use Rattle.meaning.specs.Tokens.{Tokens, _⊕_}
+use Rattle.meaning.proofs.PartLaws.{to-end, length-from}
 use Rattle.picking.specs.Literals.{lengthIn}
 use Rattle.picking.specs.Runs.{parts, slice, longer}
-use Rattle.picking.specs.Choice.{Choice, rank, widened, best}
+use Rattle.picking.specs.Candidates.{Candidate, rank, widened, best}
 use Rattle.entries.specs.Words.{tokensIn}
-use Rattle.entries.proofs.PartLaws.{part-all, part-long}
-use Rattle.picks.specs.declared.Pick.{Pick}
+use Rattle.picks.specs.declared.Winner.{Winner}
 use Rattle.picks.specs.declared.Rank.{Rank}
-use Rattle.picks.specs.Ranks.{rankSays, choiceSays, Settles}
+use Rattle.picks.specs.Ranks.{rankSays, winnerSays, Settles}
 use Rattle.runs.specs.Whole.{Whole, byteEnd, partEnd, Placed}
 use Rattle.runs.proofs.PartLaws.{Part, first-part}
-use Rattle.picks.proofs.PickLaws.{Stands}
+use Rattle.picks.proofs.WinnerLaws.{Stands}
 use Rattle.literals.proofs.SliceLaws.{nextLiteral, further, turn, further-more, Next, next-of, widened-words, grown-words, grown-whole, later-words}
 
 -- the tokens of the words from a to b
@@ -25,7 +25,7 @@ abbrev pub words : List ℕ → ℕ → ℕ → Tokens
 words run a b = tokensIn (take (b - a) (drop a run))
 
 -- the slices from `at` on have been weighed up to the one that ends at `to`, and c has become d
-pub record Going (run : List ℕ) (prior at to len : ℕ) (c d : Choice) : Type 0 where
+pub record Going (run : List ℕ) (prior at to len : ℕ) (c d : Candidate) : Type 0 where
   pub ahead : at + 4 ≤ to
   pub inside : to ≤ length run
   pub small : len ≤ 4100
@@ -39,11 +39,11 @@ module _ (run : List ℕ) (prior at : ℕ) (p : Placed run prior at) where
   at-part = first-part (drop at run) (p .rest-whole) (let d = length-drop at run in let h = p .here in omega arith)
 
   pub part-there : 4 ≤ length (take (length run - at) (drop at run))
-  part-there = let e = part-long at run in let h = p .here in omega arith
+  part-there = let e = length-from at run in let h = p .here in omega arith
 
-  pub going-start : (n : ℕ) (c : Choice) → n ≡ partEnd (take (length run - at) (drop at run)) → Going run prior at (at + n) 0 c c
+  pub going-start : (n : ℕ) (c : Candidate) → n ≡ partEnd (take (length run - at) (drop at run)) → Going run prior at (at + n) 0 c c
   going-start n c e =
-      let f : n ≡ partEnd (drop at run) = e ∙ ap partEnd (part-all at run) in
+      let f : n ≡ partEnd (drop at run) = e ∙ ap partEnd (to-end at run) in
       let q = at-part in
       let d = length-drop at run in
       let s : at + n - at ≡ n = omega arith in
@@ -67,7 +67,7 @@ module _ (run : List ℕ) (prior at : ℕ) (p : Placed run prior at) where
       tail-is : {a b : Tokens} {s t : List Tokens} → (a ∷ s) ≡ (b ∷ t) → s ≡ t
       tail-is e = cc
 
-module _ (run : List ℕ) (prior at to len : ℕ) (c : Choice) (top : Pick) (p : Placed run prior at) (g : Going run prior at to len c (choiceSays run top)) where
+module _ (run : List ℕ) (prior at to len : ℕ) (c : Candidate) (top : Winner) (p : Placed run prior at) (g : Going run prior at to len c (winnerSays run top)) where
   after : Next (drop to run)
   after = next-of (drop to run) (g .rest-whole)
 
@@ -82,31 +82,31 @@ module _ (run : List ℕ) (prior at to len : ℕ) (c : Choice) (top : Pick) (p :
       omega arith
 
   -- one slice is weighed, and what comes next is known
-  pub weighed : (now : Pick) (next : ℕ) (r : Rank) → next ≡ byteEnd (take (length run - to) (drop to run)) → Settles top r (rank (words run at to))
+  pub weighed : (now : Winner) (next : ℕ) (r : Rank) → next ≡ byteEnd (take (length run - to) (drop to run)) → Settles top r (rank (words run at to))
       → Stands now top prior (to + next) (rankSays r) → (own : Tokens) (ps : List Tokens) → parts (tokensIn (drop at run)) ≡ own ∷ ps
-      → best c (longer ps (words run prior at) own 0) ≡ best (choiceSays run now) (further (parts (tokensIn (drop to run))) (words run prior at) (words run at to) len)
+      → best c (longer ps (words run prior at) own 0) ≡ best (winnerSays run now) (further (parts (tokensIn (drop to run))) (words run prior at) (words run at to) len)
   unfolding widened
   weighed now next r e f s own ps k =
-      let n : next ≡ byteEnd (drop to run) = e ∙ ap byteEnd (part-all to run) in
+      let n : next ≡ byteEnd (drop to run) = e ∙ ap byteEnd (to-end to run) in
       let nx = after in
       let ww : Whole (take next (drop to run)) = subst (λ (x : ℕ). Whole (take x (drop to run))) (sym n) (nx .next-whole) in
       let is : nextLiteral (parts (tokensIn (drop to run))) ≡ tokensIn (take next (drop to run)) = nx .next-is ∙ ap (λ (x : ℕ). tokensIn (take x (drop to run))) (sym n) in
       let wide : widened (slice (words run prior at) (words run at to) (nextLiteral (parts (tokensIn (drop to run))))) ≡ tokensIn (take (to + next - prior) (drop prior run)) =
       ap (λ (x : Tokens). words run prior at ⊕ (words run at to ⊕ x)) is ∙ sym (widened-words run prior at to (p .behind) at-le (p .before-whole) (g .own-whole) next ww) in
       g .same own ps k
-      ∙ turn (choiceSays run top) (choiceSays run now) (parts (tokensIn (drop to run))) (words run prior at) (words run at to) len
+      ∙ turn (winnerSays run top) (winnerSays run now) (parts (tokensIn (drop to run))) (words run prior at) (words run at to) len
       (s run (slice (words run prior at) (words run at to) (nextLiteral (parts (tokensIn (drop to run))))) wide
       ∙ f run (slice (words run prior at) (words run at to) (nextLiteral (parts (tokensIn (drop to run))))))
 
   pub rest-there : 4 ≤ length run - to → 4 ≤ length (take (length run - to) (drop to run))
-  rest-there h = let e = part-long to run in omega arith
+  rest-there h = let e = length-from to run in omega arith
 
   to-part : 4 ≤ length run - to → Part (drop to run) (partEnd (drop to run)) (eqb (getD (drop to run) 0 0) 0)
   to-part h = first-part (drop to run) (g .rest-whole) (let d = length-drop to run in omega arith)
 
   pub part-inside : (n : ℕ) → n ≡ partEnd (take (length run - to) (drop to run)) → 4 ≤ length run - to → (to + n ≤ length run) × (4 ≤ n)
   part-inside n e h =
-      let f : n ≡ partEnd (drop to run) = e ∙ ap partEnd (part-all to run) in
+      let f : n ≡ partEnd (drop to run) = e ∙ ap partEnd (to-end to run) in
       let q = to-part h in
       let d = length-drop to run in
       let a = q .fits in
@@ -114,12 +114,12 @@ module _ (run : List ℕ) (prior at to len : ℕ) (c : Choice) (top : Pick) (p :
       (omega arith, omega arith)
 
   -- the next longer slice
-  pub going-on : (now : Pick) (n m e : ℕ) → n ≡ partEnd (take (length run - to) (drop to run)) → 4 ≤ length run - to → len < 4 → e ≡ to + n → m ≡ lengthIn (tokensIn (take (e - to) (drop to run))) → m ≤ length (take (e - to) (drop to run))
+  pub going-on : (now : Winner) (n m e : ℕ) → n ≡ partEnd (take (length run - to) (drop to run)) → 4 ≤ length run - to → len < 4 → e ≡ to + n → m ≡ lengthIn (tokensIn (take (e - to) (drop to run))) → m ≤ length (take (e - to) (drop to run))
       → ((own : Tokens) (ps : List Tokens) → parts (tokensIn (drop at run)) ≡ own ∷ ps
-      → best c (longer ps (words run prior at) own 0) ≡ best (choiceSays run now) (further (parts (tokensIn (drop to run))) (words run prior at) (words run at to) len))
-      → Going run prior at e (len + m) c (choiceSays run now)
+      → best c (longer ps (words run prior at) own 0) ≡ best (winnerSays run now) (further (parts (tokensIn (drop to run))) (words run prior at) (words run at to) len))
+      → Going run prior at e (len + m) c (winnerSays run now)
   going-on now n m e n-is h l e-is m-is m-le s =
-      let f : n ≡ partEnd (drop to run) = n-is ∙ ap partEnd (part-all to run) in
+      let f : n ≡ partEnd (drop to run) = n-is ∙ ap partEnd (to-end to run) in
       let q = to-part h in
       let ins = part-inside n n-is h in
       let x : e - to ≡ n = omega arith in
@@ -140,7 +140,7 @@ module _ (run : List ℕ) (prior at to len : ℕ) (c : Choice) (top : Pick) (p :
         rest-whole = subst Whole dr (q .rest-whole);
         same = λ own ps k.
             (s own ps k
-            ∙ ap (best (choiceSays run now))
+            ∙ ap (best (winnerSays run now))
             (further-more (drop to run) (partEnd (drop to run)) (eqb (getD (drop to run) 0 0) 0) (words run prior at) (words run at to) len l q
             ∙ ap₂ (λ (y : Tokens) (z : ℕ). longer (parts (tokensIn (drop (partEnd (drop to run)) (drop to run)))) (words run prior at) y z) (sym ow) (sym le)
             ∙ ap (λ (y : List ℕ). longer (parts (tokensIn y)) (words run prior at) (words run at e) (len + m)) dr));

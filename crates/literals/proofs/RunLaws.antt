@@ -13,23 +13,23 @@ use Rattle.meaning.specs.Limits.{literalLimit, tokenPool}
 use Rattle.meaning.specs.Tokens.{Tokens, Byte, NotByte, MaskedByte, NotMaskedByte, Jump, Alternatives, nothing, _then_}
 use Rattle.atoms.specs.Score.{literalScore}
 use Rattle.meaning.proofs.SoundLaws.{and-left, and-right}
+use Rattle.meaning.proofs.PartLaws.{to-end, length-from}
 use Rattle.picking.specs.Literals.{taken, isByte}
 use Rattle.picking.specs.Numbers.{count, prefixed, ending, literalAt}
-use Rattle.picking.specs.Runs.{isLiteral, joins, partBefore, parts, Slice, literalOnly, longer, slices}
-use Rattle.picking.specs.Choice.{Choice, unranked, chosen, tooMany, against, rankOf, best, bytesOf, byteOf, strong, aloneOr, inRun}
+use Rattle.picking.specs.Runs.{isLiteral, joinsPart, partBefore, parts, Slice, literalOnly, longer, slices}
+use Rattle.picking.specs.Candidates.{Candidate, unranked, chosen, tooMany, against, rankOf, best, bytesOf, byteOf, strong, aloneOr, inRun}
 use Rattle.picking.proofs.RefusalLaws.{best-full}
 use Rattle.entries.specs.Words.{tokensIn}
 use Rattle.entries.proofs.StepLaws.{tokens-end}
-use Rattle.entries.proofs.PartLaws.{part-all, part-long}
-use Rattle.picks.specs.declared.Pick.{Pick}
-use Rattle.picks.specs.declared.Pick.the-variants.{Nothing, Taken, TooMany}
-use Rattle.picks.specs.Ranks.{choiceSays}
+use Rattle.picks.specs.declared.Winner.{Winner}
+use Rattle.picks.specs.declared.Winner.the-variants.{Nothing, Taken, TooMany}
+use Rattle.picks.specs.Ranks.{winnerSays}
 use Rattle.runs.specs.Whole.{Whole, none as empty, partEnd, Placed}
 use Rattle.runs.proofs.PartLaws.{Part, first-part}
 use Rattle.literals.proofs.SliceLaws.{later-words}
 use Rattle.literals.proofs.LongerLaws.{words}
 
-best-append : (xs ys : List Slice) (c : Choice) → best c (xs ++ ys) ≡ best (best c xs) ys
+best-append : (xs ys : List Slice) (c : Candidate) → best c (xs ++ ys) ≡ best (best c xs) ys
 unfolding best
 best-append [] ys c = refl
 best-append (x ∷ xs) ys c = best-append xs ys (against c x (rankOf x))
@@ -38,16 +38,16 @@ no-tokens : (run : List ℕ) (a : ℕ) → words run a a ≡ nothing
 no-tokens run a = let e : a - a ≡ 0 = omega arith in ap (λ (x : ℕ). tokensIn (take x (drop a run))) e ∙ tokens-end (take 0 (drop a run)) (omega arith)
 
 -- the slices of the first parts up to `at` have been weighed
-pub record Weighed (run : List ℕ) (prior at : ℕ) (top : Pick) : Type 0 where
+pub record Weighed (run : List ℕ) (prior at : ℕ) (top : Winner) : Type 0 where
   pub behind : prior ≤ at
   pub inside : at ≤ length run
   pub before-whole : Whole (take (at - prior) (drop prior run))
   pub rest-whole : Whole (drop at run)
-  pub same : best unranked (slices (parts (tokensIn run)) nothing) ≡ best (choiceSays run top) (slices (parts (tokensIn (drop at run))) (words run prior at))
+  pub same : best unranked (slices (parts (tokensIn run)) nothing) ≡ best (winnerSays run top) (slices (parts (tokensIn (drop at run))) (words run prior at))
 
 -- where an entry is left of a run, so it is of its part from there on, and the first part of that is told
 pub rest-long : (run : List ℕ) (at : ℕ) → 4 ≤ length run - at → 4 ≤ length (take (length run - at) (drop at run))
-rest-long run at h = let e = part-long at run in omega arith
+rest-long run at h = let e = length-from at run in omega arith
 
 part-there : (run : List ℕ) (at : ℕ) → Whole (drop at run) → 4 ≤ length run - at → Part (drop at run) (partEnd (drop at run)) (eqb (getD (drop at run) 0 0) 0)
 part-there run at w h = first-part (drop at run) w (let d = length-drop at run in omega arith)
@@ -63,22 +63,22 @@ module _ (run : List ℕ) (few : length run ≤ tokenPool) where
         same = sym (ap (λ (x : Tokens). best unranked (slices (parts (tokensIn run)) x)) (no-tokens run 0));
       }
 
-  module _ (prior at : ℕ) (top : Pick) (g : Weighed run prior at top) where
-    pub weighed-done : length run - at < 4 → choiceSays run top ≡ best unranked (slices (parts (tokensIn run)) nothing)
+  module _ (prior at : ℕ) (top : Winner) (g : Weighed run prior at top) where
+    pub weighed-done : length run - at < 4 → winnerSays run top ≡ best unranked (slices (parts (tokensIn run)) nothing)
     unfolding parts slices best
     weighed-done h =
         let e = tokens-end (drop at run) (let d = length-drop at run in omega arith) in
-        sym (g .same ∙ ap (λ (x : Tokens). best (choiceSays run top) (slices (parts x) (words run prior at))) e)
+        sym (g .same ∙ ap (λ (x : Tokens). best (winnerSays run top) (slices (parts x) (words run prior at))) e)
 
-    pub weighed-full : ((run : List ℕ) → choiceSays run top ≡ tooMany) → tooMany ≡ best unranked (slices (parts (tokensIn run)) nothing)
-    weighed-full e = sym (g .same ∙ ap (λ (c : Choice). best c (slices (parts (tokensIn (drop at run))) (words run prior at))) (e run) ∙ best-full (slices (parts (tokensIn (drop at run))) (words run prior at)))
+    pub weighed-full : ((run : List ℕ) → winnerSays run top ≡ tooMany) → tooMany ≡ best unranked (slices (parts (tokensIn run)) nothing)
+    weighed-full e = sym (g .same ∙ ap (λ (c : Candidate). best c (slices (parts (tokensIn (drop at run))) (words run prior at))) (e run) ∙ best-full (slices (parts (tokensIn (drop at run))) (words run prior at)))
 
     pub placed : 4 ≤ length run - at → Placed run prior at
     placed h = record { few = few; behind = g .behind; here = (omega arith); before-whole = g .before-whole; rest-whole = g .rest-whole }
 
     pub here-inside : 4 ≤ length run - at → (n : ℕ) → n ≡ partEnd (take (length run - at) (drop at run)) → (at + n ≤ length run) × (4 ≤ n)
     here-inside h n e =
-        let f : n ≡ partEnd (drop at run) = e ∙ ap partEnd (part-all at run) in
+        let f : n ≡ partEnd (drop at run) = e ∙ ap partEnd (to-end at run) in
         let q = part-there run at (g .rest-whole) h in
         let d = length-drop at run in
         let a = q .fits in
@@ -86,12 +86,12 @@ module _ (run : List ℕ) (few : length run ≤ tokenPool) where
         (omega arith, omega arith)
 
     -- the next first part; s is where a literal part begins, or where it would end
-    pub weighed-on : (h : 4 ≤ length run - at) (n e s : ℕ) (now : Pick) → n ≡ partEnd (take (length run - at) (drop at run)) → e ≡ at + n → s ≡ cond (eqb (getD run at 0) 0) at e
-        → ((own : Tokens) (ps : List Tokens) → parts (tokensIn (drop at run)) ≡ own ∷ ps → choiceSays run now ≡ best (choiceSays run top) (longer ps (words run prior at) own 0))
+    pub weighed-on : (h : 4 ≤ length run - at) (n e s : ℕ) (now : Winner) → n ≡ partEnd (take (length run - at) (drop at run)) → e ≡ at + n → s ≡ cond (eqb (getD run at 0) 0) at e
+        → ((own : Tokens) (ps : List Tokens) → parts (tokensIn (drop at run)) ≡ own ∷ ps → winnerSays run now ≡ best (winnerSays run top) (longer ps (words run prior at) own 0))
         → Weighed run s e now
     unfolding slices literalOnly
     weighed-on h n e s now n-is e-is s-is w =
-        let f : n ≡ partEnd (drop at run) = n-is ∙ ap partEnd (part-all at run) in
+        let f : n ≡ partEnd (drop at run) = n-is ∙ ap partEnd (to-end at run) in
         let q = part-there run at (g .rest-whole) h in
         let ins = here-inside h n n-is in
         let k : getD (drop at run) 0 0 ≡ getD run at 0 = lib.Seq.getD-drop at run 0 0 ∙ ap (λ (x : ℕ). getD run x 0) (native.Mathlib.Nat.add-zero at) in
@@ -113,10 +113,10 @@ module _ (run : List ℕ) (few : length run ≤ tokenPool) where
               before-whole = start-whole b s-b wh;
               rest-whole = subst Whole dr (q .rest-whole);
               same =
-                  g .same ∙ ap (λ (y : List Tokens). best (choiceSays run top) (slices y (words run prior at))) (q .part-is)
-                  ∙ best-append (longer (parts (tokensIn (drop (partEnd (drop at run)) (drop at run)))) (words run prior at) (tokensIn (take (partEnd (drop at run)) (drop at run))) 0) _ (choiceSays run top)
-                  ∙ ap (λ (y : Choice). best y (slices (parts (tokensIn (drop (partEnd (drop at run)) (drop at run)))) (literalOnly (tokensIn (take (partEnd (drop at run)) (drop at run)))))) (sym (w _ _ (q .part-is)))
-                  ∙ ap₂ (λ (y : List ℕ) (z : Tokens). best (choiceSays run now) (slices (parts (tokensIn y)) z)) dr (ap literalOnly own ∙ start-is b s-b lit);
+                  g .same ∙ ap (λ (y : List Tokens). best (winnerSays run top) (slices y (words run prior at))) (q .part-is)
+                  ∙ best-append (longer (parts (tokensIn (drop (partEnd (drop at run)) (drop at run)))) (words run prior at) (tokensIn (take (partEnd (drop at run)) (drop at run))) 0) _ (winnerSays run top)
+                  ∙ ap (λ (y : Candidate). best y (slices (parts (tokensIn (drop (partEnd (drop at run)) (drop at run)))) (literalOnly (tokensIn (take (partEnd (drop at run)) (drop at run)))))) (sym (w _ _ (q .part-is)))
+                  ∙ ap₂ (λ (y : List ℕ) (z : Tokens). best (winnerSays run now) (slices (parts (tokensIn y)) z)) dr (ap literalOnly own ∙ start-is b s-b lit);
             }
           where
             start-le : (b : Bool) → s ≡ cond b at e → s ≤ e
@@ -139,14 +139,14 @@ AllBytes (t then ts) = (isByte t ≡ true) × AllBytes ts
 
 -- a part that begins with a byte holds nothing else
 pub literal-bytes : (ts p : Tokens) (ps : List Tokens) → parts ts ≡ p ∷ ps → isLiteral p ≡ true → AllBytes p
-unfolding parts partBefore joins AllBytes isLiteral
+unfolding parts partBefore joinsPart AllBytes isLiteral
 literal-bytes nothing p ps e l = absurd (let z : _≡_ {A = ℕ} 0 1 = cc in omega arith)
 literal-bytes (t then ts) p ps e l = go (parts ts) (λ q rs f k. literal-bytes ts q rs f k) e
   where
     one : (t then nothing) ≡ p → AllBytes p
     one f = subst AllBytes f (subst (λ (x : Tokens). isLiteral x ≡ true) (sym f) l, tt)
 
-    pick : (b : Bool) (q : Tokens) (rs : List Tokens) → isByte t && isLiteral q ≡ b → (isLiteral q ≡ true → AllBytes q) → joins b t q rs ≡ p ∷ ps → AllBytes p
+    pick : (b : Bool) (q : Tokens) (rs : List Tokens) → isByte t && isLiteral q ≡ b → (isLiteral q ≡ true → AllBytes q) → joinsPart b t q rs ≡ p ∷ ps → AllBytes p
     pick true q rs k ih g = let f : (t then q) ≡ p = cc in subst AllBytes f (and-left (isByte t) (isLiteral q) k, ih (and-right (isByte t) (isLiteral q) k))
     pick false q rs k ih g = one cc
 
@@ -195,7 +195,7 @@ module _ (run : List ℕ) (few : length run ≤ tokenPool) where
 
     module _ (h : 4 ≤ length run - at) (n : ℕ) (n-is : n ≡ partEnd (take (length run - at) (drop at run))) where
       n-exact : n ≡ partEnd (drop at run)
-      n-exact = n-is ∙ ap partEnd (part-all at run)
+      n-exact = n-is ∙ ap partEnd (to-end at run)
 
       pub front-inside : (at + n ≤ length run) × (4 ≤ n)
       front-inside =
@@ -263,27 +263,27 @@ module _ (run : List ℕ) (few : length run ≤ tokenPool) where
 
 -- ---- what is chosen in a run
 
-pub run-alone : (run : List ℕ) (s : Pick) → choiceSays run s ≡ aloneOr (strong (parts (tokensIn run))) unranked → (s ≡ Nothing → ⊥) → choiceSays run s ≡ inRun (tokensIn run)
+pub run-alone : (run : List ℕ) (s : Winner) → winnerSays run s ≡ aloneOr (strong (parts (tokensIn run))) unranked → (s ≡ Nothing → ⊥) → winnerSays run s ≡ inRun (tokensIn run)
 unfolding inRun aloneOr
 run-alone run s e f = e ∙ go s e f (strong (parts (tokensIn run))) refl
   where
-    go : (x : Pick) → choiceSays run x ≡ aloneOr (strong (parts (tokensIn run))) unranked → (x ≡ Nothing → ⊥) → (o : Option Tokens) → strong (parts (tokensIn run)) ≡ o
+    go : (x : Winner) → winnerSays run x ≡ aloneOr (strong (parts (tokensIn run))) unranked → (x ≡ Nothing → ⊥) → (o : Option Tokens) → strong (parts (tokensIn run)) ≡ o
         → aloneOr (strong (parts (tokensIn run))) unranked ≡ aloneOr (strong (parts (tokensIn run))) (best unranked (slices (parts (tokensIn run)) nothing))
     go x d n (some p) q = rw q
     go Nothing d n none q = absurd (n refl)
     go (Taken a b m) d n none q = absurd (let r : chosen m (tokensIn (take (b - a) (drop a run))) ≡ unranked = d ∙ ap (λ (o : Option Tokens). aloneOr o unranked) q in let z : _≡_ {A = ℕ} 0 1 = cc in omega arith)
     go TooMany d n none q = absurd (let r : tooMany ≡ unranked = d ∙ ap (λ (o : Option Tokens). aloneOr o unranked) q in let z : _≡_ {A = ℕ} 0 1 = cc in omega arith)
 
-pub run-slice : (run : List ℕ) (s t : Pick) → choiceSays run s ≡ aloneOr (strong (parts (tokensIn run))) unranked → s ≡ Nothing → choiceSays run t ≡ best unranked (slices (parts (tokensIn run)) nothing) → choiceSays run t ≡ inRun (tokensIn run)
+pub run-slice : (run : List ℕ) (s t : Winner) → winnerSays run s ≡ aloneOr (strong (parts (tokensIn run))) unranked → s ≡ Nothing → winnerSays run t ≡ best unranked (slices (parts (tokensIn run)) nothing) → winnerSays run t ≡ inRun (tokensIn run)
 unfolding inRun aloneOr
 run-slice run s t e f g = g ∙ go (strong (parts (tokensIn run))) refl
   where
     go : (o : Option Tokens) → strong (parts (tokensIn run)) ≡ o → best unranked (slices (parts (tokensIn run)) nothing) ≡ aloneOr (strong (parts (tokensIn run))) (best unranked (slices (parts (tokensIn run)) nothing))
     go none q = rw q
-    go (some p) q = absurd (let r : unranked ≡ chosen (literalScore (bytesOf p)) p = sym (ap (choiceSays run) f) ∙ e ∙ ap (λ (o : Option Tokens). aloneOr o unranked) q in let z : _≡_ {A = ℕ} 0 1 = cc in omega arith)
+    go (some p) q = absurd (let r : unranked ≡ chosen (literalScore (bytesOf p)) p = sym (ap (winnerSays run) f) ∙ e ∙ ap (λ (o : Option Tokens). aloneOr o unranked) q in let z : _≡_ {A = ℕ} 0 1 = cc in omega arith)
 
-pub run-taken : (run : List ℕ) (s : Pick) (a b m : ℕ) → s ≡ Taken a b m → choiceSays run s ≡ aloneOr (strong (parts (tokensIn run))) unranked → choiceSays run (Taken a b m) ≡ inRun (tokensIn run)
-run-taken run s a b m e h = run-alone run (Taken a b m) (sym (ap (choiceSays run) e) ∙ h) (λ f. (let z : _≡_ {A = ℕ} 0 1 = cc in omega arith))
+pub run-taken : (run : List ℕ) (s : Winner) (a b m : ℕ) → s ≡ Taken a b m → winnerSays run s ≡ aloneOr (strong (parts (tokensIn run))) unranked → winnerSays run (Taken a b m) ≡ inRun (tokensIn run)
+run-taken run s a b m e h = run-alone run (Taken a b m) (sym (ap (winnerSays run) e) ∙ h) (λ f. (let z : _≡_ {A = ℕ} 0 1 = cc in omega arith))
 
-pub run-full : (run : List ℕ) (s : Pick) → s ≡ TooMany → choiceSays run s ≡ aloneOr (strong (parts (tokensIn run))) unranked → choiceSays run TooMany ≡ inRun (tokensIn run)
-run-full run s e h = run-alone run TooMany (sym (ap (choiceSays run) e) ∙ h) (λ f. (let z : _≡_ {A = ℕ} 0 1 = cc in omega arith))
+pub run-full : (run : List ℕ) (s : Winner) → s ≡ TooMany → winnerSays run s ≡ aloneOr (strong (parts (tokensIn run))) unranked → winnerSays run TooMany ≡ inRun (tokensIn run)
+run-full run s e h = run-alone run TooMany (sym (ap (winnerSays run) e) ∙ h) (λ f. (let z : _≡_ {A = ℕ} 0 1 = cc in omega arith))

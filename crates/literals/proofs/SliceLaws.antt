@@ -11,7 +11,7 @@ use borrow.Author.Tests.{eqb-true, eqb-false, le-leb, lt-leb, ltb-true, ltb-fals
 use Rattle.meaning.specs.Tokens.{Tokens, nothing, _⊕_}
 use Rattle.picking.specs.Literals.{lengthIn}
 use Rattle.picking.specs.Runs.{isLiteral, parts, Slice, slice, literalOnly, longer}
-use Rattle.picking.specs.Choice.{Choice, rank, against, rankOf, best}
+use Rattle.picking.specs.Candidates.{Candidate, rank, against, rankOf, best}
 use Rattle.entries.specs.Words.{tokensIn}
 use Rattle.entries.proofs.StepLaws.{tokens-end}
 use Rattle.runs.specs.Whole.{Whole, none, byteEnd}
@@ -34,16 +34,16 @@ longer-head [] prior own len = refl
 longer-head (p ∷ ps) prior own len = refl
 
 -- one slice is weighed
-pub turn : (c d : Choice) (ps : List Tokens) (prior own : Tokens) (len : ℕ) → d ≡ against c (slice prior own (nextLiteral ps)) (rank own) → best c (longer ps prior own len) ≡ best d (further ps prior own len)
+pub turn : (c d : Candidate) (ps : List Tokens) (prior own : Tokens) (len : ℕ) → d ≡ against c (slice prior own (nextLiteral ps)) (rank own) → best c (longer ps prior own len) ≡ best d (further ps prior own len)
 unfolding best rankOf
-turn c d ps prior own len e = ap (best c) (longer-head ps prior own len) ∙ ap (λ (x : Choice). best x (further ps prior own len)) (sym e)
+turn c d ps prior own len e = ap (best c) (longer-head ps prior own len) ∙ ap (λ (x : Candidate). best x (further ps prior own len)) (sym e)
 
-pub further-long : (c : Choice) (ps : List Tokens) (prior own : Tokens) (len : ℕ) → 4 ≤ len → best c (further ps prior own len) ≡ c
+pub further-long : (c : Candidate) (ps : List Tokens) (prior own : Tokens) (len : ℕ) → 4 ≤ len → best c (further ps prior own len) ≡ c
 unfolding further best
 further-long c [] prior own len h = refl
 further-long c (p ∷ ps) prior own len h = ap (λ (b : Bool). best c (cond b [] (longer ps prior (own ⊕ p) (len + lengthIn p)))) (le-leb 4 len h)
 
-pub further-none : (c : Choice) (R : List ℕ) (prior own : Tokens) (len : ℕ) → length R < 4 → best c (further (parts (tokensIn R)) prior own len) ≡ c
+pub further-none : (c : Candidate) (R : List ℕ) (prior own : Tokens) (len : ℕ) → length R < 4 → best c (further (parts (tokensIn R)) prior own len) ≡ c
 unfolding further best parts
 further-none c R prior own len h = ap (λ (x : Tokens). best c (further (parts x) prior own len)) (tokens-end R h)
 

@@ -7,16 +7,16 @@ ghost use lib.ListN.{length, take, drop};
 ghost use Rattle.meaning.specs.Limits.{tokenPool};
 ghost use Rattle.meaning.specs.Tokens.{Tokens, nothing};
 ghost use Rattle.picking.specs.Runs.{parts, longer, slices};
-ghost use Rattle.picking.specs.Choice.{best as bestOf, unranked, strong, aloneOr, inRun};
+ghost use Rattle.picking.specs.Candidates.{best as bestOf, unranked, strong, aloneOr, inRun};
 ghost use Rattle.entries.specs.Words.{tokensIn};
-ghost use Rattle.picks.specs.Ranks.{choiceSays};
+ghost use Rattle.picks.specs.Ranks.{winnerSays};
 ghost use Rattle.runs.specs.Whole.{Placed, Whole};
-use picks::Pick;
+use picks::Winner;
 
 // A slice and the longer ones with the same first part, which begins at `at`.
-fn longer_slices(run: &[u32], prior: usize, at: usize, best: Pick) -> Pick
+fn longer_slices(run: &[u32], prior: usize, at: usize, best: Winner) -> Winner
     requires { ⌜ Placed (now run) prior at ⌝ }
-    ensures { λ r. ⌜ ((own : Tokens) (ps : List Tokens) → parts (tokensIn (drop at (now (run .entry)))) ≡ own ∷ ps → choiceSays (now (run .entry)) r ≡ bestOf (choiceSays (now (run .entry)) best) (longer ps (tokensIn (take (at - prior) (drop prior (now (run .entry))))) own 0)) ⌝ }
+    ensures { λ r. ⌜ ((own : Tokens) (ps : List Tokens) → parts (tokensIn (drop at (now (run .entry)))) ≡ own ∷ ps → winnerSays (now (run .entry)) r ≡ bestOf (winnerSays (now (run .entry)) best) (longer ps (tokensIn (take (at - prior) (drop prior (now (run .entry))))) own 0)) ⌝ }
 {
     let first = runs::part_words(&run[at..]);
     let mut to = at + first;
@@ -40,16 +40,16 @@ fn longer_slices(run: &[u32], prior: usize, at: usize, best: Pick) -> Pick
 }
 
 // The first highest slice of a run, with the literal parts on either side.
-fn best_slice(run: &[u32]) -> Pick
+fn best_slice(run: &[u32]) -> Winner
     requires { ⌜ (length (now run) ≤ tokenPool) × Whole (now run) ⌝ }
-    ensures { λ r. ⌜ choiceSays (now (run .entry)) r ≡ bestOf unranked (slices (parts (tokensIn (now (run .entry)))) nothing) ⌝ }
+    ensures { λ r. ⌜ winnerSays (now (run .entry)) r ≡ bestOf unranked (slices (parts (tokensIn (now (run .entry)))) nothing) ⌝ }
 {
     let mut prior = 0;
     let mut at = 0;
-    let mut top = Pick::Nothing;
+    let mut top = Winner::Nothing;
     while 4 <= run.len() - at {
         if picks::is_full(top) {
-            return Pick::TooMany;
+            return Winner::TooMany;
         }
         top = longer_slices(run, prior, at, top);
         let n = runs::part_words(&run[at..]);
@@ -61,9 +61,9 @@ fn best_slice(run: &[u32]) -> Pick
 }
 
 // The first literal part that scores at least 80.
-fn strong_part(run: &[u32]) -> Pick
+fn strong_part(run: &[u32]) -> Winner
     requires { ⌜ (length (now run) ≤ tokenPool) × Whole (now run) ⌝ }
-    ensures { λ r. ⌜ choiceSays (now (run .entry)) r ≡ aloneOr (strong (parts (tokensIn (now (run .entry))))) unranked ⌝ }
+    ensures { λ r. ⌜ winnerSays (now (run .entry)) r ≡ aloneOr (strong (parts (tokensIn (now (run .entry))))) unranked ⌝ }
 {
     let mut at = 0;
     while 4 <= run.len() - at {
@@ -72,23 +72,23 @@ fn strong_part(run: &[u32]) -> Pick
         if run[at] == 0 {
             let s = ranking::score_at(&run[at..e], 0);
             if 80 <= s {
-                return Pick::Taken(at, e, s);
+                return Winner::Taken(at, e, s);
             }
         }
         at = e;
     }
-    Pick::Nothing
+    Winner::Nothing
 }
 
 // What is chosen in a run: such a part alone, or else the best slice.
-pub fn in_run(run: &[u32]) -> Pick
+pub fn in_run(run: &[u32]) -> Winner
     requires { ⌜ (length (now run) ≤ tokenPool) × Whole (now run) ⌝ }
-    ensures { λ r. ⌜ choiceSays (now (run .entry)) r ≡ inRun (tokensIn (now (run .entry))) ⌝ }
+    ensures { λ r. ⌜ winnerSays (now (run .entry)) r ≡ inRun (tokensIn (now (run .entry))) ⌝ }
 {
     let s = strong_part(run);
     match s {
-        Pick::Nothing => best_slice(run),
-        Pick::Taken(from, to, rank) => Pick::Taken(from, to, rank),
-        Pick::TooMany => Pick::TooMany,
+        Winner::Nothing => best_slice(run),
+        Winner::Taken(from, to, rank) => Winner::Taken(from, to, rank),
+        Winner::TooMany => Winner::TooMany,
     }
 }

@@ -7,8 +7,8 @@ use Prim.Native.Nat.{ℕ, zero, suc, _+_, _-_, _≤_, _<_}
 use native.Mathlib.Omega.{arith}
 use native.Mathlib.Nat.{eq-or-lt-of-le}
 use Rattle.meaning.specs.Programs.{Item, Prog, Branches, one, jump, range, alt, end, _▹_, stop, or}
-use Rattle.meaning.specs.Choices.{Pick, Choice, bytes, first, later, pick, Offers, Chooses, OffersIn, Order, short, long, Earlier, SoonerPick, Sooner, of-lengths, of-branches, in-first, in-later, at-this, further}
-use Rattle.meaning.specs.Rows.{rising, lengths, picked, _⊠_, picks, choices, picksIn}
+use Rattle.meaning.specs.Choices.{Way, Choice, bytes, first, later, via, Allows, Chooses, AllowsIn, Order, short, long, Earlier, SoonerWay, Sooner, of-lengths, of-branches, in-first, in-later, at-this, further}
+use Rattle.meaning.specs.Rows.{rising, lengths, viaEach, _⊠_, ways, choices, waysIn}
 
 -- membership in a reversed list
 mem-reverse : {A : Type 0} {a : A} (l : List A) → List·Memᴰ a l → List·Memᴰ a (reverse l)
@@ -48,32 +48,32 @@ mem-lengths short a b m = let q = mem-rising a (suc b - a) m in (omega arith, om
 mem-lengths long a b m = let q = mem-rising a (suc b - a) (reverse-mem (rising a (suc b - a)) m) in (omega arith, omega arith)
 
 -- membership in the choices of two parts
-picked-mem : (k : Pick) {c : Choice} {cs : List Choice} → List·Memᴰ c cs → List·Memᴰ (pick k c) (picked k cs)
-unfolding picked
-picked-mem k (List·Memᴰ·head e) = List·Memᴰ·head (ap (pick k) e)
-picked-mem k (List·Memᴰ·tail m) = List·Memᴰ·tail (picked-mem k m)
+via-mem : (k : Way) {c : Choice} {cs : List Choice} → List·Memᴰ c cs → List·Memᴰ (via k c) (viaEach k cs)
+unfolding viaEach
+via-mem k (List·Memᴰ·head e) = List·Memᴰ·head (ap (via k) e)
+via-mem k (List·Memᴰ·tail m) = List·Memᴰ·tail (via-mem k m)
 
-mem-picked : (k : Pick) (cs : List Choice) {x : Choice} → List·Memᴰ x (picked k cs) → (c : Choice) × (x ≡ pick k c) × List·Memᴰ c cs
-unfolding picked
-mem-picked k [] m = absurd (List·Memᴰ·not-nil m)
-mem-picked k (c ∷ cs) {x} m = go (mem-picked k cs) (List·Memᴰ·cases-cons m)
+mem-via : (k : Way) (cs : List Choice) {x : Choice} → List·Memᴰ x (viaEach k cs) → (c : Choice) × (x ≡ via k c) × List·Memᴰ c cs
+unfolding viaEach
+mem-via k [] m = absurd (List·Memᴰ·not-nil m)
+mem-via k (c ∷ cs) {x} m = go (mem-via k cs) (List·Memᴰ·cases-cons m)
   where
-    go : (List·Memᴰ x (picked k cs) → (d : Choice) × (x ≡ pick k d) × List·Memᴰ d cs) → (x ≡ pick k c) ⊎ List·Memᴰ x (picked k cs) → (d : Choice) × (x ≡ pick k d) × List·Memᴰ d (c ∷ cs)
+    go : (List·Memᴰ x (viaEach k cs) → (d : Choice) × (x ≡ via k d) × List·Memᴰ d cs) → (x ≡ via k c) ⊎ List·Memᴰ x (viaEach k cs) → (d : Choice) × (x ≡ via k d) × List·Memᴰ d (c ∷ cs)
     go ih (inl e) = (c, e, List·Memᴰ·head refl)
     go ih (inr n) = let q = ih n in (q .0, q .1, List·Memᴰ·tail (q .2))
 
-times-mem : {ks : List Pick} {cs : List Choice} {k : Pick} {c : Choice} → List·Memᴰ k ks → List·Memᴰ c cs → List·Memᴰ (pick k c) (ks ⊠ cs)
+times-mem : {ks : List Way} {cs : List Choice} {k : Way} {c : Choice} → List·Memᴰ k ks → List·Memᴰ c cs → List·Memᴰ (via k c) (ks ⊠ cs)
 unfolding _⊠_
-times-mem {c = c} (List·Memᴰ·head {x = x} e) m = Memᴰ·append-left _ (Memᴰ·cast (ap (λ (j : Pick). pick j c) e) (picked-mem x m))
-times-mem {cs = cs} (List·Memᴰ·tail {x = x} n) m = Memᴰ·append-right (picked x cs) (times-mem n m)
+times-mem {c = c} (List·Memᴰ·head {x = x} e) m = Memᴰ·append-left _ (Memᴰ·cast (ap (λ (j : Way). via j c) e) (via-mem x m))
+times-mem {cs = cs} (List·Memᴰ·tail {x = x} n) m = Memᴰ·append-right (viaEach x cs) (times-mem n m)
 
-mem-times : (ks : List Pick) (cs : List Choice) {x : Choice} → List·Memᴰ x (ks ⊠ cs) → (k : Pick) × (c : Choice) × (x ≡ pick k c) × List·Memᴰ k ks × List·Memᴰ c cs
+mem-times : (ks : List Way) (cs : List Choice) {x : Choice} → List·Memᴰ x (ks ⊠ cs) → (k : Way) × (c : Choice) × (x ≡ via k c) × List·Memᴰ k ks × List·Memᴰ c cs
 unfolding _⊠_
 mem-times [] cs m = absurd (List·Memᴰ·not-nil m)
-mem-times (k ∷ ks) cs {x} m = go (mem-times ks cs) (List·Memᴰ·append-cases (picked k cs) m)
+mem-times (k ∷ ks) cs {x} m = go (mem-times ks cs) (List·Memᴰ·append-cases (viaEach k cs) m)
   where
-    go : (List·Memᴰ x (ks ⊠ cs) → (j : Pick) × (c : Choice) × (x ≡ pick j c) × List·Memᴰ j ks × List·Memᴰ c cs) → List·Memᴰ x (picked k cs) ⊎ List·Memᴰ x (ks ⊠ cs) → (j : Pick) × (c : Choice) × (x ≡ pick j c) × List·Memᴰ j (k ∷ ks) × List·Memᴰ c cs
-    go ih (inl n) = let q = mem-picked k cs n in (k, q .0, q .1, List·Memᴰ·head refl, q .2)
+    go : (List·Memᴰ x (ks ⊠ cs) → (j : Way) × (c : Choice) × (x ≡ via j c) × List·Memᴰ j ks × List·Memᴰ c cs) → List·Memᴰ x (viaEach k cs) ⊎ List·Memᴰ x (ks ⊠ cs) → (j : Way) × (c : Choice) × (x ≡ via j c) × List·Memᴰ j (k ∷ ks) × List·Memᴰ c cs
+    go ih (inl n) = let q = mem-via k cs n in (k, q .0, q .1, List·Memᴰ·head refl, q .2)
     go ih (inr n) = let q = ih n in (q .0, q .1, q .2, List·Memᴰ·tail (q .3), q .4)
 
 -- exactly the choices
@@ -81,41 +81,41 @@ module _ (o : Order) where
   mutual
     unfolding Chooses choices
 
-    offers-listed : (i : Item) (k : Pick) → Offers i k → List·Memᴰ k (picks o i)
-    offers-listed (one t) k q = List·Memᴰ·head q
-    offers-listed (jump n) k q = List·Memᴰ·head q
-    offers-listed (range a b) k (n, q, h, g) = Memᴰ·cast q (Memᴰ·map bytes (lengths-mem o a b n h g))
-    offers-listed (alt bs) k q = offers-listed-in bs k q
+    allows-listed : (i : Item) (k : Way) → Allows i k → List·Memᴰ k (ways o i)
+    allows-listed (one t) k q = List·Memᴰ·head q
+    allows-listed (jump n) k q = List·Memᴰ·head q
+    allows-listed (range a b) k (n, q, h, g) = Memᴰ·cast q (Memᴰ·map bytes (lengths-mem o a b n h g))
+    allows-listed (alt bs) k q = allows-listed-in bs k q
 
     pub chooses-listed : (p : Prog) (c : Choice) → Chooses p c → List·Memᴰ c (choices o p)
     chooses-listed end c q = List·Memᴰ·head q
-    chooses-listed (i ▹ p) c (k, d, q, f, g) = Memᴰ·cast q (times-mem (offers-listed i k f) (chooses-listed p d g))
+    chooses-listed (i ▹ p) c (k, d, q, f, g) = Memᴰ·cast q (times-mem (allows-listed i k f) (chooses-listed p d g))
 
-    offers-listed-in : (bs : Branches) (k : Pick) → OffersIn bs k → List·Memᴰ k (picksIn o bs)
-    offers-listed-in stop k q = absurd q
-    offers-listed-in (or p bs) k (inl (c, q, f)) = Memᴰ·append-left _ (Memᴰ·cast q (Memᴰ·map first (chooses-listed p c f)))
-    offers-listed-in (or p bs) k (inr (j, q, f)) = Memᴰ·append-right (map first (choices o p)) (Memᴰ·cast q (Memᴰ·map later (offers-listed-in bs j f)))
+    allows-listed-in : (bs : Branches) (k : Way) → AllowsIn bs k → List·Memᴰ k (waysIn o bs)
+    allows-listed-in stop k q = absurd q
+    allows-listed-in (or p bs) k (inl (c, q, f)) = Memᴰ·append-left _ (Memᴰ·cast q (Memᴰ·map first (chooses-listed p c f)))
+    allows-listed-in (or p bs) k (inr (j, q, f)) = Memᴰ·append-right (map first (choices o p)) (Memᴰ·cast q (Memᴰ·map later (allows-listed-in bs j f)))
 
   mutual
     unfolding Chooses choices
 
-    listed-offers : (i : Item) (k : Pick) → List·Memᴰ k (picks o i) → Offers i k
-    listed-offers (one t) k m = List·Memᴰ·eq-of-singleton m
-    listed-offers (jump n) k m = List·Memᴰ·eq-of-singleton m
-    listed-offers (range a b) k m = let q = Memᴰ·of-map bytes (lengths o a b) m in let r = mem-lengths o a b (q .1) in (q .0, sym (q .2), r .0, r .1)
-    listed-offers (alt bs) k m = listed-offers-in bs k m
+    listed-allows : (i : Item) (k : Way) → List·Memᴰ k (ways o i) → Allows i k
+    listed-allows (one t) k m = List·Memᴰ·eq-of-singleton m
+    listed-allows (jump n) k m = List·Memᴰ·eq-of-singleton m
+    listed-allows (range a b) k m = let q = Memᴰ·of-map bytes (lengths o a b) m in let r = mem-lengths o a b (q .1) in (q .0, sym (q .2), r .0, r .1)
+    listed-allows (alt bs) k m = listed-allows-in bs k m
 
     pub listed-chooses : (p : Prog) (c : Choice) → List·Memᴰ c (choices o p) → Chooses p c
     listed-chooses end c m = List·Memᴰ·eq-of-singleton m
     listed-chooses (i ▹ p) c m =
-        let q = mem-times (picks o i) (choices o p) m in
-        (q .0, q .1, q .2, listed-offers i (q .0) (q .3), listed-chooses p (q .1) (q .4))
+        let q = mem-times (ways o i) (choices o p) m in
+        (q .0, q .1, q .2, listed-allows i (q .0) (q .3), listed-chooses p (q .1) (q .4))
 
-    listed-offers-in : (bs : Branches) (k : Pick) → List·Memᴰ k (picksIn o bs) → OffersIn bs k
-    listed-offers-in stop k m = absurd (List·Memᴰ·not-nil m)
-    listed-offers-in (or p bs) k m =
+    listed-allows-in : (bs : Branches) (k : Way) → List·Memᴰ k (waysIn o bs) → AllowsIn bs k
+    listed-allows-in stop k m = absurd (List·Memᴰ·not-nil m)
+    listed-allows-in (or p bs) k m =
         ⊎-elim (λ n. let q = Memᴰ·of-map first (choices o p) n in inl (q .0, sym (q .2), listed-chooses p (q .0) (q .1)))
-        (λ n. let q = Memᴰ·of-map later (picksIn o bs) n in inr (q .0, sym (q .2), listed-offers-in bs (q .0) (q .1)))
+        (λ n. let q = Memᴰ·of-map later (waysIn o bs) n in inr (q .0, sym (q .2), listed-allows-in bs (q .0) (q .1)))
         (List·Memᴰ·append-cases (map first (choices o p)) m)
 
 -- a list in order: each is related to all that follow it
@@ -155,47 +155,47 @@ lengths-ordered short a b = rising-ordered a (suc b - a)
 lengths-ordered long a b = reverse-ordered _<_ (Earlier long) (λ x y h. h) (rising a (suc b - a)) (rising-ordered a (suc b - a))
 
 module _ (o : Order) where
-  picked-ordered : (k : Pick) (cs : List Choice) → Ordered (Sooner o) cs → Ordered (Sooner o) (picked k cs)
-  unfolding picked
-  picked-ordered k [] g = tt
-  picked-ordered k (c ∷ cs) (g, gs) = (
-    λ y m. let q = mem-picked k cs m in subst (λ z. Sooner o (pick k c) z) (sym (q .1)) (further (g (q .0) (q .2))),
-    picked-ordered k cs gs,
+  via-ordered : (k : Way) (cs : List Choice) → Ordered (Sooner o) cs → Ordered (Sooner o) (viaEach k cs)
+  unfolding viaEach
+  via-ordered k [] g = tt
+  via-ordered k (c ∷ cs) (g, gs) = (
+    λ y m. let q = mem-via k cs m in subst (λ z. Sooner o (via k c) z) (sym (q .1)) (further (g (q .0) (q .2))),
+    via-ordered k cs gs,
   )
 
-  times-ordered : (ks : List Pick) (cs : List Choice) → Ordered (SoonerPick o) ks → Ordered (Sooner o) cs → Ordered (Sooner o) (ks ⊠ cs)
+  times-ordered : (ks : List Way) (cs : List Choice) → Ordered (SoonerWay o) ks → Ordered (Sooner o) cs → Ordered (Sooner o) (ks ⊠ cs)
   unfolding _⊠_
   times-ordered [] cs f g = tt
   times-ordered (k ∷ ks) cs (f, fs) g =
-      ordered-append (Sooner o) (picked k cs) (ks ⊠ cs) (picked-ordered k cs g) (times-ordered ks cs fs g) (λ x y m n.
-      let q = mem-picked k cs m in
+      ordered-append (Sooner o) (viaEach k cs) (ks ⊠ cs) (via-ordered k cs g) (times-ordered ks cs fs g) (λ x y m n.
+      let q = mem-via k cs m in
       let r = mem-times ks cs n in
-      subst (λ z. Sooner o z y) (sym (q .1)) (subst (λ z. Sooner o (pick k (q .0)) z) (sym (r .2)) (at-this (f (r .0) (r .3)))))
+      subst (λ z. Sooner o z y) (sym (q .1)) (subst (λ z. Sooner o (via k (q .0)) z) (sym (r .2)) (at-this (f (r .0) (r .3)))))
 
   -- in 01's order
   mutual
     unfolding choices
 
-    picks-ordered : (i : Item) → Ordered (SoonerPick o) (picks o i)
-    picks-ordered (one t) = (λ y m. absurd (List·Memᴰ·not-nil m), tt)
-    picks-ordered (jump n) = (λ y m. absurd (List·Memᴰ·not-nil m), tt)
-    picks-ordered (range a b) = ordered-map (Earlier o) (SoonerPick o) bytes (lengths o a b) (λ x y h. of-lengths h) (lengths-ordered o a b)
-    picks-ordered (alt bs) = picks-ordered-in bs
+    ways-ordered : (i : Item) → Ordered (SoonerWay o) (ways o i)
+    ways-ordered (one t) = (λ y m. absurd (List·Memᴰ·not-nil m), tt)
+    ways-ordered (jump n) = (λ y m. absurd (List·Memᴰ·not-nil m), tt)
+    ways-ordered (range a b) = ordered-map (Earlier o) (SoonerWay o) bytes (lengths o a b) (λ x y h. of-lengths h) (lengths-ordered o a b)
+    ways-ordered (alt bs) = ways-ordered-in bs
 
     pub choices-ordered : (p : Prog) → Ordered (Sooner o) (choices o p)
     choices-ordered end = (λ y m. absurd (List·Memᴰ·not-nil m), tt)
-    choices-ordered (i ▹ p) = times-ordered (picks o i) (choices o p) (picks-ordered i) (choices-ordered p)
+    choices-ordered (i ▹ p) = times-ordered (ways o i) (choices o p) (ways-ordered i) (choices-ordered p)
 
-    picks-ordered-in : (bs : Branches) → Ordered (SoonerPick o) (picksIn o bs)
-    picks-ordered-in stop = tt
-    picks-ordered-in (or p bs) =
-        ordered-append (SoonerPick o) (map first (choices o p)) (map later (picksIn o bs))
-        (ordered-map (Sooner o) (SoonerPick o) first (choices o p) (λ x y h. in-first h) (choices-ordered p))
-        (ordered-map (SoonerPick o) (SoonerPick o) later (picksIn o bs) (λ x y h. in-later h) (picks-ordered-in bs))
+    ways-ordered-in : (bs : Branches) → Ordered (SoonerWay o) (waysIn o bs)
+    ways-ordered-in stop = tt
+    ways-ordered-in (or p bs) =
+        ordered-append (SoonerWay o) (map first (choices o p)) (map later (waysIn o bs))
+        (ordered-map (Sooner o) (SoonerWay o) first (choices o p) (λ x y h. in-first h) (choices-ordered p))
+        (ordered-map (SoonerWay o) (SoonerWay o) later (waysIn o bs) (λ x y h. in-later h) (ways-ordered-in bs))
         (λ x y m n.
         let q = Memᴰ·of-map first (choices o p) m in
-        let r = Memᴰ·of-map later (picksIn o bs) n in
-        subst (λ z. SoonerPick o z y) (q .2) (subst (λ z. SoonerPick o (first (q .0)) z) (r .2) of-branches))
+        let r = Memᴰ·of-map later (waysIn o bs) n in
+        subst (λ z. SoonerWay o z y) (q .2) (subst (λ z. SoonerWay o (first (q .0)) z) (r .2) of-branches))
 
 -- no choice is sooner than itself, and no two are each sooner than the other
 earlier-irrefl : (o : Order) (m n : ℕ) → Earlier o m n → m ≡ n → ⊥
@@ -208,24 +208,24 @@ earlier-asym long m n h g = omega arith
 
 module _ (o : Order) where
   mutual
-    pick-irrefl : {j k : Pick} → SoonerPick o j k → j ≡ k → ⊥
-    pick-irrefl (of-lengths {m = m} {n = n} h) e = earlier-irrefl o m n h (cc)
-    pick-irrefl of-branches e = let z : _≡_ {A = ℕ} 0 1 = cc in omega arith
-    pick-irrefl (in-first h) e = sooner-irrefl h (cc)
-    pick-irrefl (in-later h) e = pick-irrefl h (cc)
+    way-irrefl : {j k : Way} → SoonerWay o j k → j ≡ k → ⊥
+    way-irrefl (of-lengths {m = m} {n = n} h) e = earlier-irrefl o m n h (cc)
+    way-irrefl of-branches e = let z : _≡_ {A = ℕ} 0 1 = cc in omega arith
+    way-irrefl (in-first h) e = sooner-irrefl h (cc)
+    way-irrefl (in-later h) e = way-irrefl h (cc)
 
     pub sooner-irrefl : {c d : Choice} → Sooner o c d → c ≡ d → ⊥
-    sooner-irrefl (at-this h) e = pick-irrefl h (cc)
+    sooner-irrefl (at-this h) e = way-irrefl h (cc)
     sooner-irrefl (further h) e = sooner-irrefl h (cc)
 
   mutual
-    pick-asym : {j k : Pick} → SoonerPick o j k → SoonerPick o k j → ⊥
-    pick-asym (of-lengths {m = m} {n = n} h) (of-lengths g) = earlier-asym o m n h g
-    pick-asym (in-first h) (in-first g) = sooner-asym h g
-    pick-asym (in-later h) (in-later g) = pick-asym h g
+    way-asym : {j k : Way} → SoonerWay o j k → SoonerWay o k j → ⊥
+    way-asym (of-lengths {m = m} {n = n} h) (of-lengths g) = earlier-asym o m n h g
+    way-asym (in-first h) (in-first g) = sooner-asym h g
+    way-asym (in-later h) (in-later g) = way-asym h g
 
     pub sooner-asym : {c d : Choice} → Sooner o c d → Sooner o d c → ⊥
-    sooner-asym (at-this h) (at-this g) = pick-asym h g
-    sooner-asym (at-this h) (further g) = pick-irrefl h refl
-    sooner-asym (further h) (at-this g) = pick-irrefl g refl
+    sooner-asym (at-this h) (at-this g) = way-asym h g
+    sooner-asym (at-this h) (further g) = way-irrefl h refl
+    sooner-asym (further h) (at-this g) = way-irrefl g refl
     sooner-asym (further h) (further g) = sooner-asym h g

@@ -9,28 +9,28 @@ use Prim.Native.Nat.{ℕ, zero, suc, _+_}
 use native.Mathlib.Omega.{arith}
 use lib.ListN.{length}
 use Rattle.meaning.specs.Programs.{Test, pass, Item, Prog, Branches, one, jump, range, alt, end, _▹_, stop, or}
-use Rattle.meaning.specs.Choices.{Pick, Choice, bytes, first, later, Offers, Chooses, OffersIn, Takes, Fits, TakesIn, Order}
-use Rattle.meaning.specs.Rows.{Row, when, andThen, rest, before, _⊗_, anys, lengths, rowsOf, rows, rowsIn, picked, _⊠_, picks, choices, picksIn, headPick, tailChoice, byPick, rowPick, rowBy, rowIn}
+use Rattle.meaning.specs.Choices.{Way, Choice, bytes, first, later, Allows, Chooses, AllowsIn, Takes, Fits, TakesIn, Order}
+use Rattle.meaning.specs.Rows.{Row, when, andThen, rest, before, _⊗_, anys, lengths, rowsOf, rows, rowsIn, viaEach, _⊠_, ways, choices, waysIn, headWay, tailChoice, byWay, rowWay, rowBy, rowIn}
 use Rattle.meaning.proofs.RowLaws.{rest-append, rest-split}
 
 -- the rows of a program are those of its choices, in their order
 module _ (i : Item) (p : Prog) where
-  picked-rows : (k : Pick) (cs : List Choice) → map (rowBy (i ▹ p)) (picked k cs) ≡ before (rowPick i k) (map (rowBy p) cs)
-  unfolding rowBy picked before
-  picked-rows k [] = refl
-  picked-rows k (c ∷ cs) = ap (λ (l : List Row). (rowPick i k ++ rowBy p c) ∷ l) (picked-rows k cs)
+  via-rows : (k : Way) (cs : List Choice) → map (rowBy (i ▹ p)) (viaEach k cs) ≡ before (rowWay i k) (map (rowBy p) cs)
+  unfolding rowBy viaEach before
+  via-rows k [] = refl
+  via-rows k (c ∷ cs) = ap (λ (l : List Row). (rowWay i k ++ rowBy p c) ∷ l) (via-rows k cs)
 
-  times-rows : (ks : List Pick) (cs : List Choice) → map (rowBy (i ▹ p)) (ks ⊠ cs) ≡ map (rowPick i) ks ⊗ map (rowBy p) cs
+  times-rows : (ks : List Way) (cs : List Choice) → map (rowBy (i ▹ p)) (ks ⊠ cs) ≡ map (rowWay i) ks ⊗ map (rowBy p) cs
   unfolding _⊠_ _⊗_
   times-rows [] cs = refl
-  times-rows (k ∷ ks) cs = map-append (rowBy (i ▹ p)) (picked k cs) (ks ⊠ cs) ∙ ap₂ _++_ (picked-rows k cs) (times-rows ks cs)
+  times-rows (k ∷ ks) cs = map-append (rowBy (i ▹ p)) (viaEach k cs) (ks ⊠ cs) ∙ ap₂ _++_ (via-rows k cs) (times-rows ks cs)
 
-range-rows : (a b : ℕ) (l : List ℕ) → map anys l ≡ map (rowPick (range a b)) (map bytes l)
-unfolding rowPick
+range-rows : (a b : ℕ) (l : List ℕ) → map anys l ≡ map (rowWay (range a b)) (map bytes l)
+unfolding rowWay
 range-rows a b [] = refl
 range-rows a b (n ∷ l) = ap (λ (r : List Row). anys n ∷ r) (range-rows a b l)
 
-branch-rows : (p : Prog) (bs : Branches) (cs : List Choice) (ks : List Pick) → map (rowBy p) cs ++ map (rowIn bs) ks ≡ map (rowIn (or p bs)) (map first cs ++ map later ks)
+branch-rows : (p : Prog) (bs : Branches) (cs : List Choice) (ks : List Way) → map (rowBy p) cs ++ map (rowIn bs) ks ≡ map (rowIn (or p bs)) (map first cs ++ map later ks)
 unfolding rowIn
 branch-rows p bs cs ks = sym (map-append (rowIn (or p bs)) (map first cs) (map later ks) ∙ ap₂ _++_ (map-map (rowIn (or p bs)) first cs) (map-map (rowIn (or p bs)) later ks))
 
@@ -38,19 +38,19 @@ module _ (o : Order) where
   mutual
     unfolding rows choices rowBy
 
-    rows-picks : (i : Item) → rowsOf o i ≡ map (rowPick i) (picks o i)
-    rows-picks (one t) = refl
-    rows-picks (jump n) = refl
-    rows-picks (range a b) = range-rows a b (lengths o a b)
-    rows-picks (alt bs) = rows-picks-in bs
+    rows-ways : (i : Item) → rowsOf o i ≡ map (rowWay i) (ways o i)
+    rows-ways (one t) = refl
+    rows-ways (jump n) = refl
+    rows-ways (range a b) = range-rows a b (lengths o a b)
+    rows-ways (alt bs) = rows-ways-in bs
 
     pub rows-choices : (p : Prog) → rows o p ≡ map (rowBy p) (choices o p)
     rows-choices end = refl
-    rows-choices (i ▹ p) = ap₂ _⊗_ (rows-picks i) (rows-choices p) ∙ sym (times-rows i p (picks o i) (choices o p))
+    rows-choices (i ▹ p) = ap₂ _⊗_ (rows-ways i) (rows-choices p) ∙ sym (times-rows i p (ways o i) (choices o p))
 
-    rows-picks-in : (bs : Branches) → rowsIn o bs ≡ map (rowIn bs) (picksIn o bs)
-    rows-picks-in stop = refl
-    rows-picks-in (or p bs) = ap₂ _++_ (rows-choices p) (rows-picks-in bs) ∙ branch-rows p bs (choices o p) (picksIn o bs)
+    rows-ways-in : (bs : Branches) → rowsIn o bs ≡ map (rowIn bs) (waysIn o bs)
+    rows-ways-in stop = refl
+    rows-ways-in (or p bs) = ap₂ _++_ (rows-choices p) (rows-ways-in bs) ∙ branch-rows p bs (choices o p) (waysIn o bs)
 
 -- a row that fits s fits what begins with s
 pub rest-frame : (r : Row) (s u v : List ℕ) → rest r s ≡ some u → rest r (s ++ v) ≡ some (u ++ v)
@@ -111,41 +111,41 @@ rows-two r q s e = go (rest r s) refl (sym (rest-append r q s) ∙ e)
 mutual
   unfolding Fits rowBy
 
-  takes-row : (i : Item) (k : Pick) (s : List ℕ) → Takes i k s → rest (rowPick i k) s ≡ some []
+  takes-row : (i : Item) (k : Way) (s : List ℕ) → Takes i k s → rest (rowWay i k) s ≡ some []
   takes-row (one t) k s (b, q, e, h) = ap (rest (t ∷ [])) e ∙ one-passed t b h
   takes-row (jump n) k s (q, h) = ap (λ (m : ℕ). rest (anys m) s) (sym h) ∙ anys-all s
-  takes-row (range a b) k s (q, h, g) = ap (λ (j : Pick). rest (byPick j anys (λ c. []) (λ m. [])) s) q ∙ anys-all s
+  takes-row (range a b) k s (q, h, g) = ap (λ (j : Way). rest (byWay j anys (λ c. []) (λ m. [])) s) q ∙ anys-all s
   takes-row (alt bs) k s h = takes-row-in bs k s h
 
   pub fits-row : (p : Prog) (c : Choice) (s : List ℕ) → Fits p c s → rest (rowBy p c) s ≡ some []
   fits-row end c s (q, e) = ap (rest []) e ∙ nil-left
   fits-row (i ▹ p) c s (k, d, a, b, q, e, f, g) =
-      ap₂ (λ (x : Choice) (l : List ℕ). rest (rowPick i (headPick x) ++ rowBy p (tailChoice x)) l) q e
-      ∙ two-rows (rowPick i k) (rowBy p d) a b (takes-row i k a f) (fits-row p d b g)
+      ap₂ (λ (x : Choice) (l : List ℕ). rest (rowWay i (headWay x) ++ rowBy p (tailChoice x)) l) q e
+      ∙ two-rows (rowWay i k) (rowBy p d) a b (takes-row i k a f) (fits-row p d b g)
 
-  takes-row-in : (bs : Branches) (k : Pick) (s : List ℕ) → TakesIn bs k s → rest (rowIn bs k) s ≡ some []
+  takes-row-in : (bs : Branches) (k : Way) (s : List ℕ) → TakesIn bs k s → rest (rowIn bs k) s ≡ some []
   takes-row-in stop k s h = absurd h
-  takes-row-in (or p bs) k s (inl (c, q, h)) = ap (λ (j : Pick). rest (rowIn (or p bs) j) s) q ∙ fits-row p c s h
-  takes-row-in (or p bs) k s (inr (j, q, h)) = ap (λ (m : Pick). rest (rowIn (or p bs) m) s) q ∙ takes-row-in bs j s h
+  takes-row-in (or p bs) k s (inl (c, q, h)) = ap (λ (j : Way). rest (rowIn (or p bs) j) s) q ∙ fits-row p c s h
+  takes-row-in (or p bs) k s (inr (j, q, h)) = ap (λ (m : Way). rest (rowIn (or p bs) m) s) q ∙ takes-row-in bs j s h
 
 mutual
   unfolding Fits Chooses rowBy
 
-  row-takes : (i : Item) (k : Pick) (s : List ℕ) → Offers i k → rest (rowPick i k) s ≡ some [] → Takes i k s
+  row-takes : (i : Item) (k : Way) (s : List ℕ) → Allows i k → rest (rowWay i k) s ≡ some [] → Takes i k s
   row-takes (one t) k s q h = let r = one-row t s h in (r .0, q, r .1, r .2)
   row-takes (jump n) k s q h = (q, all-anys n s h)
   row-takes (range a b) k s (n, q, l, g) h =
-      let e : length s ≡ n = all-anys n s (sym (ap (λ (j : Pick). rest (byPick j anys (λ c. []) (λ m. [])) s) q) ∙ h) in
+      let e : length s ≡ n = all-anys n s (sym (ap (λ (j : Way). rest (byWay j anys (λ c. []) (λ m. [])) s) q) ∙ h) in
       (q ∙ ap bytes (sym e), omega arith, omega arith)
   row-takes (alt bs) k s q h = row-takes-in bs k s q h
 
   pub row-fits : (p : Prog) (c : Choice) (s : List ℕ) → Chooses p c → rest (rowBy p c) s ≡ some [] → Fits p c s
   row-fits end c s q h = (q, nil-some s h)
   row-fits (i ▹ p) c s (k, d, q, f, g) h =
-      let r = rows-two (rowPick i k) (rowBy p d) s (sym (ap (λ (x : Choice). rest (rowPick i (headPick x) ++ rowBy p (tailChoice x)) s) q) ∙ h) in
+      let r = rows-two (rowWay i k) (rowBy p d) s (sym (ap (λ (x : Choice). rest (rowWay i (headWay x) ++ rowBy p (tailChoice x)) s) q) ∙ h) in
       (k, d, r .0, r .1, q, r .2, row-takes i k (r .0) f (r .3), row-fits p d (r .1) g (r .4))
 
-  row-takes-in : (bs : Branches) (k : Pick) (s : List ℕ) → OffersIn bs k → rest (rowIn bs k) s ≡ some [] → TakesIn bs k s
+  row-takes-in : (bs : Branches) (k : Way) (s : List ℕ) → AllowsIn bs k → rest (rowIn bs k) s ≡ some [] → TakesIn bs k s
   row-takes-in stop k s q h = q
-  row-takes-in (or p bs) k s (inl (c, q, f)) h = inl (c, q, row-fits p c s f (sym (ap (λ (j : Pick). rest (rowIn (or p bs) j) s) q) ∙ h))
-  row-takes-in (or p bs) k s (inr (j, q, f)) h = inr (j, q, row-takes-in bs j s f (sym (ap (λ (m : Pick). rest (rowIn (or p bs) m) s) q) ∙ h))
+  row-takes-in (or p bs) k s (inl (c, q, f)) h = inl (c, q, row-fits p c s f (sym (ap (λ (j : Way). rest (rowIn (or p bs) j) s) q) ∙ h))
+  row-takes-in (or p bs) k s (inr (j, q, f)) h = inr (j, q, row-takes-in bs j s f (sym (ap (λ (m : Way). rest (rowIn (or p bs) m) s) q) ∙ h))

@@ -20,3 +20,4 @@ pub mod FieldLaws
 pub mod MadeLaws
 pub mod MirrorSteps
 pub mod ValueLaws
+pub mod PartLaws

@@ -7,9 +7,9 @@ use native.Mathlib.Omega.{arith}
 use native.Mathlib.Nat.{le-refl}
 use lib.ListN.{length, take, drop}
 use Rattle.meaning.specs.Programs.{Item}
-use Rattle.meaning.specs.Words.{Shape, item, opens, mark, wrong, shape, plainWords, mirrorItems, mirrorBranches, mirrorWords}
+use Rattle.meaning.specs.Words.{Shape, item, opens, mark, wrong, shape, flatWords, mirrorItems, mirrorBranches, mirrorWords}
 use Rattle.meaning.proofs.WordLaws.{take-le, drop-le}
-use Rattle.meaning.proofs.SoundLaws.{plain-item}
+use Rattle.meaning.proofs.SoundLaws.{flat-item}
 
 -- one word's part, by its shape
 items-step : (w : ℕ) (ws : List ℕ) (n m : ℕ) → mirrorItems n ws ≡ mirrorItems m ws → ((k : ℕ) → mirrorBranches n (take k ws) ≡ mirrorBranches m (take k ws)) → ((k : ℕ) → mirrorItems n (drop k ws) ≡ mirrorItems m (drop k ws)) → mirrorItems (suc n) (w ∷ ws) ≡ mirrorItems (suc m) (w ∷ ws)
@@ -87,8 +87,8 @@ module _ (w : ℕ) (ws : List ℕ) where
   mirror-mark k e = rw (e, mirrorBranches) (rw (items-fuel (length ws) (length (take k ws)) (take k ws) (take-le k _ ws (le-refl _)) (le-refl _), branches-fuel (length ws) (length (drop k ws)) (drop k ws) (drop-le k _ ws (le-refl _)) (le-refl _)))
 
 -- what a branch holds is read backwards, word by word
-pub mirror-plain : (ws : List ℕ) → plainWords ws ≡ true → mirrorWords ws ≡ reverse ws
-mirror-plain [] h = mirror-nil
-mirror-plain (w ∷ ws) h =
-    let q = plain-item w ws h in
-    mirror-item w ws (q .1) ∙ ap (λ (l : List ℕ). l ++ (w ∷ [])) (mirror-plain ws (q .3)) ∙ sym (reverse-cons w ws)
+pub mirror-flat : (ws : List ℕ) → flatWords ws ≡ true → mirrorWords ws ≡ reverse ws
+mirror-flat [] h = mirror-nil
+mirror-flat (w ∷ ws) h =
+    let q = flat-item w ws h in
+    mirror-item w ws (q .1) ∙ ap (λ (l : List ℕ). l ++ (w ∷ [])) (mirror-flat ws (q .3)) ∙ sym (reverse-cons w ws)

@@ -8,10 +8,10 @@ use native.Mathlib.Nat.{le-refl}
 use lib.ListN.{length, take, drop, length-append, length-drop}
 use lib.Seq.{take-at, drop-at, take-length, drop-length, length-take-le}
 use Rattle.meaning.specs.Programs.{Item, Prog, Branches, one, jump, range, alt, _▹_, or, _⧺_, mirror, mirrorOf, mirrorIn}
-use Rattle.meaning.specs.Words.{kindOf, Shape, item, opens, mark, wrong, shape, prog, branchesOf, branches, plainWords, Sound, SoundBranches, soundBranches, soundWords, mirrorItems, mirrorBranches, mirrorWords}
+use Rattle.meaning.specs.Words.{kindOf, Shape, item, opens, mark, wrong, shape, prog, branchesOf, branches, flatWords, Sound, SoundBranches, soundBranches, soundWords, mirrorItems, mirrorBranches, mirrorWords}
 use Rattle.meaning.proofs.KindLaws.{Seen, seen}
 use Rattle.meaning.proofs.WordLaws.{take-le, drop-le, prog-nil, prog-item, prog-opens, branches-mark}
-use Rattle.meaning.proofs.SoundLaws.{sound-proper, branch-proper, sound-item, sound-opens, sound-mark, sound-wrong, sound-branch, branch-shape, make-item, make-opens, make-branch, plain-item, plain-sound, make-plain, plain-append, plain-nil}
+use Rattle.meaning.proofs.SoundLaws.{sound-proper, branch-proper, sound-item, sound-opens, sound-mark, sound-wrong, sound-branch, branch-shape, make-item, make-opens, make-branch, flat-item, flat-sound, make-flat, flat-append, flat-nil}
 use Rattle.meaning.proofs.JoinLaws.{sound-append, prog-append}
 
 -- what the mirror m of the words ws is
@@ -19,7 +19,7 @@ record Mirrored (ws m : List ℕ) : Type 0 where
   size : length m ≡ length ws
   sound : Sound m
   says : prog m ≡ mirror (prog ws)
-  plainly : plainWords ws ≡ true → plainWords m ≡ true
+  flatly : flatWords ws ≡ true → flatWords m ≡ true
 
 record MirroredIn (ws m : List ℕ) : Type 0 where
   size : length m ≡ length ws
@@ -52,7 +52,7 @@ at-item w ws m i e h q =
           prog-append m (w ∷ []) (q .sound)
           ∙ ap₂ _⧺_ (q .says) (prog-item w [] i e ∙ ap₂ _▹_ (sym (self-word w i e)) prog-nil)
           ∙ sym (ap mirror (prog-item w ws i e));
-      plainly = λ g. let r = plain-item w ws g in plain-append m (w ∷ []) (q .plainly (r .3)) (make-plain w [] (r .1) (r .2) (r .4) plain-nil);
+      flatly = λ g. let r = flat-item w ws g in flat-append m (w ∷ []) (q .flatly (r .3)) (make-flat w [] (r .1) (r .2) (r .4) flat-nil);
     }
 
 at-opens : (w : ℕ) (ws m b : List ℕ) (k : ℕ) → shape w ≡ opens k → Sound (w ∷ ws) → Mirrored (drop k ws) m → MirroredIn (take k ws) b → Mirrored (w ∷ ws) (m ++ (w ∷ b))
@@ -70,7 +70,7 @@ at-opens w ws m b k e h q r =
           prog-append m (w ∷ b) (q .sound)
           ∙ ap₂ _⧺_ (q .says) (prog-opens w b k e ∙ ap₂ (λ (x : List ℕ) (y : List ℕ). alt (branchesOf x) ▹ prog y) t d ∙ ap₂ (λ (x : Branches) (y : Prog). alt x ▹ y) (r .says) prog-nil)
           ∙ sym (ap mirror (prog-opens w ws k e));
-      plainly = λ g. let i = plain-item w ws g in not-both (i .0) k (sym (i .1) ∙ e);
+      flatly = λ g. let i = flat-item w ws g in not-both (i .0) k (sym (i .1) ∙ e);
     }
   where
     not-both : {A : Type 0} (i : Item) (j : ℕ) → item i ≡ opens j → A
@@ -85,7 +85,7 @@ at-mark w ws m b k e h q r =
     let d : drop k (m ++ b) ≡ b = drop-at m b k n in
     record {
       size = omega (arith, length-append m b, r .size, length-drop k ws, o .fits, n);
-      sound = make-branch w (m ++ b) e (branch-proper w ws h) (record { fits = omega (arith, length-append m b, n); inside = ap plainWords t ∙ q .plainly (o .inside); after = subst SoundBranches (sym d) (r .sound) });
+      sound = make-branch w (m ++ b) e (branch-proper w ws h) (record { fits = omega (arith, length-append m b, n); inside = ap flatWords t ∙ q .flatly (o .inside); after = subst SoundBranches (sym d) (r .sound) });
       says =
           branches-mark w (m ++ b) k e
           ∙ ap₂ (λ (x : List ℕ) (y : List ℕ). or (prog x) (branchesOf y)) t d
@@ -95,7 +95,7 @@ at-mark w ws m b k e h q r =
 
 nil-mirrored : Mirrored [] []
 unfolding mirror
-nil-mirrored = record { size = refl; sound = sound-nil; says = prog-nil ∙ sym (ap mirror prog-nil); plainly = λ h. h }
+nil-mirrored = record { size = refl; sound = sound-nil; says = prog-nil ∙ sym (ap mirror prog-nil); flatly = λ h. h }
 
 nil-in : MirroredIn [] []
 unfolding mirror branchesOf branches soundBranches
@@ -117,7 +117,7 @@ unfolding mirrorItems
 step-in n w ws h a b =
     let s = branch-shape w ws h in
     let o = sound-branch w ws (s .1) h in
-    go (s .0) (s .1) (a (s .0) (plain-sound (take (s .0) ws) (o .inside))) (b (s .0) (o .after))
+    go (s .0) (s .1) (a (s .0) (flat-sound (take (s .0) ws) (o .inside))) (b (s .0) (o .after))
   where
     go : (k : ℕ) → shape w ≡ mark k → Mirrored (take k ws) (mirrorItems n (take k ws)) → MirroredIn (drop k ws) (mirrorBranches n (drop k ws)) → MirroredIn (w ∷ ws) (mirrorBranches (suc n) (w ∷ ws))
     go k e q r = rw (e, mirrorBranches) (at-mark w ws _ _ k e h q r)

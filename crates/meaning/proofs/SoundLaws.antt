@@ -11,7 +11,7 @@ use borrow.Author.Tests.{leb-true, le-leb}
 use Rattle.meaning.specs.Programs.{Item, Prog, one, jump, range, alt, _▹_}
 use Rattle.meaning.specs.Choices.{Order}
 use Rattle.meaning.specs.Rows.{Row, _⊗_, before, anys, rows}
-use Rattle.meaning.specs.Words.{Shape, item, opens, mark, wrong, shape, proper, plain, plainWords, soundBranches, soundWords, Sound, SoundBranches, prog, items}
+use Rattle.meaning.specs.Words.{Shape, item, opens, mark, wrong, shape, proper, isFlat, flatWords, soundBranches, soundWords, Sound, SoundBranches, prog, items}
 use Rattle.meaning.proofs.WordLaws.{take-le, drop-le, prog-item}
 
 pub and-left : (a b : Bool) → (a && b) ≡ true → a ≡ true
@@ -79,7 +79,7 @@ pub record Opened (k : ℕ) (ws : List ℕ) : Type 0 where
 
 pub record Marked (k : ℕ) (ws : List ℕ) : Type 0 where
   pub fits : k ≤ length ws
-  pub inside : plainWords (take k ws) ≡ true
+  pub inside : flatWords (take k ws) ≡ true
   pub after : SoundBranches (drop k ws)
 
 module _ (w : ℕ) (ws : List ℕ) where
@@ -109,41 +109,41 @@ module _ (w : ℕ) (ws : List ℕ) where
   pub sound-branch : {k : ℕ} → shape w ≡ mark k → SoundBranches (w ∷ ws) → Marked k ws
   unfolding soundBranches
   sound-branch {k} e h =
-      let a : (leb k (length ws) && (plainWords (take k ws) && soundBranches (length ws) (drop k ws))) ≡ true = and-right (proper w) _ (rw (e, soundBranches) at h) in
-      let b : (plainWords (take k ws) && soundBranches (length ws) (drop k ws)) ≡ true = and-right (leb k (length ws)) _ a in
+      let a : (leb k (length ws) && (flatWords (take k ws) && soundBranches (length ws) (drop k ws))) ≡ true = and-right (proper w) _ (rw (e, soundBranches) at h) in
+      let b : (flatWords (take k ws) && soundBranches (length ws) (drop k ws)) ≡ true = and-right (leb k (length ws)) _ a in
       record {
         fits = leb-true _ _ (and-left (leb k (length ws)) _ a);
-        inside = and-left (plainWords (take k ws)) _ b;
-        after = sb-fuel _ _ (drop k ws) (le-refl _) (drop-le k _ ws (le-refl _)) ∙ and-right (plainWords (take k ws)) _ b;
+        inside = and-left (flatWords (take k ws)) _ b;
+        after = sb-fuel _ _ (drop k ws) (le-refl _) (drop-le k _ ws (le-refl _)) ∙ and-right (flatWords (take k ws)) _ b;
       }
 
-  pub plain-item : plainWords (w ∷ ws) ≡ true → (i : Item) × (shape w ≡ item i) × (plain i ≡ true) × (plainWords ws ≡ true) × (proper w ≡ true)
-  unfolding plainWords
-  plain-item h = go (shape w) refl
+  pub flat-item : flatWords (w ∷ ws) ≡ true → (i : Item) × (shape w ≡ item i) × (isFlat i ≡ true) × (flatWords ws ≡ true) × (proper w ≡ true)
+  unfolding flatWords
+  flat-item h = go (shape w) refl
     where
-      go : (s : Shape) → shape w ≡ s → (i : Item) × (shape w ≡ item i) × (plain i ≡ true) × (plainWords ws ≡ true) × (proper w ≡ true)
+      go : (s : Shape) → shape w ≡ s → (i : Item) × (shape w ≡ item i) × (isFlat i ≡ true) × (flatWords ws ≡ true) × (proper w ≡ true)
       go (item i) e =
-          let a : (proper w && (plain i && plainWords ws)) ≡ true = rw (e, plainWords) at h in
-          let b : (plain i && plainWords ws) ≡ true = and-right (proper w) (plain i && plainWords ws) a in
-          (i, e, and-left (plain i) (plainWords ws) b, and-right (plain i) (plainWords ws) b, and-left (proper w) (plain i && plainWords ws) a)
-      go (opens k) e = false-true (and-right (proper w) false (rw (e, plainWords) at h))
-      go (mark k) e = false-true (and-right (proper w) false (rw (e, plainWords) at h))
-      go wrong e = false-true (and-right (proper w) false (rw (e, plainWords) at h))
+          let a : (proper w && (isFlat i && flatWords ws)) ≡ true = rw (e, flatWords) at h in
+          let b : (isFlat i && flatWords ws) ≡ true = and-right (proper w) (isFlat i && flatWords ws) a in
+          (i, e, and-left (isFlat i) (flatWords ws) b, and-right (isFlat i) (flatWords ws) b, and-left (proper w) (isFlat i && flatWords ws) a)
+      go (opens k) e = false-true (and-right (proper w) false (rw (e, flatWords) at h))
+      go (mark k) e = false-true (and-right (proper w) false (rw (e, flatWords) at h))
+      go wrong e = false-true (and-right (proper w) false (rw (e, flatWords) at h))
 
 -- a branch's words say one row
-single-row : (o : Order) (i : Item) (p : Prog) → plain i ≡ true → (r : Row) × (rows o p ≡ r ∷ []) → (r : Row) × (rows o (i ▹ p) ≡ r ∷ [])
-unfolding rows plain _⊗_ before
+single-row : (o : Order) (i : Item) (p : Prog) → isFlat i ≡ true → (r : Row) × (rows o p ≡ r ∷ []) → (r : Row) × (rows o (i ▹ p) ≡ r ∷ [])
+unfolding rows isFlat _⊗_ before
 single-row o (one t) p h (r, e) = ((t ∷ []) ++ r, rw e)
 single-row o (jump n) p h (r, e) = (anys n ++ r, rw e)
 single-row o (range a b) p h q = false-true h
 single-row o (alt bs) p h q = false-true h
 
-pub plain-row : (o : Order) (ws : List ℕ) → plainWords ws ≡ true → (r : Row) × (rows o (prog ws) ≡ r ∷ [])
+pub flat-row : (o : Order) (ws : List ℕ) → flatWords ws ≡ true → (r : Row) × (rows o (prog ws) ≡ r ∷ [])
 unfolding rows prog items
-plain-row o [] h = ([], refl)
-plain-row o (w ∷ ws) h =
-    let q = plain-item w ws h in
-    let s = single-row o (q .0) (prog ws) (q .2) (plain-row o ws (q .3)) in
+flat-row o [] h = ([], refl)
+flat-row o (w ∷ ws) h =
+    let q = flat-item w ws h in
+    let s = single-row o (q .0) (prog ws) (q .2) (flat-row o ws (q .3)) in
     (s .0, ap (rows o) (prog-item w ws (q .0) (q .1)) ∙ s .1)
 
 -- the other way: soundness from its parts
@@ -170,7 +170,7 @@ module _ (w : ℕ) (ws : List ℕ) where
   pub make-branch : {k : ℕ} → shape w ≡ mark k → proper w ≡ true → Marked k ws → SoundBranches (w ∷ ws)
   unfolding soundBranches
   make-branch {k} e p o =
-      let b : plainWords (take k ws) ≡ true = o .inside in
+      let b : flatWords (take k ws) ≡ true = o .inside in
       let c : soundBranches (length ws) (drop k ws) ≡ true = sb-fuel _ _ (drop k ws) (drop-le k _ ws (le-refl _)) (le-refl _) ∙ o .after in
       let f : leb k (length ws) ≡ true = le-leb k (length ws) (o .fits) in
       rw (e, soundBranches) (rw (p, f, b, c))
@@ -189,20 +189,20 @@ module _ (w : ℕ) (ws : List ℕ) where
       go (mark k) e = (k, e)
       go wrong e = false-true (and-right (proper w) false (rw (e, soundBranches) at h))
 
-  pub make-plain : {i : Item} → shape w ≡ item i → plain i ≡ true → proper w ≡ true → plainWords ws ≡ true → plainWords (w ∷ ws) ≡ true
-  unfolding plainWords
-  make-plain e q p s = rw (e, plainWords) (rw (p, q, s))
+  pub make-flat : {i : Item} → shape w ≡ item i → isFlat i ≡ true → proper w ≡ true → flatWords ws ≡ true → flatWords (w ∷ ws) ≡ true
+  unfolding flatWords
+  make-flat e q p s = rw (e, flatWords) (rw (p, q, s))
 
-pub plain-nil : plainWords [] ≡ true
-unfolding plainWords
-plain-nil = refl
+pub flat-nil : flatWords [] ≡ true
+unfolding flatWords
+flat-nil = refl
 
-pub plain-append : (ws vs : List ℕ) → plainWords ws ≡ true → plainWords vs ≡ true → plainWords (ws ++ vs) ≡ true
-plain-append [] vs h g = g
-plain-append (w ∷ ws) vs h g = let q = plain-item w ws h in make-plain w (ws ++ vs) (q .1) (q .2) (q .4) (plain-append ws vs (q .3) g)
+pub flat-append : (ws vs : List ℕ) → flatWords ws ≡ true → flatWords vs ≡ true → flatWords (ws ++ vs) ≡ true
+flat-append [] vs h g = g
+flat-append (w ∷ ws) vs h g = let q = flat-item w ws h in make-flat w (ws ++ vs) (q .1) (q .2) (q .4) (flat-append ws vs (q .3) g)
 
 -- a branch's words are sound by themselves
-pub plain-sound : (ws : List ℕ) → plainWords ws ≡ true → Sound ws
+pub flat-sound : (ws : List ℕ) → flatWords ws ≡ true → Sound ws
 unfolding soundWords
-plain-sound [] h = refl
-plain-sound (w ∷ ws) h = let q = plain-item w ws h in make-item w ws (q .1) (q .4) (plain-sound ws (q .3))
+flat-sound [] h = refl
+flat-sound (w ∷ ws) h = let q = flat-item w ws h in make-item w ws (q .1) (q .4) (flat-sound ws (q .3))

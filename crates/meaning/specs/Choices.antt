@@ -1,5 +1,6 @@
--- Choices: what is picked at each node of a program, when a choice fits a window, and 01's order on choices.
+-- Choices: the way taken at each node of a program, when a choice fits a window, and 01's order on choices.
 -- Assumes nothing: these are definitions.
+-- To be believed: `Way` `Choice` `Takes` `Fits` `TakesIn` `FitsAt` `Order` `Earlier` `SoonerWay` `Sooner` `First` `Nowhere` `FirstForward` `FirstReverse`.
 use mathlib.Core.Path.{_≡_}
 use mathlib.Core.Bool.{true}
 use mathlib.Core.Logic.{_⊎_}
@@ -9,40 +10,40 @@ use lib.ListN.{length}
 use Rattle.meaning.specs.Programs.{pass, Item, Prog, Branches, one, jump, range, alt, end, _▹_, stop, or}
 
 mutual
-  -- what is picked at one node
-  pub data Pick : Type 0 where
-    -- a test or a jump leaves nothing to pick
-    only : Pick
+  -- the way taken at one node
+  pub data Way : Type 0 where
+    -- a test or a jump has one
+    only : Way
     -- of a range: how many bytes
-    bytes : ℕ → Pick
-    -- of an alternation: its first branch, and what is picked there; or a pick among the later ones
-    first : Choice → Pick
-    later : Pick → Pick
+    bytes : ℕ → Way
+    -- of an alternation: its first branch, and the choice there; or a way among the later ones
+    first : Choice → Way
+    later : Way → Way
 
-  -- what is picked at each node of a program
+  -- the way taken at each node of a program
   pub data Choice : Type 0 where
     done : Choice
-    pick : Pick → Choice → Choice
+    via : Way → Choice → Choice
 
--- what there is to pick: proofs/ChoiceOrder.antt lists exactly these
+-- the ways that there are: proofs/ChoiceOrder.antt lists exactly these
 unfoldable mutual
-  pub Offers : Item → Pick → Type 0
-  Offers (one t) k = k ≡ only
-  Offers (jump n) k = k ≡ only
-  Offers (range a b) k = (n : ℕ) × (k ≡ bytes n) × (a ≤ n) × (n ≤ b)
-  Offers (alt bs) k = OffersIn bs k
+  pub Allows : Item → Way → Type 0
+  Allows (one t) k = k ≡ only
+  Allows (jump n) k = k ≡ only
+  Allows (range a b) k = (n : ℕ) × (k ≡ bytes n) × (a ≤ n) × (n ≤ b)
+  Allows (alt bs) k = AllowsIn bs k
 
   pub Chooses : Prog → Choice → Type 0
   Chooses end c = c ≡ done
-  Chooses (i ▹ p) c = (k : Pick) × (d : Choice) × (c ≡ pick k d) × Offers i k × Chooses p d
+  Chooses (i ▹ p) c = (k : Way) × (d : Choice) × (c ≡ via k d) × Allows i k × Chooses p d
 
-  pub OffersIn : Branches → Pick → Type 0
-  OffersIn stop k = ⊥
-  OffersIn (or p bs) k = ((c : Choice) × (k ≡ first c) × Chooses p c) ⊎ ((j : Pick) × (k ≡ later j) × OffersIn bs j)
+  pub AllowsIn : Branches → Way → Type 0
+  AllowsIn stop k = ⊥
+  AllowsIn (or p bs) k = ((c : Choice) × (k ≡ first c) × Chooses p c) ⊎ ((j : Way) × (k ≡ later j) × AllowsIn bs j)
 
 -- a choice fits the bytes s, from the first to the last
 unfoldable mutual
-  pub Takes : Item → Pick → List ℕ → Type 0
+  pub Takes : Item → Way → List ℕ → Type 0
   Takes (one t) k s = (b : ℕ) × (k ≡ only) × (s ≡ b ∷ []) × (pass t b ≡ true)
   Takes (jump n) k s = (k ≡ only) × (length s ≡ n)
   Takes (range a b) k s = (k ≡ bytes (length s)) × (a ≤ length s) × (length s ≤ b)
@@ -50,11 +51,11 @@ unfoldable mutual
 
   pub Fits : Prog → Choice → List ℕ → Type 0
   Fits end c s = (c ≡ done) × (s ≡ [])
-  Fits (i ▹ p) c s = (k : Pick) × (d : Choice) × (a : List ℕ) × (b : List ℕ) × (c ≡ pick k d) × (s ≡ a ++ b) × Takes i k a × Fits p d b
+  Fits (i ▹ p) c s = (k : Way) × (d : Choice) × (a : List ℕ) × (b : List ℕ) × (c ≡ via k d) × (s ≡ a ++ b) × Takes i k a × Fits p d b
 
-  pub TakesIn : Branches → Pick → List ℕ → Type 0
+  pub TakesIn : Branches → Way → List ℕ → Type 0
   TakesIn stop k s = ⊥
-  TakesIn (or p bs) k s = ((c : Choice) × (k ≡ first c) × Fits p c s) ⊎ ((j : Pick) × (k ≡ later j) × TakesIn bs j s)
+  TakesIn (or p bs) k s = ((c : Choice) × (k ≡ first c) × Fits p c s) ⊎ ((j : Way) × (k ≡ later j) × TakesIn bs j s)
 
 -- a choice fits the window w from its start, and leaves v
 abbrev pub FitsAt : Prog → Choice → List ℕ → List ℕ → Type 0
@@ -71,15 +72,15 @@ Earlier long m n = n < m
 
 -- 01's order: node by node, branches first to last, jumps by their order
 mutual
-  pub data SoonerPick (o : Order) : Pick → Pick → Type 0 where
-    of-lengths : {m n : ℕ} → Earlier o m n → SoonerPick o (bytes m) (bytes n)
-    of-branches : {c : Choice} {k : Pick} → SoonerPick o (first c) (later k)
-    in-first : {c d : Choice} → Sooner o c d → SoonerPick o (first c) (first d)
-    in-later : {j k : Pick} → SoonerPick o j k → SoonerPick o (later j) (later k)
+  pub data SoonerWay (o : Order) : Way → Way → Type 0 where
+    of-lengths : {m n : ℕ} → Earlier o m n → SoonerWay o (bytes m) (bytes n)
+    of-branches : {c : Choice} {k : Way} → SoonerWay o (first c) (later k)
+    in-first : {c d : Choice} → Sooner o c d → SoonerWay o (first c) (first d)
+    in-later : {j k : Way} → SoonerWay o j k → SoonerWay o (later j) (later k)
 
   pub data Sooner (o : Order) : Choice → Choice → Type 0 where
-    at-this : {j k : Pick} {c d : Choice} → SoonerPick o j k → Sooner o (pick j c) (pick k d)
-    further : {k : Pick} {c d : Choice} → Sooner o c d → Sooner o (pick k c) (pick k d)
+    at-this : {j k : Way} {c d : Choice} → SoonerWay o j k → Sooner o (via j c) (via k d)
+    further : {k : Way} {c d : Choice} → Sooner o c d → Sooner o (via k c) (via k d)
 
 -- the first choice that fits the window w from its start leaves v: it fits, and no sooner one does
 pub record First (o : Order) (p : Prog) (w v : List ℕ) : Type 0 where

@@ -1,5 +1,6 @@
 -- Tokens as they lie in a pool: entries of four words, a kind and three values, as 01 lays them out.
 -- Assumes nothing: these are definitions.
+-- To be believed: all.
 use mathlib.Core.Option.{none, some}
 use mathlib.Core.List.{List, [], _∷_, _++_}
 use Prim.Native.Nat.{ℕ, suc, _/_}

@@ -1,4 +1,5 @@
 -- 01's limits, by name. Assumes nothing: these are definitions.
+-- To be believed: `textLimit` `tokenLimit` `levelLimit` `numberLimit` `innerJumpLimit` `jumpLimit` `branchLimit` `nodeLimit` `literalLimit` `combinationLimit` `tokenPool` `nodePool`.
 use Prim.Native.Nat.{ℕ, _/_}
 
 -- the bytes of a text, its tokens, the levels of its lists

@@ -1,4 +1,5 @@
 -- Programs: what sound node words say, and the bytes that a program fits. Assumes nothing: these are definitions.
+-- To be believed: `Test` `pass` `Item` `Prog` `Branches` `_⧺_` `mirrorOf` `mirror` `mirrorIn`.
 use mathlib.Core.Path.{_≡_}
 use mathlib.Core.Bool.{Bool, true, not}
 use mathlib.Core.Logic.{_⊎_}

@@ -1,13 +1,14 @@
 -- The search as a function. A row asks one test of each byte of a span; a program has a row for each choice, in choice order,
 -- and the search takes the first row that fits. Nothing here has to be believed: proofs/FirstLaws.antt joins it to Choices.antt.
 -- Assumes nothing: these are definitions.
+-- To be believed: nothing.
 use mathlib.Core.Bool.{Bool, true, false}
 use mathlib.Core.Option.{Option, none, some}
 use mathlib.Core.List.{List, [], _∷_, _++_, map, reverse}
 use Prim.Native.Nat.{ℕ, zero, suc, _-_}
 use lib.ListN.{replicate}
 use Rattle.meaning.specs.Programs.{Test, any, pass, Item, Prog, Branches, one, jump, range, alt, end, _▹_, stop, or}
-use Rattle.meaning.specs.Choices.{Pick, Choice, only, bytes, first, later, done, pick, Order, short, long}
+use Rattle.meaning.specs.Choices.{Way, Choice, only, bytes, first, later, done, via, Order, short, long}
 
 abbrev pub Row : Type 0
 Row = List Test
@@ -89,57 +90,57 @@ backward p w = run long p (reverse w)
 
 -- every choice of a program, in choice order, and the row of each: proofs/ChoiceOrder.antt says that these are all, in that order
 
--- a pick before each choice of a list
-unfoldable pub picked : Pick → List Choice → List Choice
-picked k [] = []
-picked k (c ∷ cs) = pick k c ∷ picked k cs
+-- a way before each choice of a list
+unfoldable pub viaEach : Way → List Choice → List Choice
+viaEach k [] = []
+viaEach k (c ∷ cs) = via k c ∷ viaEach k cs
 
--- each pick of the first list before each choice of the second, the first list deciding first
+-- each way of the first list before each choice of the second, the first list deciding first
 infixr 70 _⊠_
-unfoldable pub _⊠_ : List Pick → List Choice → List Choice
+unfoldable pub _⊠_ : List Way → List Choice → List Choice
 [] ⊠ cs = []
-(k ∷ ks) ⊠ cs = picked k cs ++ ks ⊠ cs
+(k ∷ ks) ⊠ cs = viaEach k cs ++ ks ⊠ cs
 
 unfoldable mutual
-  pub picks : Order → Item → List Pick
-  picks o (one t) = only ∷ []
-  picks o (jump n) = only ∷ []
-  picks o (range a b) = map bytes (lengths o a b)
-  picks o (alt bs) = picksIn o bs
+  pub ways : Order → Item → List Way
+  ways o (one t) = only ∷ []
+  ways o (jump n) = only ∷ []
+  ways o (range a b) = map bytes (lengths o a b)
+  ways o (alt bs) = waysIn o bs
 
   pub choices : Order → Prog → List Choice
   choices o end = done ∷ []
-  choices o (i ▹ p) = picks o i ⊠ choices o p
+  choices o (i ▹ p) = ways o i ⊠ choices o p
 
-  pub picksIn : Order → Branches → List Pick
-  picksIn o stop = []
-  picksIn o (or p bs) = map first (choices o p) ++ map later (picksIn o bs)
+  pub waysIn : Order → Branches → List Way
+  waysIn o stop = []
+  waysIn o (or p bs) = map first (choices o p) ++ map later (waysIn o bs)
 
-abbrev pub headPick : Choice → Pick
-headPick done = only
-headPick (pick k c) = k
+abbrev pub headWay : Choice → Way
+headWay done = only
+headWay (via k c) = k
 
 abbrev pub tailChoice : Choice → Choice
 tailChoice done = done
-tailChoice (pick k c) = c
+tailChoice (via k c) = c
 
-abbrev pub byPick : Pick → (ℕ → Row) → (Choice → Row) → (Pick → Row) → Row
-byPick only f g h = []
-byPick (bytes n) f g h = f n
-byPick (first c) f g h = g c
-byPick (later k) f g h = h k
+abbrev pub byWay : Way → (ℕ → Row) → (Choice → Row) → (Way → Row) → Row
+byWay only f g h = []
+byWay (bytes n) f g h = f n
+byWay (first c) f g h = g c
+byWay (later k) f g h = h k
 
 unfoldable mutual
-  pub rowPick : Item → Pick → Row
-  rowPick (one t) k = t ∷ []
-  rowPick (jump n) k = anys n
-  rowPick (range a b) k = byPick k anys (λ c. []) (λ j. [])
-  rowPick (alt bs) k = rowIn bs k
+  pub rowWay : Item → Way → Row
+  rowWay (one t) k = t ∷ []
+  rowWay (jump n) k = anys n
+  rowWay (range a b) k = byWay k anys (λ c. []) (λ j. [])
+  rowWay (alt bs) k = rowIn bs k
 
   pub rowBy : Prog → Choice → Row
   rowBy end c = []
-  rowBy (i ▹ p) c = rowPick i (headPick c) ++ rowBy p (tailChoice c)
+  rowBy (i ▹ p) c = rowWay i (headWay c) ++ rowBy p (tailChoice c)
 
-  pub rowIn : Branches → Pick → Row
+  pub rowIn : Branches → Way → Row
   rowIn stop k = []
-  rowIn (or p bs) k = byPick k (λ n. []) (λ c. rowBy p c) (λ j. rowIn bs j)
+  rowIn (or p bs) k = byWay k (λ n. []) (λ c. rowBy p c) (λ j. rowIn bs j)

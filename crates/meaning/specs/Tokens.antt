@@ -1,5 +1,6 @@
 -- Hexadecimal strings, as the YARA document ('Writing YARA rules') has them, with `~` from 01, and the bytes that they match.
 -- Assumes nothing: these are definitions.
+-- To be believed: all.
 use mathlib.Core.Path.{_≡_}
 use mathlib.Core.Logic.{_⊎_}
 use mathlib.Core.Option.{Option, none, some}

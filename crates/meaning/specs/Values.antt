@@ -1,4 +1,5 @@
 -- The values that bytes and tokens have: what a haystack holds, and what a text can spell. Assumes nothing: these are definitions.
+-- To be believed: `Bytes`.
 use mathlib.Core.Option.{none, some}
 use mathlib.Core.List.{List, [], _∷_}
 use Prim.Native.Nat.{ℕ, _≤_, _<_}

@@ -1,5 +1,6 @@
 -- Node words: the fields of a word, the node that it says, sound lists of words, and the program that they say.
 -- Assumes nothing: these are definitions.
+-- To be believed: nothing.
 use mathlib.Core.Path.{_≡_}
 use mathlib.Core.Bool.{Bool, true, false, cond, _&&_}
 use mathlib.Core.List.{List, [], _∷_, _++_}
@@ -94,15 +95,15 @@ unfoldable pub proper : ℕ → Bool
 proper w = ltb w wordSize && properBy (kindOf w) (firstOf w) (secondOf w)
 
 -- what may stand in a branch: kinds 0, 1, 2, 3 and 5
-unfoldable pub plain : Item → Bool
-plain (one t) = true
-plain (jump n) = true
-plain (range a b) = false
-plain (alt bs) = false
+unfoldable pub isFlat : Item → Bool
+isFlat (one t) = true
+isFlat (jump n) = true
+isFlat (range a b) = false
+isFlat (alt bs) = false
 
-unfoldable pub plainProg : Prog → Bool
-plainProg end = true
-plainProg (i ▹ p) = plain i && plainProg p
+unfoldable pub flatProg : Prog → Bool
+flatProg end = true
+flatProg (i ▹ p) = isFlat i && flatProg p
 
 -- Sound words and what they say, by computing: crate promise lists them (specs/NodeWords.antt), and shows that these are the same.
 
@@ -129,10 +130,10 @@ unfoldable mutual
     | wrong ↦ stop
   ]
 
--- sound words: an alternation is filled by one or more branches, a branch by plain items
-unfoldable pub plainWords : List ℕ → Bool
-plainWords [] = true
-plainWords (w ∷ ws) = proper w && elim (shape w) [ item i ↦ plain i && plainWords ws | opens k ↦ false | mark k ↦ false | wrong ↦ false ]
+-- sound words: an alternation is filled by one or more branches, a branch by flat items
+unfoldable pub flatWords : List ℕ → Bool
+flatWords [] = true
+flatWords (w ∷ ws) = proper w && elim (shape w) [ item i ↦ isFlat i && flatWords ws | opens k ↦ false | mark k ↦ false | wrong ↦ false ]
 
 unfoldable pub soundBranches : ℕ → List ℕ → Bool
 soundBranches zero ws = eqb (length ws) 0
@@ -140,7 +141,7 @@ soundBranches (suc n) [] = true
 soundBranches (suc n) (w ∷ ws) = proper w && elim (shape w) [
   | item i ↦ false
   | opens k ↦ false
-  | mark k ↦ leb k (length ws) && (plainWords (take k ws) && soundBranches n (drop k ws))
+  | mark k ↦ leb k (length ws) && (flatWords (take k ws) && soundBranches n (drop k ws))
   | wrong ↦ false
 ]
 

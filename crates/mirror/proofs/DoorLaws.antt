@@ -12,18 +12,18 @@ use Rattle.meaning.specs.Words.{sound, mirrorWords}
 use Rattle.meaning.proofs.WordSpans.{mirrored-length}
 use Rattle.base.specs.Pools.{zeroed}
 use Rattle.base.proofs.PoolLaws.{zeroed-cleared, zeroed-filled}
-use Rattle.mirror.specs.MirrorDoor.{Said, mirrored, refused, mirrorSays, mirrorLeaves}
+use Rattle.mirror.specs.MirrorDoor.{MirrorSaid, mirrored, refuses, mirrorSays, mirrorLeaves}
 
 module _ (words pool : List ℕ) where
-  abbrev pub Right : Said → List ℕ → Type 0
+  abbrev pub Right : MirrorSaid → List ℕ → Type 0
   Right s p = (s ≡ mirrorSays words pool) × (p ≡ mirrorLeaves words pool)
 
-  pub no-room : length pool < 512 → Right (refused 18 0) pool
+  pub no-room : length pool < 512 → Right (refuses 18 0) pool
   unfolding mirrorSays mirrorLeaves
   no-room h = let a = lt-ltb (length pool) 512 h in (rw a, rw a)
 
   module _ (room : 512 ≤ length pool) where
-    pub too-many : 512 < length words → Right (refused 13 0) (zeroed 0 512 pool)
+    pub too-many : 512 < length words → Right (refuses 13 0) (zeroed 0 512 pool)
     unfolding mirrorSays mirrorLeaves
     too-many h =
         let a = le-ltb (length pool) 512 room in
@@ -31,7 +31,7 @@ module _ (words pool : List ℕ) where
         (rw (a, b), rw (a, b) (zeroed-cleared 512 pool))
 
     module _ (few : length words ≤ 512) where
-      pub not-sound : sound words ≡ false → Right (refused 15 0) (zeroed 0 512 pool)
+      pub not-sound : sound words ≡ false → Right (refuses 15 0) (zeroed 0 512 pool)
       unfolding mirrorSays mirrorLeaves
       not-sound h =
           let a = le-ltb (length pool) 512 room in

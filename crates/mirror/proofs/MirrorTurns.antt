@@ -10,10 +10,11 @@ use borrow.Rule.Slice.PartMut.{midOf, mid-len}
 use Rattle.meaning.specs.Programs.{Item}
 use Rattle.meaning.specs.Words.{shape, item, opens, Sound, SoundBranches, soundBranches, mirrorWords}
 use Rattle.meaning.proofs.SoundLaws.{Marked, sound-item, sound-opens, sound-branch, false-true}
-use Rattle.meaning.proofs.MirrorSteps.{mirrorBranchesOf, mirror-nil, mirror-none, mirror-item, mirror-opens, mirror-mark, mirror-plain}
+use Rattle.meaning.proofs.MirrorSteps.{mirrorBranchesOf, mirror-nil, mirror-none, mirror-item, mirror-opens, mirror-mark, mirror-flat}
+use Rattle.meaning.proofs.PartLaws.{from, to-end, length-from}
 use Rattle.nodes.specs.declared.NextWord.the-variants.{Word, NoWord}
 use Rattle.nodes.specs.Nodes.{firstWord}
-use Rattle.nodes.proofs.WordHeads.{word-cons, word-nil, word-pos, from, to-end, length-from}
+use Rattle.nodes.proofs.WordHeads.{word-cons, word-nil, word-pos}
 use Rattle.sound.specs.declared.Inside.the-variants.{Words, Unfit}
 use Rattle.sound.specs.Steps.{itemInside, branchInside}
 use Rattle.sound.proofs.SoundSteps.{turn-unfit, item-steps, branch-steps, branch-mark, item-kind}
@@ -54,7 +55,7 @@ module _ (bs : List ℕ) (w k : ℕ) (h : SoundBranches bs) (e : firstWord bs �
   branch-words =
       ap mirrorBranchesOf (word-cons bs w e)
       ∙ mirror-mark w (drop 1 bs) k (branch-mark w k i)
-      ∙ ap₂ (λ (x : List ℕ) (y : List ℕ). w ∷ (x ++ mirrorBranchesOf y)) (mirror-plain (take k (drop 1 bs)) (marked .inside)) (sym branch-rest)
+      ∙ ap₂ (λ (x : List ℕ) (y : List ℕ). w ∷ (x ++ mirrorBranchesOf y)) (mirror-flat (take k (drop 1 bs)) (marked .inside)) (sym branch-rest)
 
   pub branch-turn : (alts out ys : List ℕ) → BranchesLeft alts out bs → ys ≡ reverse (take (1 + k - 1) (drop 1 bs)) → length ys ≡ k → BranchesLeft alts (put out ys w (length alts - length bs) (length alts - length bs + (1 + k))) (from (1 + k) bs)
   branch-turn alts out ys b y l =

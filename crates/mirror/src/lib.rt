@@ -16,7 +16,7 @@ ghost use Prim.Native.Nat.{_≤_};
 ghost use lib.ListN.{length};
 ghost use Rattle.meaning.specs.Limits.{nodeLimit};
 ghost use Rattle.meaning.specs.Words.{Sound, SoundBranches, mirrorBranches, mirrorWords};
-ghost use Rattle.mirror.specs.MirrorDoor.{said, mirrorSays, mirrorLeaves};
+ghost use Rattle.mirror.specs.MirrorDoor.{mirrorSaid, mirrorSays, mirrorLeaves};
 
 // The count of words that were written, or why none were.
 pub enum MirrorAnswer {
@@ -87,7 +87,7 @@ fn mirror_words(words: &[NodeWord], out: &mut [NodeWord])
 
 // The door.
 pub fn mirror(words: &[NodeWord], pool: &mut [NodeWord]) -> MirrorAnswer
-    ensures { λ r. ⌜ (said r ≡ mirrorSays (now (words .entry)) (now (pool .entry))) × (now (pool .exit) ≡ mirrorLeaves (now (words .entry)) (now (pool .entry))) ⌝ }
+    ensures { λ r. ⌜ (mirrorSaid r ≡ mirrorSays (now (words .entry)) (now (pool .entry))) × (now (pool .exit) ≡ mirrorLeaves (now (words .entry)) (now (pool .entry))) ⌝ }
 {
     if pool.len() < NODE_POOL {
         return MirrorAnswer::Refused(Refusal::NoRoom);

@@ -1,10 +1,10 @@
--- The first of some words, and a part that goes to the end. Assumes nothing.
+-- The first of some words. Assumes nothing.
 use mathlib.Core.Path.{_≡_, refl, ap}
 use mathlib.Core.List.{List, [], _∷_}
-use Prim.Native.Nat.{ℕ, _-_, _≤_, _<_}
+use Prim.Native.Nat.{ℕ, _≤_, _<_}
 use native.Mathlib.Omega.{arith}
-use lib.ListN.{length, getD, take, drop, length-drop}
-use lib.Seq.{take-all}
+use lib.ListN.{length, getD, drop}
+use Rattle.meaning.proofs.PartLaws.{from, length-from}
 use Rattle.nodes.specs.declared.NextWord.the-variants.{Word, NoWord}
 use Rattle.nodes.specs.Nodes.{firstWord}
 
@@ -27,16 +27,6 @@ word-nil (x ∷ l) e = let z : _≡_ {A = ℕ} 0 1 = cc in absurd (omega arith)
 pub word-pos : (l : List ℕ) (w : ℕ) → firstWord l ≡ Word w → 1 ≤ length l
 word-pos [] w e = let z : _≡_ {A = ℕ} 0 1 = cc in absurd (omega arith)
 word-pos (x ∷ l) w e = omega arith
-
--- what the code's part from n on is
-abbrev pub from : ℕ → List ℕ → List ℕ
-from n l = take (length l - n) (drop n l)
-
-pub to-end : (n : ℕ) (l : List ℕ) → from n l ≡ drop n l
-to-end n l = take-all (length l - n) (drop n l) (rw length-drop (omega arith))
-
-pub length-from : (n : ℕ) (l : List ℕ) → length (from n l) ≡ length l - n
-length-from n l = rw (to-end n l) (length-drop n l)
 
 -- what is left after a first word and some more is less
 pub from-less : (l : List ℕ) (w : ℕ) → firstWord l ≡ Word w → (k : ℕ) → length (from k (from 1 l)) < length l

@@ -1,4 +1,5 @@
 -- What a node says, and its word. Assumes nothing: these are definitions.
+-- To be believed: nothing.
 use mathlib.Core.List.{List, [], _∷_}
 use Prim.Native.Nat.{ℕ, _<_}
 use Rattle.meaning.specs.Programs.{Test, byte, mask, negatedMask, dot, one, jump, range}

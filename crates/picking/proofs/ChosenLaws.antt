@@ -12,12 +12,12 @@ use Rattle.meaning.specs.Limits.{literalLimit, combinationLimit}
 use Rattle.meaning.specs.Tokens.{left, right, all, Token, Tokens, Lists, Byte, NotByte, MaskedByte, NotMaskedByte, Jump, Alternatives, nothing, _then_, neither, _or_, _⊕_}
 use Rattle.meaning.proofs.SoundLaws.{and-left, and-right, and-both, false-true}
 use Rattle.picking.specs.Literals.{taken, isByte, isPlain, plainList, plainLists, literals, combinations, lengthIn, listableOf, listable, listableIn}
-use Rattle.picking.specs.Runs.{isAlternatives, closes, plainInside, plain, runs, isLiteral, joins, partBefore, parts, Slice, slice, literalOnly, longer, slices}
-use Rattle.picking.specs.Choice.{ranked, skipped, excessive, counted, combined, rank, chosen, widened, rankOf, inRun, choice}
+use Rattle.picking.specs.Runs.{isAlternatives, closes, plainInside, plainAlternatives, runs, isLiteral, joinsPart, partBefore, parts, Slice, slice, literalOnly, longer, slices}
+use Rattle.picking.specs.Candidates.{ranked, skipped, excessive, counted, combined, rank, chosen, widened, rankOf, inRun, inPattern}
 use Rattle.picking.specs.Numbers.{countOf, count}
 use Rattle.picking.proofs.NumberLaws.{count-literals}
-use Rattle.picking.proofs.KeepLaws.{Every, every-append, every-map, Holds, Literally, Widely, run-holds, choice-holds}
-use Rattle.picking.proofs.FactorLaws.{Factor, Filled, Open, Taken, choice-taken}
+use Rattle.picking.proofs.KeepLaws.{Every, every-append, every-map, Holds, Literally, Widely, run-holds, pattern-holds}
+use Rattle.picking.proofs.FactorLaws.{Factor, Filled, Open, Taken, pattern-taken}
 
 -- ---- few literals
 
@@ -44,11 +44,11 @@ unfolding isLiteral count
 single-one t h = rw (count-byte t h)
 
 single-before : (t : Token) (ps : List Tokens) → Every Single ps → Every Single (partBefore t ps)
-unfolding partBefore joins Every isLiteral count
+unfolding partBefore joinsPart Every isLiteral count
 single-before t [] h = (single-one t, tt)
 single-before t (p ∷ ps) h = go (isByte t) (isLiteral p) refl refl
   where
-    go : (a b : Bool) → isByte t ≡ a → isLiteral p ≡ b → Every Single (joins (a && b) t p ps)
+    go : (a b : Bool) → isByte t ≡ a → isLiteral p ≡ b → Every Single (joinsPart (a && b) t p ps)
     go true true e f = ((λ k. ap₂ _*_ (count-byte t e) (h .0 f)), h .1)
     go true false e f = (single-one t, h)
     go false b e f = (single-one t, h)
@@ -119,9 +119,9 @@ unfolding Holds
 chosen-few run n us e = subst (Holds Few) e (few-in run)
 
 -- and so among all
-pub choice-few : (ts : Tokens) (n : ℕ) (us : Tokens) → choice ts ≡ chosen n us → count us ≤ literalLimit
+pub pattern-few : (ts : Tokens) (n : ℕ) (us : Tokens) → inPattern ts ≡ chosen n us → count us ≤ literalLimit
 unfolding Holds Every
-choice-few ts n us e = subst (Holds Few) e (choice-holds Few ts (go (runs ts)))
+pattern-few ts n us e = subst (Holds Few) e (pattern-holds Few ts (go (runs ts)))
   where
     go : (rs : List Tokens) → Every (λ r. Holds Few (inRun r)) rs
     go [] = tt
@@ -130,27 +130,27 @@ choice-few ts n us e = subst (Holds Few) e (choice-holds Few ts (go (runs ts)))
 -- ---- part of the tokens
 
 -- what is chosen stands in the tokens, one token after another
-pub chosen-factor : (ts : Tokens) (n : ℕ) (us : Tokens) → choice ts ≡ chosen n us → Factor us ts
+pub chosen-factor : (ts : Tokens) (n : ℕ) (us : Tokens) → inPattern ts ≡ chosen n us → Factor us ts
 unfolding Holds
-chosen-factor ts n us e = subst (Holds (Taken ts)) e (choice-taken ts) .0
+chosen-factor ts n us e = subst (Holds (Taken ts)) e (pattern-taken ts) .0
 
 -- it is not nothing
-pub chosen-filled : (ts : Tokens) (n : ℕ) (us : Tokens) → choice ts ≡ chosen n us → Filled us
+pub chosen-filled : (ts : Tokens) (n : ℕ) (us : Tokens) → inPattern ts ≡ chosen n us → Filled us
 unfolding Holds
-chosen-filled ts n us e = subst (Holds (Taken ts)) e (choice-taken ts) .1
+chosen-filled ts n us e = subst (Holds (Taken ts)) e (pattern-taken ts) .1
 
 -- no `??` and no jump is in it
-pub chosen-open : (ts : Tokens) (n : ℕ) (us : Tokens) → choice ts ≡ chosen n us → Open us
+pub chosen-open : (ts : Tokens) (n : ℕ) (us : Tokens) → inPattern ts ≡ chosen n us → Open us
 unfolding Holds
-chosen-open ts n us e = subst (Holds (Taken ts)) e (choice-taken ts) .2
+chosen-open ts n us e = subst (Holds (Taken ts)) e (pattern-taken ts) .2
 
-pub plain-left : (ts us : Tokens) → plain (ts ⊕ us) ≡ true → plain ts ≡ true
-unfolding plain _⊕_
+pub plain-left : (ts us : Tokens) → plainAlternatives (ts ⊕ us) ≡ true → plainAlternatives ts ≡ true
+unfolding plainAlternatives _⊕_
 plain-left nothing us h = refl
 plain-left (t then ts) us h = and-both (and-left (plainInside t) _ h) (plain-left ts us (and-right (plainInside t) _ h))
 
-pub plain-right : (ts us : Tokens) → plain (ts ⊕ us) ≡ true → plain us ≡ true
-unfolding plain _⊕_
+pub plain-right : (ts us : Tokens) → plainAlternatives (ts ⊕ us) ≡ true → plainAlternatives us ≡ true
+unfolding plainAlternatives _⊕_
 plain-right nothing us h = h
 plain-right (t then ts) us h = plain-right ts us (and-right (plainInside t) _ h)
 
@@ -186,13 +186,13 @@ open-one (NotMaskedByte v all) o h = sym o
 open-one (Jump from to) o h = sym o
 open-one (Alternatives ls) o h = lists-listable ls h
 
-pub open-listable : (ts : Tokens) → Open ts → plain ts ≡ true → listable ts ≡ true
-unfolding Open plain listable
+pub open-listable : (ts : Tokens) → Open ts → plainAlternatives ts ≡ true → listable ts ≡ true
+unfolding Open plainAlternatives listable
 open-listable nothing o h = refl
 open-listable (t then ts) o h = and-both (open-one t (o .0) (and-left (plainInside t) _ h)) (open-listable ts (o .1) (and-right (plainInside t) _ h))
 
 -- where all alternatives are plain, none is at any depth of it
-pub chosen-listable : (ts : Tokens) (n : ℕ) (us : Tokens) → choice ts ≡ chosen n us → plain ts ≡ true → listable us ≡ true
+pub chosen-listable : (ts : Tokens) (n : ℕ) (us : Tokens) → inPattern ts ≡ chosen n us → plainAlternatives ts ≡ true → listable us ≡ true
 chosen-listable ts n us e h =
     let (a, b, f) = chosen-factor ts n us e in
-    open-listable us (chosen-open ts n us e) (plain-left us b (plain-right a (us ⊕ b) (subst (λ (x : Tokens). plain x ≡ true) f h)))
+    open-listable us (chosen-open ts n us e) (plain-left us b (plain-right a (us ⊕ b) (subst (λ (x : Tokens). plainAlternatives x ≡ true) f h)))

@@ -7,17 +7,17 @@ use lib.Dec.{leb}
 use Rattle.meaning.specs.Tokens.{Token, Tokens, nothing, _then_, _⊕_}
 use Rattle.meaning.proofs.TokenLaws.{after-assoc}
 use Rattle.picking.specs.Literals.{isByte, lengthIn}
-use Rattle.picking.specs.Runs.{closes, atFront, segmented, segments, filledOnes, firstLast, runs, isLiteral, joins, partBefore, parts, slice, literalOnly, longer, slices}
-use Rattle.picking.specs.Choice.{widened, inRun, choice}
-use Rattle.picking.proofs.KeepLaws.{Every, every-append, every-map, Holds, holds-map, Literally, Widely, run-holds, choice-holds}
+use Rattle.picking.specs.Runs.{closes, atFront, segmented, segments, filledOnes, firstLast, runs, isLiteral, joinsPart, partBefore, parts, slice, literalOnly, longer, slices}
+use Rattle.picking.specs.Candidates.{widened, inRun, inPattern}
+use Rattle.picking.proofs.KeepLaws.{Every, every-append, every-map, Holds, holds-map, Literally, Widely, run-holds, pattern-holds}
 
 -- us stands in ts
 abbrev pub Factor : Tokens → Tokens → Type 0
 Factor us ts = (a : Tokens) × (b : Tokens) × (ts ≡ a ⊕ (us ⊕ b))
 
 -- us stands at the front of ts
-abbrev Begins : Tokens → Tokens → Type 0
-Begins us ts = (b : Tokens) × (ts ≡ us ⊕ b)
+abbrev AtFront : Tokens → Tokens → Type 0
+AtFront us ts = (b : Tokens) × (ts ≡ us ⊕ b)
 
 unfoldable pub Filled : Tokens → Type 0
 Filled nothing = ⊥
@@ -28,7 +28,7 @@ unfoldable pub Open : Tokens → Type 0
 Open nothing = Unit {0}
 Open (t then ts) = (closes t ≡ false) × Open ts
 
-begun : (us ts : Tokens) → Begins us ts → Factor us ts
+begun : (us ts : Tokens) → AtFront us ts → Factor us ts
 unfolding _⊕_
 begun us ts (b, e) = (nothing, b, e)
 
@@ -69,7 +69,7 @@ open-right (t then ts) us h = open-right ts us (h .1)
 -- the first segment stands at the front
 unfoldable Cut : Tokens → List Tokens → Type 0
 Cut ts [] = Unit {0}
-Cut ts (s ∷ ss) = Begins s ts × Every (λ u. Factor u ts) ss
+Cut ts (s ∷ ss) = AtFront s ts × Every (λ u. Factor u ts) ss
 
 cut-factors : (ts : Tokens) (ss : List Tokens) → Cut ts ss → Every (λ u. Factor u ts) ss
 unfolding Cut Every
@@ -128,11 +128,11 @@ joined [] = nothing
 joined (p ∷ ps) = p ⊕ joined ps
 
 joined-before : (t : Token) (ps : List Tokens) → joined (partBefore t ps) ≡ t then joined ps
-unfolding joined partBefore joins _⊕_
+unfolding joined partBefore joinsPart _⊕_
 joined-before t [] = refl
 joined-before t (p ∷ ps) = go (isByte t && isLiteral p)
   where
-    go : (b : Bool) → joined (joins b t p ps) ≡ t then (p ⊕ joined ps)
+    go : (b : Bool) → joined (joinsPart b t p ps) ≡ t then (p ⊕ joined ps)
     go true = refl
     go false = refl
 
@@ -143,11 +143,11 @@ joined-parts nothing = refl
 joined-parts (t then ts) = joined-before t (parts ts) ∙ ap (λ (x : Tokens). t then x) (joined-parts ts)
 
 filled-before : (t : Token) (ps : List Tokens) → Every Filled ps → Every Filled (partBefore t ps)
-unfolding partBefore joins Every Filled
+unfolding partBefore joinsPart Every Filled
 filled-before t [] h = (tt, tt)
 filled-before t (p ∷ ps) h = go (isByte t && isLiteral p)
   where
-    go : (b : Bool) → Every Filled (joins b t p ps)
+    go : (b : Bool) → Every Filled (joinsPart b t p ps)
     go true = (tt, h .1)
     go false = (tt, h)
 
@@ -234,9 +234,9 @@ module _ (run : Tokens) where
 abbrev pub Taken : Tokens → Tokens → Type 0
 Taken ts us = Factor us ts × Filled us × Open us
 
-pub choice-taken : (ts : Tokens) → Holds (Taken ts) (choice ts)
+pub pattern-taken : (ts : Tokens) → Holds (Taken ts) (inPattern ts)
 unfolding Every
-choice-taken ts = choice-holds (Taken ts) ts (go (runs ts) (runs-factors ts) (runs-open ts))
+pattern-taken ts = pattern-holds (Taken ts) ts (go (runs ts) (runs-factors ts) (runs-open ts))
   where
     one : (r : Tokens) → Factor r ts → Open r → (us : Tokens) → Factor us r × Filled us → Taken ts us
     one r h o us ((a, b, e), f) = (within us r ts (a, b, e) h, f, open-left us b (open-right a (us ⊕ b) (subst Open e o)))

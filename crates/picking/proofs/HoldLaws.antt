@@ -7,7 +7,7 @@ use Rattle.meaning.specs.Values.{Bytes}
 use Rattle.meaning.specs.Tokens.{Tokens, Spans, _⊕_}
 use Rattle.meaning.proofs.TokenLaws.{spans-join}
 use Rattle.meaning.proofs.ValueLaws.{bytes-left, bytes-right}
-use Rattle.picking.specs.Choice.{picked, pick}
+use Rattle.picking.specs.Candidates.{picked, pick}
 use Rattle.picking.proofs.FactorLaws.{Factor, Filled}
 use Rattle.picking.proofs.PickedLaws.{picked-are-spans}
 

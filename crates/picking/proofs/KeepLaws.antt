@@ -9,7 +9,7 @@ use lib.Dec.{leb, ltb}
 use Rattle.meaning.specs.Tokens.{Tokens, nothing}
 use Rattle.atoms.specs.Score.{literalScore}
 use Rattle.picking.specs.Runs.{runs, parts, isLiteral, Slice, slices}
-use Rattle.picking.specs.Choice.{Ranked, ranked, skipped, excessive, Choice, unranked, chosen, tooMany, widened, against, rankOf, best, bytesOf, strong, aloneOr, inRun, beats, between, among, choice}
+use Rattle.picking.specs.Candidates.{Ranked, ranked, skipped, excessive, Candidate, unranked, chosen, tooMany, widened, against, rankOf, best, bytesOf, strong, aloneOr, inRun, beats, between, amongRuns, inPattern}
 
 -- each of some things is as asked
 unfoldable pub Every : {A : Type 0} → (A → Type 0) → List A → Type 0
@@ -33,7 +33,7 @@ every-map asked told f (x ∷ xs) h = (f x (h .0), every-map asked told f xs (h 
 
 module _ (Good : Tokens → Type 0) where
   -- what is chosen, if anything is
-  unfoldable pub Holds : Choice → Type 0
+  unfoldable pub Holds : Candidate → Type 0
   Holds unranked = Unit {0}
   Holds (chosen n us) = Good us
   Holds tooMany = Unit {0}
@@ -46,11 +46,11 @@ module _ (Good : Tokens → Type 0) where
   abbrev pub Widely : Slice → Type 0
   Widely s = (n : ℕ) → rankOf s ≡ ranked n → Good (widened s)
 
-  holds-by : (b : Bool) (c d : Choice) → Holds c → Holds d → Holds (cond b c d)
+  holds-by : (b : Bool) (c d : Candidate) → Holds c → Holds d → Holds (cond b c d)
   holds-by true c d h k = h
   holds-by false c d h k = k
 
-  against-holds : (c : Choice) (s : Slice) (r : Ranked) → rankOf s ≡ r → Widely s → Holds c → Holds (against c s r)
+  against-holds : (c : Candidate) (s : Slice) (r : Ranked) → rankOf s ≡ r → Widely s → Holds c → Holds (against c s r)
   unfolding against Holds
   against-holds unranked s (ranked n) e w h = w n e
   against-holds unranked s skipped e w h = tt
@@ -60,12 +60,12 @@ module _ (Good : Tokens → Type 0) where
   against-holds (chosen m ts) s excessive e w h = tt
   against-holds tooMany s r e w h = tt
 
-  best-holds : (ss : List Slice) (c : Choice) → Every Widely ss → Holds c → Holds (best c ss)
+  best-holds : (ss : List Slice) (c : Candidate) → Every Widely ss → Holds c → Holds (best c ss)
   unfolding best Every
   best-holds [] c w h = h
   best-holds (s ∷ ss) c w h = best-holds ss (against c s (rankOf s)) (w .1) (against-holds c s (rankOf s) refl (w .0) h)
 
-  alone-holds : (ps : List Tokens) (c : Choice) → Every Literally ps → Holds c → Holds (aloneOr (strong ps) c)
+  alone-holds : (ps : List Tokens) (c : Candidate) → Every Literally ps → Holds c → Holds (aloneOr (strong ps) c)
   unfolding strong aloneOr Holds Every
   alone-holds [] c l h = h
   alone-holds (p ∷ ps) c l h = go (isLiteral p) (leb 80 (literalScore (bytesOf p))) (l .0) (alone-holds ps c (l .1) h)
@@ -79,7 +79,7 @@ module _ (Good : Tokens → Type 0) where
   unfolding inRun Holds
   run-holds run l w = alone-holds (parts run) _ l (best-holds (slices (parts run) nothing) unranked w tt)
 
-  between-holds : (c d : Choice) → Holds c → Holds d → Holds (between c d)
+  between-holds : (c d : Candidate) → Holds c → Holds d → Holds (between c d)
   unfolding between Holds
   between-holds unranked d h k = k
   between-holds (chosen m ts) unranked h k = h
@@ -87,17 +87,17 @@ module _ (Good : Tokens → Type 0) where
   between-holds (chosen m ts) tooMany h k = tt
   between-holds tooMany d h k = tt
 
-  among-holds : (rs : List Tokens) (c : Choice) → Every (λ r. Holds (inRun r)) rs → Holds c → Holds (among c rs)
-  unfolding among Every
+  among-holds : (rs : List Tokens) (c : Candidate) → Every (λ r. Holds (inRun r)) rs → Holds c → Holds (amongRuns c rs)
+  unfolding amongRuns Every
   among-holds [] c w h = h
   among-holds (r ∷ rs) c w h = among-holds rs (between c (inRun r)) (w .1) (between-holds c (inRun r) h (w .0))
 
-  pub choice-holds : (ts : Tokens) → Every (λ r. Holds (inRun r)) (runs ts) → Holds (choice ts)
-  unfolding choice Holds
-  choice-holds ts w = among-holds (runs ts) unranked w tt
+  pub pattern-holds : (ts : Tokens) → Every (λ r. Holds (inRun r)) (runs ts) → Holds (inPattern ts)
+  unfolding inPattern Holds
+  pattern-holds ts w = among-holds (runs ts) unranked w tt
 
 -- and so does what follows from it
-pub holds-map : (asked told : Tokens → Type 0) → ((us : Tokens) → asked us → told us) → (c : Choice) → Holds asked c → Holds told c
+pub holds-map : (asked told : Tokens → Type 0) → ((us : Tokens) → asked us → told us) → (c : Candidate) → Holds asked c → Holds told c
 unfolding Holds
 holds-map asked told f unranked h = tt
 holds-map asked told f (chosen n us) h = f us h

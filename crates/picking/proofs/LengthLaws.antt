@@ -7,7 +7,7 @@ use native.Mathlib.Omega.{arith}
 use lib.ListN.{length, length-append}
 use Rattle.meaning.specs.Tokens.{Token, Tokens, Lists, Byte, NotByte, MaskedByte, NotMaskedByte, Jump, Alternatives, nothing, _then_, neither, _or_, totalIn, total, totals}
 use Rattle.picking.specs.Literals.{taken, _⊗_, singles, followed, spelt, branched, literals, lengthOf, lengthIn, shortest, shorter}
-use Rattle.picking.proofs.MatchLaws.{Pieces, in-joined, in-singles}
+use Rattle.picking.proofs.MatchLaws.{Split, in-joined, in-singles}
 
 -- between two lengths
 abbrev Between : ℕ → ℕ → List ℕ → Type 0
@@ -19,7 +19,7 @@ unfolding shorter
 shorter-le neither n = omega arith
 shorter-le (ts or ls) n = let h = shorter-le ls (min n (lengthIn ts)) in omega arith
 
-one-long : (t : Token) (ps : List (List ℕ)) (s : List ℕ) → List·Memᴰ s (ps ⊗ singles (taken t)) → Pieces ps (Between 1 1) s
+one-long : (t : Token) (ps : List (List ℕ)) (s : List ℕ) → List·Memᴰ s (ps ⊗ singles (taken t)) → Split ps (Between 1 1) s
 one-long t ps s h =
     let r = in-joined ps (singles (taken t)) s h in
     let u = in-singles (taken t) (r .1) (r .4) in
@@ -27,13 +27,13 @@ one-long t ps s h =
     (r .0, r .1, r .2, r .3, (omega arith, omega arith))
 
 -- at least the shortest of some lists and at most their tokens; here n is a length that is at least the shortest's bound
-whole : (a b : ℕ) (s : List ℕ) → Pieces ([] ∷ []) (Between a b) s → Between a b s
+whole : (a b : ℕ) (s : List ℕ) → Split ([] ∷ []) (Between a b) s → Between a b s
 whole a b s (p, q, e, m, h) = subst (Between a b) (sym (e ∙ ap (λ (x : List ℕ). x ++ q) (List·Memᴰ·eq-of-singleton m))) h
 
 mutual
   unfolding followed lengthOf totalIn
 
-  followed-long : (t : Token) (ps : List (List ℕ)) (s : List ℕ) → List·Memᴰ s (followed t ps) → Pieces ps (Between (lengthOf t) (totalIn t)) s
+  followed-long : (t : Token) (ps : List (List ℕ)) (s : List ℕ) → List·Memᴰ s (followed t ps) → Split ps (Between (lengthOf t) (totalIn t)) s
   followed-long (Byte v) ps s h = one-long (Byte v) ps s h
   followed-long (NotByte v) ps s h = one-long (NotByte v) ps s h
   followed-long (MaskedByte v m) ps s h = one-long (MaskedByte v m) ps s h
@@ -41,7 +41,7 @@ mutual
   followed-long (Jump from to) ps s h = one-long (Jump from to) ps s h
   followed-long (Alternatives ls) ps s h = let r = some-long ls ps s h in (r .0, r .1, r .2, r .3, (r .4 .0, let k = r .4 .1 in omega arith))
 
-  spelt-long : (ts : Tokens) (ps : List (List ℕ)) (s : List ℕ) → List·Memᴰ s (spelt ts ps) → Pieces ps (Between (lengthIn ts) (total ts)) s
+  spelt-long : (ts : Tokens) (ps : List (List ℕ)) (s : List ℕ) → List·Memᴰ s (spelt ts ps) → Split ps (Between (lengthIn ts) (total ts)) s
   spelt-long nothing ps s h = (s, [], sym (append-nil s), h, (omega arith, omega arith))
   spelt-long (t then ts) ps s h =
       let r = spelt-long ts (followed t ps) s h in
@@ -53,7 +53,7 @@ mutual
       let d = r .4 .1 in
       (u .0, u .1 ++ r .1, r .2 ∙ ap (λ (x : List ℕ). x ++ r .1) (u .2) ∙ append-assoc (u .0) (u .1) (r .1), u .3, (omega arith, omega arith))
 
-  some-long : (ls : Lists) (ps : List (List ℕ)) (s : List ℕ) → List·Memᴰ s (branched ls ps) → Pieces ps (Between (shortest ls) (totals ls)) s
+  some-long : (ls : Lists) (ps : List (List ℕ)) (s : List ℕ) → List·Memᴰ s (branched ls ps) → Split ps (Between (shortest ls) (totals ls)) s
   some-long neither ps s h = absurd (List·Memᴰ·not-nil h)
   some-long (ts or ls) ps s h =
       ⊎-elim
@@ -71,7 +71,7 @@ mutual
       (r .0, r .1, r .2, r .3, (omega arith, omega arith)))
       (List·Memᴰ·append-cases (ps ⊗ spelt ts ([] ∷ [])) h)
 
-  any-long : (ls : Lists) (ps : List (List ℕ)) (s : List ℕ) (n : ℕ) → List·Memᴰ s (branched ls ps) → Pieces ps (Between (shorter ls n) (totals ls)) s
+  any-long : (ls : Lists) (ps : List (List ℕ)) (s : List ℕ) (n : ℕ) → List·Memᴰ s (branched ls ps) → Split ps (Between (shorter ls n) (totals ls)) s
   any-long neither ps s n h = absurd (List·Memᴰ·not-nil h)
   any-long (ts or ls) ps s n h =
       ⊎-elim

@@ -1,5 +1,5 @@
--- The laws of the choice.
-pub mod ChoiceSamples
+-- The laws of what wins.
+pub mod PickSamples
 pub mod MatchLaws
 pub mod NumberLaws
 pub mod LengthLaws

@@ -14,9 +14,9 @@ use Rattle.meaning.proofs.SoundLaws.{and-left, and-right}
 use Rattle.meaning.proofs.ValueLaws.{bytes-left, bytes-right}
 use Rattle.picking.specs.Literals.{kept, passing, bytesThat, taken, isPlain, before, _⊗_, singles, followed, spelt, branched, literals, listableOf, listable, listableIn}
 
--- two pieces, the first of some literals and the second as asked
-abbrev pub Pieces : List (List ℕ) → (List ℕ → Type 0) → List ℕ → Type 0
-Pieces ps asked s = (p : List ℕ) × (q : List ℕ) × (s ≡ p ++ q) × List·Memᴰ p ps × asked q
+-- split in two, the first of some literals and the second as asked
+abbrev pub Split : List (List ℕ) → (List ℕ → Type 0) → List ℕ → Type 0
+Split ps asked s = (p : List ℕ) × (q : List ℕ) × (s ≡ p ++ q) × List·Memᴰ p ps × asked q
 
 -- ---- prefixes before literals
 
@@ -39,13 +39,13 @@ before-in p q (x ∷ ss) h = go (λ m. before-in p q ss m) (List·Memᴰ·cases-
     go below (inl e) = List·Memᴰ·head (ap (λ (y : List ℕ). p ++ y) e)
     go below (inr m) = List·Memᴰ·tail (below m)
 
-pub in-joined : (ps ss : List (List ℕ)) (s : List ℕ) → List·Memᴰ s (ps ⊗ ss) → Pieces ps (λ q. List·Memᴰ q ss) s
+pub in-joined : (ps ss : List (List ℕ)) (s : List ℕ) → List·Memᴰ s (ps ⊗ ss) → Split ps (λ q. List·Memᴰ q ss) s
 unfolding _⊗_
 in-joined [] ss s h = absurd (List·Memᴰ·not-nil h)
 in-joined (p ∷ ps) ss s h = go (λ m. in-joined ps ss s m) (List·Memᴰ·append-cases (before p ss) h)
   where
-    go : (List·Memᴰ s (ps ⊗ ss) → Pieces ps (λ q. List·Memᴰ q ss) s)
-        → List·Memᴰ s (before p ss) ⊎ List·Memᴰ s (ps ⊗ ss) → Pieces (p ∷ ps) (λ q. List·Memᴰ q ss) s
+    go : (List·Memᴰ s (ps ⊗ ss) → Split ps (λ q. List·Memᴰ q ss) s)
+        → List·Memᴰ s (before p ss) ⊎ List·Memᴰ s (ps ⊗ ss) → Split (p ∷ ps) (λ q. List·Memᴰ q ss) s
     go below (inl m) = let r = in-before p ss s m in (p, r .0, r .1, List·Memᴰ·head refl, r .2)
     go below (inr m) = let r = below m in (r .0, r .1, r .2, List·Memᴰ·tail (r .3), r .4)
 
@@ -151,20 +151,20 @@ matches-taken (Alternatives ls) s k h m = absurd (let z : _≡_ {A = ℕ} 0 1 = 
 
 -- ---- every literal is matched
 
-one-matches : (t : Token) (ps : List (List ℕ)) (s : List ℕ) → List·Memᴰ s (ps ⊗ singles (taken t)) → Pieces ps (Matches t) s
+one-matches : (t : Token) (ps : List (List ℕ)) (s : List ℕ) → List·Memᴰ s (ps ⊗ singles (taken t)) → Split ps (Matches t) s
 one-matches t ps s h =
     let r = in-joined ps (singles (taken t)) s h in
     let u = in-singles (taken t) (r .1) (r .4) in
     (r .0, r .1, r .2, r .3, subst (Matches t) (sym (u .1)) (taken-matches t (u .0) (u .2)))
 
 -- a piece after nothing is the whole
-whole : (asked : List ℕ → Type 0) (s : List ℕ) → Pieces ([] ∷ []) asked s → asked s
+whole : (asked : List ℕ → Type 0) (s : List ℕ) → Split ([] ∷ []) asked s → asked s
 whole asked s (p, q, e, m, h) = subst asked (sym (e ∙ ap (λ (x : List ℕ). x ++ q) (List·Memᴰ·eq-of-singleton m))) h
 
 mutual
   unfolding followed Matches
 
-  followed-matches : (t : Token) (ps : List (List ℕ)) (s : List ℕ) → List·Memᴰ s (followed t ps) → Pieces ps (λ q. Matches t q) s
+  followed-matches : (t : Token) (ps : List (List ℕ)) (s : List ℕ) → List·Memᴰ s (followed t ps) → Split ps (λ q. Matches t q) s
   followed-matches (Byte v) ps s h = one-matches (Byte v) ps s h
   followed-matches (NotByte v) ps s h = one-matches (NotByte v) ps s h
   followed-matches (MaskedByte v m) ps s h = one-matches (MaskedByte v m) ps s h
@@ -172,14 +172,14 @@ mutual
   followed-matches (Jump from to) ps s h = one-matches (Jump from to) ps s h
   followed-matches (Alternatives ls) ps s h = branched-matches ls ps s h
 
-  pub spelt-spans : (ts : Tokens) (ps : List (List ℕ)) (s : List ℕ) → List·Memᴰ s (spelt ts ps) → Pieces ps (λ q. Spans ts q) s
+  pub spelt-spans : (ts : Tokens) (ps : List (List ℕ)) (s : List ℕ) → List·Memᴰ s (spelt ts ps) → Split ps (λ q. Spans ts q) s
   spelt-spans nothing ps s h = (s, [], sym (append-nil s), h, refl)
   spelt-spans (t then ts) ps s h =
       let r = spelt-spans ts (followed t ps) s h in
       let u = followed-matches t ps (r .0) (r .3) in
       (u .0, u .1 ++ r .1, r .2 ∙ ap (λ (x : List ℕ). x ++ r .1) (u .2) ∙ append-assoc (u .0) (u .1) (r .1), u .3, (u .1, r .1, refl, u .4, r .4))
 
-  branched-matches : (ls : Lists) (ps : List (List ℕ)) (s : List ℕ) → List·Memᴰ s (branched ls ps) → Pieces ps (λ q. MatchesOne ls q) s
+  branched-matches : (ls : Lists) (ps : List (List ℕ)) (s : List ℕ) → List·Memᴰ s (branched ls ps) → Split ps (λ q. MatchesOne ls q) s
   branched-matches neither ps s h = absurd (List·Memᴰ·not-nil h)
   branched-matches (ts or ls) ps s h =
       ⊎-elim

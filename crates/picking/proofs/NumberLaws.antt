@@ -13,7 +13,7 @@ use lib.Seq.{getD-append-add}
 use borrow.Author.Tests.{ltb-true, ltb-false}
 use Rattle.meaning.specs.Tokens.{Token, Tokens, Lists, Byte, NotByte, MaskedByte, NotMaskedByte, Jump, Alternatives, nothing, _then_, neither, _or_}
 use Rattle.picking.specs.Literals.{taken, before, _⊗_, singles, followed, spelt, branched, literals}
-use Rattle.picking.specs.Numbers.{countOf, count, countIn, prefixIn, prefixOf, prefixed, pieceOf, ending, pieceIn, literalAt}
+use Rattle.picking.specs.Numbers.{countOf, count, countIn, prefixIn, prefixOf, prefixed, endingOf, ending, endingIn, literalAt}
 
 -- ---- as many as counted
 
@@ -188,27 +188,27 @@ below-one q m n h = let l : q % n < n = mod-lt q (pos-right q m n h) in let e : 
 branch-cases : (ts : Tokens) (ls : Lists) (ps : List (List ℕ)) (q : ℕ)
     → (q < length ps * count ts → Numbered ([] ∷ []) (literals ts) (q % count ts) (prefixed ts 1 (q % count ts)) (ending ts 1 (q % count ts)))
     → (length ps * count ts ≤ q
-    → Numbered ps (branched ls ps) (q - length ps * count ts) (prefixIn ls (length ps) (q - length ps * count ts)) (pieceIn ls (length ps) (q - length ps * count ts)))
+    → Numbered ps (branched ls ps) (q - length ps * count ts) (prefixIn ls (length ps) (q - length ps * count ts)) (endingIn ls (length ps) (q - length ps * count ts)))
     → Numbered ps (ps ⊗ literals ts ++ branched ls ps) q
     (cond (ltb q (length ps * count ts)) (q / count ts) (prefixIn ls (length ps) (q - length ps * count ts)))
-    (cond (ltb q (length ps * count ts)) (ending ts 1 (q % count ts)) (pieceIn ls (length ps) (q - length ps * count ts)))
+    (cond (ltb q (length ps * count ts)) (ending ts 1 (q % count ts)) (endingIn ls (length ps) (q - length ps * count ts)))
 branch-cases ts ls ps q one more = go (ltb q (length ps * count ts)) refl
   where
     go : (t : Bool) → ltb q (length ps * count ts) ≡ t
         → Numbered ps (ps ⊗ literals ts ++ branched ls ps) q (cond t (q / count ts) (prefixIn ls (length ps) (q - length ps * count ts)))
-        (cond t (ending ts 1 (q % count ts)) (pieceIn ls (length ps) (q - length ps * count ts)))
+        (cond t (ending ts 1 (q % count ts)) (endingIn ls (length ps) (q - length ps * count ts)))
     go true e =
         let h = ltb-true q (length ps * count ts) e in
         first-branch ts ls ps q (ending ts 1 (q % count ts)) h (alone ts (q % count ts) (prefixed ts 1 (q % count ts)) (ending ts 1 (q % count ts)) (one h))
     go false e =
         let h = ltb-false q (length ps * count ts) e in
-        later-branch ts ls ps q (prefixIn ls (length ps) (q - length ps * count ts)) (pieceIn ls (length ps) (q - length ps * count ts)) h (more h)
+        later-branch ts ls ps q (prefixIn ls (length ps) (q - length ps * count ts)) (endingIn ls (length ps) (q - length ps * count ts)) h (more h)
 
 mutual
   unfolding followed count prefixOf prefixIn prefixed ending
 
   followed-numbered : (t : Token) (ps : List (List ℕ)) (q : ℕ) → q < length ps * countOf t
-      → Numbered ps (followed t ps) q (prefixOf t (length ps) q) (pieceOf t (length ps) q)
+      → Numbered ps (followed t ps) q (prefixOf t (length ps) q) (endingOf t (length ps) q)
   followed-numbered (Byte v) ps q h = one-numbered ps (taken (Byte v)) q h
   followed-numbered (NotByte v) ps q h = one-numbered ps (taken (NotByte v)) q h
   followed-numbered (MaskedByte v m) ps q h = one-numbered ps (taken (MaskedByte v m)) q h
@@ -226,11 +226,11 @@ mutual
       let r =
       subst (λ (x : ℕ). Numbered (followed t ps) (spelt ts (followed t ps)) k (prefixed ts x k) (ending ts x k)) n (spelt-numbered ts (followed t ps) k g) in
       after-token t ts ps k (prefixed ts (length ps * countOf t) k) (prefixOf t (length ps) (prefixed ts (length ps * countOf t) k))
-      (pieceOf t (length ps) (prefixed ts (length ps * countOf t) k)) (ending ts (length ps * countOf t) k) r
+      (endingOf t (length ps) (prefixed ts (length ps * countOf t) k)) (ending ts (length ps * countOf t) k) r
       (followed-numbered t ps (prefixed ts (length ps * countOf t) k) (subst (λ (x : ℕ). prefixed ts (length ps * countOf t) k < x) n (r .within)))
 
   branched-numbered : (ls : Lists) (ps : List (List ℕ)) (q : ℕ) → q < length ps * countIn ls
-      → Numbered ps (branched ls ps) q (prefixIn ls (length ps) q) (pieceIn ls (length ps) q)
+      → Numbered ps (branched ls ps) q (prefixIn ls (length ps) q) (endingIn ls (length ps) q)
   branched-numbered neither ps q h = let e : length ps * 0 ≡ 0 = mul-zero (length ps) in absurd (omega arith)
   branched-numbered (ts or ls) ps q h =
       let e = mul-add (length ps) (count ts) (countIn ls) in

@@ -5,7 +5,7 @@ use mathlib.Core.List.{List, [], _∷_, _++_}
 use Rattle.meaning.specs.Tokens.{Token, Tokens, nothing, _then_}
 use Rattle.meaning.proofs.SoundLaws.{and-left, and-right, false-true}
 use Rattle.picking.specs.Literals.{isByte}
-use Rattle.picking.specs.Runs.{isLiteral, joins, partBefore, parts}
+use Rattle.picking.specs.Runs.{isLiteral, joinsPart, partBefore, parts}
 
 -- of each part and the next, one is no literal
 unfoldable Apart : List Tokens → Type 0
@@ -20,11 +20,11 @@ joined-apart t p [] e f h = tt
 joined-apart t p (q ∷ ps) e f h = (ap₂ _&&_ e refl ∙ sym (ap₂ _&&_ f refl) ∙ h .0, h .1)
 
 apart-before : (t : Token) (ps : List Tokens) → Apart ps → Apart (partBefore t ps)
-unfolding Apart partBefore joins isLiteral
+unfolding Apart partBefore joinsPart isLiteral
 apart-before t [] h = tt
 apart-before t (p ∷ ps) h = go (isByte t && isLiteral p) refl
   where
-    go : (b : Bool) → isByte t && isLiteral p ≡ b → Apart (joins b t p ps)
+    go : (b : Bool) → isByte t && isLiteral p ≡ b → Apart (joinsPart b t p ps)
     go true e = joined-apart t p ps (and-left (isByte t) (isLiteral p) e) (and-right (isByte t) (isLiteral p) e) h
     go false e = (e, h)
 

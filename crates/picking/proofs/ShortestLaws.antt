@@ -15,8 +15,8 @@ use Rattle.meaning.specs.Values.{Bytes, SpelledOne, Spelled, SpelledFirst, Spel
 use Rattle.meaning.proofs.ValueLaws.{bytes-join}
 use Rattle.meaning.proofs.SoundLaws.{and-left, and-right, and-both, false-true}
 use Rattle.picking.specs.Literals.{isPlain, literals, listableOf, listable, listableIn, lengthOf, lengthIn, shortest, shorter}
-use Rattle.picking.specs.Runs.{closes, plainInside, plain, atFront, segmented, segments, runs}
-use Rattle.picking.specs.Choice.{lowest, least, chosen, inRun}
+use Rattle.picking.specs.Runs.{closes, plainInside, plainAlternatives, atFront, segmented, segments, runs}
+use Rattle.picking.specs.Candidates.{lowest, least, chosen, inRun}
 use Rattle.picking.proofs.MatchLaws.{literals-are-spans}
 use Rattle.picking.proofs.LengthLaws.{literal-lengths}
 use Rattle.picking.proofs.KeepLaws.{Every, every-map, Holds}
@@ -199,7 +199,7 @@ spelled-right (t then ts) us h = spelled-right ts us (h .1)
 
 -- tokens of which none closes a run, with plain alternatives, as a text spells them
 abbrev pub Able : Tokens → Type 0
-Able s = Open s × (plain s ≡ true) × Spelled s
+Able s = Open s × (plainAlternatives s ≡ true) × Spelled s
 
 pub able-left : (ts us : Tokens) → Able (ts ⊕ us) → Able ts
 able-left ts us (o, p, w) = (open-left ts us o, plain-left ts us p, spelled-left ts us w)
@@ -212,17 +212,17 @@ pub able-within : (us ts : Tokens) → Factor us ts → Able ts → Able us
 able-within us ts (a, b, e) h = able-left us b (able-right a (us ⊕ b) (subst Able e h))
 
 able-on : (b : Bool) (t : Token) (ss : List Tokens) → closes t ≡ b → plainInside t ≡ true → SpelledOne t → Every Able ss → Every Able (segmented b t ss)
-unfolding segmented atFront Every Open plain Spelled
+unfolding segmented atFront Every Open plainAlternatives Spelled
 able-on true t ss e p w h = ((tt, refl, tt), h)
 able-on false t [] e p w h = (((e, tt), and-both p refl, (w, tt)), tt)
 able-on false t (s ∷ ss) e p w h = (((e, h .0 .0), and-both p (h .0 .1), (w, h .0 .2)), h .1)
 
-segments-able : (ts : Tokens) → plain ts ≡ true → Spelled ts → Every Able (segments ts)
-unfolding segments Every Open plain Spelled
+segments-able : (ts : Tokens) → plainAlternatives ts ≡ true → Spelled ts → Every Able (segments ts)
+unfolding segments Every Open plainAlternatives Spelled
 segments-able nothing p w = ((tt, refl, tt), tt)
 segments-able (t then ts) p w = able-on (closes t) t (segments ts) refl (and-left (plainInside t) _ p) (w .0) (segments-able ts (and-right (plainInside t) _ p) (w .1))
 
-pub runs-able : (ts : Tokens) → plain ts ≡ true → Spelled ts → Every Able (runs ts)
+pub runs-able : (ts : Tokens) → plainAlternatives ts ≡ true → Spelled ts → Every Able (runs ts)
 runs-able ts p w = runs-every Able ts (segments-able ts p w)
 
 -- and so is what is chosen in one
@@ -234,6 +234,6 @@ able-told : (s : Tokens) → Able s → (n : ℕ) (us : Tokens) → inRun s ≡ 
 able-told s h n us e = let (o, p, w) = chosen-able s h n us e in shortest-is us (open-listable us o p) w
 
 -- what is chosen in any segment has a shortest literal that is as long as its tokens tell
-pub segments-told : (ts : Tokens) → plain ts ≡ true → Spelled ts
+pub segments-told : (ts : Tokens) → plainAlternatives ts ≡ true → Spelled ts
     → Every (λ s. (n : ℕ) (us : Tokens) → inRun s ≡ chosen n us → least length (literals us) ≡ lengthIn us) (segments ts)
 segments-told ts p w = every-map Able _ able-told (segments ts) (segments-able ts p w)

@@ -2,5 +2,5 @@
 -- then crate promise's specs/Winners.antt.
 pub mod Literals
 pub mod Runs
-pub mod Choice
+pub mod Candidates
 pub mod Numbers

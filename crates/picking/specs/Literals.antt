@@ -1,4 +1,5 @@
 -- The literals of tokens, in 01's order, their combinations and their shortest length. Assumes nothing: these are definitions.
+-- To be believed: `plainList` `plainLists` `before` `_⊗_` `singles` `followed` `spelt` `branched` `literals` `combinationsOf` `combinations` `combinationsIn`.
 use mathlib.Core.Bool.{Bool, true, false, not, _&&_}
 use mathlib.Core.List.{List, [], _∷_, _++_}
 use Prim.Native.Nat.{ℕ, zero, suc, _+_, _*_, _/_, _%_, _≤_, min}
@@ -164,18 +165,18 @@ unfoldable mutual
 
 unfoldable mutual
   -- alternatives have a list, and no list of them is empty, as everything that is read
-  pub listedOf : Token → Type 0
-  listedOf (Byte v) = Unit {0}
-  listedOf (NotByte v) = Unit {0}
-  listedOf (MaskedByte v m) = Unit {0}
-  listedOf (NotMaskedByte v m) = Unit {0}
-  listedOf (Jump from to) = Unit {0}
-  listedOf (Alternatives ls) = (1 ≤ shortest ls) × listedIn ls
+  pub NonemptyOf : Token → Type 0
+  NonemptyOf (Byte v) = Unit {0}
+  NonemptyOf (NotByte v) = Unit {0}
+  NonemptyOf (MaskedByte v m) = Unit {0}
+  NonemptyOf (NotMaskedByte v m) = Unit {0}
+  NonemptyOf (Jump from to) = Unit {0}
+  NonemptyOf (Alternatives ls) = (1 ≤ shortest ls) × NonemptyIn ls
 
-  pub listed : Tokens → Type 0
-  listed nothing = Unit {0}
-  listed (t then ts) = listedOf t × listed ts
+  pub Nonempty : Tokens → Type 0
+  Nonempty nothing = Unit {0}
+  Nonempty (t then ts) = NonemptyOf t × Nonempty ts
 
-  pub listedIn : Lists → Type 0
-  listedIn neither = Unit {0}
-  listedIn (ts or ls) = listed ts × listedIn ls
+  pub NonemptyIn : Lists → Type 0
+  NonemptyIn neither = Unit {0}
+  NonemptyIn (ts or ls) = Nonempty ts × NonemptyIn ls

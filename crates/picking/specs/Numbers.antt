@@ -1,5 +1,6 @@
 -- How many literals tokens have, and literal number k of them, told without listing any. Assumes nothing: these are definitions;
 -- proofs/NumberLaws.antt shows that they count and number the literals in their order.
+-- To be believed: nothing.
 use mathlib.Core.Bool.{cond}
 use mathlib.Core.List.{List, [], _∷_, _++_}
 use Prim.Native.Nat.{ℕ, _+_, _-_, _*_, _/_, _%_}
@@ -51,24 +52,24 @@ abbrev pub single : Token → ℕ → List ℕ
 single t j = getD (taken t) (j % countOf t) 0 ∷ []
 
 unfoldable mutual
-  -- what literal number q has after its prefix: of one token
-  pub pieceOf : Token → ℕ → ℕ → List ℕ
-  pieceOf (Byte v) p q = single (Byte v) q
-  pieceOf (NotByte v) p q = single (NotByte v) q
-  pieceOf (MaskedByte v m) p q = single (MaskedByte v m) q
-  pieceOf (NotMaskedByte v m) p q = single (NotMaskedByte v m) q
-  pieceOf (Jump from to) p q = single (Jump from to) q
-  pieceOf (Alternatives ls) p q = pieceIn ls p q
+  -- how literal number q ends, after its prefix: of one token
+  pub endingOf : Token → ℕ → ℕ → List ℕ
+  endingOf (Byte v) p q = single (Byte v) q
+  endingOf (NotByte v) p q = single (NotByte v) q
+  endingOf (MaskedByte v m) p q = single (MaskedByte v m) q
+  endingOf (NotMaskedByte v m) p q = single (NotMaskedByte v m) q
+  endingOf (Jump from to) p q = single (Jump from to) q
+  endingOf (Alternatives ls) p q = endingIn ls p q
 
   -- of several
   pub ending : Tokens → ℕ → ℕ → List ℕ
   ending nothing p k = []
-  ending (t then ts) p k = pieceOf t p (prefixed ts (p * countOf t) k) ++ ending ts (p * countOf t) k
+  ending (t then ts) p k = endingOf t p (prefixed ts (p * countOf t) k) ++ ending ts (p * countOf t) k
 
   -- of alternatives
-  pub pieceIn : Lists → ℕ → ℕ → List ℕ
-  pieceIn neither p q = []
-  pieceIn (ts or ls) p q = cond (ltb q (p * count ts)) (ending ts 1 (q % count ts)) (pieceIn ls p (q - p * count ts))
+  pub endingIn : Lists → ℕ → ℕ → List ℕ
+  endingIn neither p q = []
+  endingIn (ts or ls) p q = cond (ltb q (p * count ts)) (ending ts 1 (q % count ts)) (endingIn ls p (q - p * count ts))
 
 -- literal number k
 abbrev pub literalAt : Tokens → ℕ → List ℕ

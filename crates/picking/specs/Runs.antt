@@ -1,4 +1,5 @@
 -- Segments, runs, parts and slices. Assumes nothing: these are definitions.
+-- To be believed: `closes` `plainAlternatives` `atFront` `segmented` `segments` `filledOnes` `firstLast` `runs` `isLiteral` `joinsPart` `partBefore` `parts` `Slice` `literalOnly` `longer` `slices`.
 use mathlib.Core.Bool.{Bool, true, false, cond, not, _&&_, _||_}
 use mathlib.Core.List.{List, [], _∷_, _++_}
 use Prim.Native.Nat.{ℕ, _+_}
@@ -28,9 +29,9 @@ plainInside (Jump from to) = true
 plainInside (Alternatives ls) = plainLists ls
 
 -- all alternatives are plain: else 19
-unfoldable pub plain : Tokens → Bool
-plain nothing = true
-plain (t then ts) = plainInside t && plain ts
+unfoldable pub plainAlternatives : Tokens → Bool
+plainAlternatives nothing = true
+plainAlternatives (t then ts) = plainInside t && plainAlternatives ts
 
 -- a token at the front of the first segment
 unfoldable pub atFront : Token → List Tokens → List Tokens
@@ -68,14 +69,14 @@ isLiteral nothing = false
 isLiteral (t then ts) = isByte t
 
 -- a token before a part and those that follow it
-unfoldable pub joins : Bool → Token → Tokens → List Tokens → List Tokens
-joins true t p ps = (t then p) ∷ ps
-joins false t p ps = (t then nothing) ∷ p ∷ ps
+unfoldable pub joinsPart : Bool → Token → Tokens → List Tokens → List Tokens
+joinsPart true t p ps = (t then p) ∷ ps
+joinsPart false t p ps = (t then nothing) ∷ p ∷ ps
 
 -- a byte joins a literal part
 unfoldable pub partBefore : Token → List Tokens → List Tokens
 partBefore t [] = (t then nothing) ∷ []
-partBefore t (p ∷ ps) = joins (isByte t && isLiteral p) t p ps
+partBefore t (p ∷ ps) = joinsPart (isByte t && isLiteral p) t p ps
 
 -- the parts of a run: a literal (successive bytes), a class, or alternatives
 unfoldable pub parts : Tokens → List Tokens

@@ -1,1 +1,1 @@
-// The choice of search literals. It holds no function: its definitions stand in specs/ and its laws in proofs/.
+// Which search literals win. It holds no function: its definitions stand in specs/ and its laws in proofs/.

@@ -1,2 +1,2 @@
 -- The laws of one more slice.
-pub mod PickLaws
+pub mod WinnerLaws

@@ -10,10 +10,10 @@ use Rattle.meaning.specs.Limits.{literalLimit}
 use Rattle.tallies.specs.Tallies.{countTop}
 use Rattle.meaning.specs.Tokens.{Token, Tokens, Lists, Byte, NotByte, MaskedByte, NotMaskedByte, Jump, Alternatives, neither, _or_}
 use Rattle.picking.specs.Literals.{taken}
-use Rattle.picking.specs.Numbers.{countOf, count, countIn, prefixIn, prefixOf, prefixed, pieceOf, ending, pieceIn}
+use Rattle.picking.specs.Numbers.{countOf, count, countIn, prefixIn, prefixOf, prefixed, endingOf, ending, endingIn}
 use Rattle.picking.proofs.NumberLaws.{pos-right, spelt-numbered}
 use Rattle.classes.specs.Entry.{entryToken}
-use Rattle.entries.specs.Words.{firstEntry, flatIn, ends, inside, listsIn, tokenIn, width, tokensIn}
+use Rattle.entries.specs.Words.{firstEntry, branchIn, ends, inside, listsIn, tokenIn, width, tokensIn}
 use Rattle.entries.proofs.StepLaws.{lists-end, lists-step, tokens-end, tokens-step, width-entry}
 use Rattle.entries.proofs.PlainLaws.{token-alternatives, token-entry}
 use Rattle.prefixes.specs.Numbers.{Numerable, Past}
@@ -24,15 +24,15 @@ use Rattle.tallies.proofs.TallyLaws.{entry-count, token-count-entry, token-coun
 -- ---- lists
 
 module _ (ws : List ℕ) (h : 4 ≤ length ws) (p q : ℕ) where
-  pub prefix-here : q < p * count (flatIn (inside ws)) → prefixIn (listsIn ws) p q ≡ q / count (flatIn (inside ws))
+  pub prefix-here : q < p * count (branchIn (inside ws)) → prefixIn (listsIn ws) p q ≡ q / count (branchIn (inside ws))
   unfolding prefixIn
-  prefix-here l = rw (lists-step ws h) (rw (lt-ltb q (p * count (flatIn (inside ws))) l))
+  prefix-here l = rw (lists-step ws h) (rw (lt-ltb q (p * count (branchIn (inside ws))) l))
 
-  pub prefix-later : p * count (flatIn (inside ws)) ≤ q → prefixIn (listsIn ws) p q ≡ prefixIn (listsIn (drop (ends ws) ws)) p (q - p * count (flatIn (inside ws)))
+  pub prefix-later : p * count (branchIn (inside ws)) ≤ q → prefixIn (listsIn ws) p q ≡ prefixIn (listsIn (drop (ends ws) ws)) p (q - p * count (branchIn (inside ws)))
   unfolding prefixIn
-  prefix-later l = rw (lists-step ws h) (rw (le-ltb q (p * count (flatIn (inside ws))) l))
+  prefix-later l = rw (lists-step ws h) (rw (le-ltb q (p * count (branchIn (inside ws))) l))
 
-pub count-lists : (ws : List ℕ) → 4 ≤ length ws → countIn (listsIn ws) ≡ count (flatIn (inside ws)) + countIn (listsIn (drop (ends ws) ws))
+pub count-lists : (ws : List ℕ) → 4 ≤ length ws → countIn (listsIn ws) ≡ count (branchIn (inside ws)) + countIn (listsIn (drop (ends ws) ws))
 unfolding count
 count-lists ws h = rw (lists-step ws h)
 
@@ -85,11 +85,11 @@ factor-le a b n e h =
 
 -- ---- in the words of the code
 
-module _ (ws : List ℕ) (h : 4 ≤ length ws) (n e : ℕ) (ends-at : e ≡ ends ws) (counted : n ≡ min countTop (count (flatIn (take (e - 4) (drop 4 ws))))) (few : countIn (listsIn ws) ≤ literalLimit) where
-  pub list-exact : n ≡ count (flatIn (inside ws))
+module _ (ws : List ℕ) (h : 4 ≤ length ws) (n e : ℕ) (ends-at : e ≡ ends ws) (counted : n ≡ min countTop (count (branchIn (take (e - 4) (drop 4 ws))))) (few : countIn (listsIn ws) ≤ literalLimit) where
+  pub list-exact : n ≡ count (branchIn (inside ws))
   list-exact =
-      let l : count (flatIn (inside ws)) ≤ literalLimit = omega (arith, count-lists ws h) in
-      let c : n ≡ min countTop (count (flatIn (inside ws))) = counted ∙ ap (λ (x : ℕ). min countTop (count (flatIn (take (x - 4) (drop 4 ws))))) ends-at in
+      let l : count (branchIn (inside ws)) ≤ literalLimit = omega (arith, count-lists ws h) in
+      let c : n ≡ min countTop (count (branchIn (inside ws))) = counted ∙ ap (λ (x : ℕ). min countTop (count (branchIn (take (x - 4) (drop 4 ws))))) ends-at in
       omega arith
 
   pub lists-few : countIn (listsIn (drop (ends ws) ws)) ≤ literalLimit
@@ -159,36 +159,36 @@ prefixed-below ts p k =
     subst (λ (x : ℕ). k < x * count ts → prefixed ts x k < x) (length-replicate p []) (λ h. spelt-numbered ts (replicate p []) k h .within)
 
 module _ (ts : Tokens) (ls : Lists) (p : ℕ) where
-  only-here : count ts ≡ 1 → (q : ℕ) → q < p → pieceIn (ts or ls) p q ≡ ending ts 1 0
-  unfolding pieceIn
+  only-here : count ts ≡ 1 → (q : ℕ) → q < p → endingIn (ts or ls) p q ≡ ending ts 1 0
+  unfolding endingIn
   only-here e q l =
       let z : p * count ts ≡ p = ap (λ (x : ℕ). p * x) e ∙ mul-one p in
       rw (lt-ltb q (p * count ts) (omega arith)) (ap (ending ts 1) (ap (λ (x : ℕ). q % x) e ∙ mod-one q))
 
-  only-later : count ts ≡ 0 → (q : ℕ) → pieceIn (ts or ls) p q ≡ pieceIn ls p q
-  unfolding pieceIn
+  only-later : count ts ≡ 0 → (q : ℕ) → endingIn (ts or ls) p q ≡ endingIn ls p q
+  unfolding endingIn
   only-later e q =
       let z : p * count ts ≡ 0 = ap (λ (x : ℕ). p * x) e ∙ mul-zero p in
       let s : q - p * count ts ≡ q = omega arith in
-      rw (le-ltb q (p * count ts) (omega arith)) (ap (pieceIn ls p) s)
+      rw (le-ltb q (p * count ts) (omega arith)) (ap (endingIn ls p) s)
 
-single-in : (ls : Lists) → countIn ls ≡ 1 → (p q r : ℕ) → q < p → r < p → pieceIn ls p q ≡ pieceIn ls p r
+single-in : (ls : Lists) → countIn ls ≡ 1 → (p q r : ℕ) → q < p → r < p → endingIn ls p q ≡ endingIn ls p r
 unfolding count
 single-in neither e p q r h g = absurd (omega arith)
 single-in (ts or ls) e p q r h g = go (count ts) refl (λ d. single-in ls d p q r h g)
   where
-    go : (n : ℕ) → count ts ≡ n → (countIn ls ≡ 1 → pieceIn ls p q ≡ pieceIn ls p r) → pieceIn (ts or ls) p q ≡ pieceIn (ts or ls) p r
+    go : (n : ℕ) → count ts ≡ n → (countIn ls ≡ 1 → endingIn ls p q ≡ endingIn ls p r) → endingIn (ts or ls) p q ≡ endingIn (ts or ls) p r
     go zero d f = only-later ts ls p d q ∙ f (omega arith) ∙ sym (only-later ts ls p d r)
     go (suc n) d f = let one : count ts ≡ 1 = omega arith in only-here ts ls p one q h ∙ sym (only-here ts ls p one r g)
 
-single-piece : (t : Token) → countOf t ≡ 1 → (p q r : ℕ) → q < p → r < p → pieceOf t p q ≡ pieceOf t p r
-unfolding pieceOf countOf
-single-piece t e p q r h g = go t e
+single-ending : (t : Token) → countOf t ≡ 1 → (p q r : ℕ) → q < p → r < p → endingOf t p q ≡ endingOf t p r
+unfolding endingOf countOf
+single-ending t e p q r h g = go t e
   where
     same : (n : ℕ) → n ≡ 1 → (l : List ℕ) → getD l (q % n) 0 ∷ [] ≡ getD l (r % n) 0 ∷ []
     same n d l = ap (λ (x : ℕ). getD l x 0 ∷ []) (ap (λ (x : ℕ). q % x) d ∙ mod-one q ∙ sym (ap (λ (x : ℕ). r % x) d ∙ mod-one r))
 
-    go : (s : Token) → countOf s ≡ 1 → pieceOf s p q ≡ pieceOf s p r
+    go : (s : Token) → countOf s ≡ 1 → endingOf s p q ≡ endingOf s p r
     go (Byte v) d = same (countOf (Byte v)) d (taken (Byte v))
     go (NotByte v) d = same (countOf (NotByte v)) d (taken (NotByte v))
     go (MaskedByte v m) d = same (countOf (MaskedByte v m)) d (taken (MaskedByte v m))
@@ -197,14 +197,14 @@ single-piece t e p q r h g = go t e
     go (Alternatives ls) d = single-in ls d p q r h g
 
 pub single-any : (ws : List ℕ) → 4 ≤ length ws → (p n k : ℕ) → Numerable p (count (tokensIn ws)) → n ≡ min countTop (countOf (tokenIn ws)) → k < p * count (tokensIn ws) → n ≡ 1
-    → pieceOf (tokenIn ws) p 0 ≡ pieceOf (tokenIn ws) p (prefixed (tokensIn (drop (width ws) ws)) (p * countOf (tokenIn ws)) k)
+    → endingOf (tokenIn ws) p 0 ≡ endingOf (tokenIn ws) p (prefixed (tokensIn (drop (width ws) ws)) (p * countOf (tokenIn ws)) k)
 single-any ws h p n k num e l o =
     let R = tokensIn (drop (width ws) ws) in
     let one : countOf (tokenIn ws) ≡ 1 = omega arith in
     let same : p * countOf (tokenIn ws) ≡ p = ap (λ (x : ℕ). p * x) one ∙ mul-one p in
     let product : p * countOf (tokenIn ws) * count R ≡ p * count (tokensIn ws) = mul-assoc p (countOf (tokenIn ws)) (count R) ∙ ap (λ (x : ℕ). p * x) (sym (tokens-count ws h)) in
     let below : prefixed R (p * countOf (tokenIn ws)) k < p * countOf (tokenIn ws) = prefixed-below R (p * countOf (tokenIn ws)) k (omega arith) in
-    single-piece (tokenIn ws) one p 0 (prefixed R (p * countOf (tokenIn ws)) k) (omega arith) (omega arith)
+    single-ending (tokenIn ws) one p 0 (prefixed R (p * countOf (tokenIn ws)) k) (omega arith) (omega arith)
 
 -- ---- bytes passed over
 

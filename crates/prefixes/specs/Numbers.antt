@@ -1,4 +1,5 @@
 -- What the numbers of prefixes are asked of, and what bytes leave of them. Assumes nothing: these are definitions.
+-- To be believed: nothing.
 use mathlib.Core.Path.{_≡_}
 use mathlib.Core.List.{List}
 use Prim.Native.Nat.{ℕ, _*_, _≤_, _<_}

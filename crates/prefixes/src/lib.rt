@@ -5,7 +5,7 @@ ghost use Prim.Native.Nat.{_*_, _≤_, _<_, min};
 ghost use lib.ListN.{length, drop};
 ghost use Rattle.meaning.specs.Limits.{literalLimit};
 ghost use Rattle.tallies.specs.Tallies.{countTop};
-ghost use Rattle.picking.specs.Numbers.{countOf, count, countIn, prefixIn, prefixOf, prefixed, pieceOf};
+ghost use Rattle.picking.specs.Numbers.{countOf, count, countIn, prefixIn, prefixOf, prefixed, endingOf};
 ghost use Rattle.entries.specs.Words.{listsIn, tokenIn, width, tokensIn};
 ghost use Rattle.prefixes.specs.Numbers.{Numerable, Past};
 
@@ -79,7 +79,7 @@ fn prefixed_by(ws: &[u32], p: usize, k: usize) -> usize
 // 256 literals eight tokens at most have more, so that few walk through all tokens after them.
 pub fn number_of(ws: &[u32], p: usize, n: usize, k: usize) -> usize
     requires { ⌜ (4 ≤ length (now ws)) × Numerable p (count (tokensIn (now ws))) × (n ≡ min countTop (countOf (tokenIn (now ws)))) × (k < p * count (tokensIn (now ws))) ⌝ }
-    ensures { λ r. ⌜ pieceOf (tokenIn (now (ws .entry))) p r ≡ pieceOf (tokenIn (now (ws .entry))) p (prefixed (tokensIn (drop (width (now (ws .entry))) (now (ws .entry)))) (p * countOf (tokenIn (now (ws .entry)))) k) ⌝ }
+    ensures { λ r. ⌜ endingOf (tokenIn (now (ws .entry))) p r ≡ endingOf (tokenIn (now (ws .entry))) p (prefixed (tokensIn (drop (width (now (ws .entry))) (now (ws .entry)))) (p * countOf (tokenIn (now (ws .entry)))) k) ⌝ }
 {
     if n == 1 {
         return 0;

@@ -1,7 +1,7 @@
 -- Laws of bytes laid into a buffer: one writer after another, and what the buffer holds in the end. Assumes nothing.
 use mathlib.Core.Path.{_≡_, refl, sym, ap, _∙_}
 use mathlib.Core.Bool.{Bool, true, false}
-use mathlib.Core.List.{List, [], _∷_, _++_, append-assoc, append-nil}
+use mathlib.Core.List.{List, [], _∷_, _++_, append-assoc, append-nil, flatMap}
 use Prim.Native.Nat.{ℕ, suc, _+_, _-_, _≤_, _<_}
 use native.Mathlib.Omega.{arith}
 use native.Mathlib.Numerals.{add-one}
@@ -9,7 +9,7 @@ use lib.ListN.{length, take, drop, set, getD, length-append, length-set}
 use lib.Dec.{ltb}
 use borrow.Author.Tests.{ltb-true, ltb-false}
 use lib.Seq.{take-all, take-nil, take-suc-set, set-out, sets, sets-eq, take-suc}
-use Rattle.printing.specs.Laid.{laid, Put, each}
+use Rattle.printing.specs.Laid.{laid, Put}
 
 pub length-laid : (bs p : List ℕ) (at : ℕ) → length (laid p at bs) ≡ length p
 unfolding laid
@@ -83,30 +83,30 @@ pub put-length : {p q bs : List ℕ} {at r : ℕ} → Put p at bs r q → length
 put-length {p} {q} {bs} {at} {r} a = ap length (a .holds) ∙ length-laid bs p at
 
 -- one more of a list that is written element by element
-pub each-append : (f : ℕ → List ℕ) (xs ys : List ℕ) → each f (xs ++ ys) ≡ each f xs ++ each f ys
-unfolding each
-each-append f [] ys = refl
-each-append f (x ∷ xs) ys = ap (λ (z : List ℕ). f x ++ z) (each-append f xs ys) ∙ sym (append-assoc (f x) (each f xs) (each f ys))
+pub flatMap-append : (f : ℕ → List ℕ) (xs ys : List ℕ) → flatMap f (xs ++ ys) ≡ flatMap f xs ++ flatMap f ys
+unfolding flatMap
+flatMap-append f [] ys = refl
+flatMap-append f (x ∷ xs) ys = ap (λ (z : List ℕ). f x ++ z) (flatMap-append f xs ys) ∙ sym (append-assoc (f x) (flatMap f xs) (flatMap f ys))
 
-pub each-none : (f : ℕ → List ℕ) → each f [] ≡ []
-unfolding each
-each-none f = refl
+pub flatMap-none : (f : ℕ → List ℕ) → flatMap f [] ≡ []
+unfolding flatMap
+flatMap-none f = refl
 
-pub each-one : (f : ℕ → List ℕ) (x : ℕ) → each f (x ∷ []) ≡ f x
-unfolding each
-each-one f x = append-nil (f x)
+pub flatMap-one : (f : ℕ → List ℕ) (x : ℕ) → flatMap f (x ∷ []) ≡ f x
+unfolding flatMap
+flatMap-one f x = append-nil (f x)
 
-pub each-more : (f : ℕ → List ℕ) (s : List ℕ) (i : ℕ) → i < length s → each f (take i s) ++ f (getD s i 0) ≡ each f (take (i + 1) s)
-each-more f s i h =
-    ap (λ (x : List ℕ). each f (take i s) ++ x) (sym (each-one f (getD s i 0)))
-    ∙ sym (each-append f (take i s) (getD s i 0 ∷ []))
-    ∙ ap (each f) (sym (take-suc s i 0 h) ∙ ap (λ (n : ℕ). take n s) (sym (add-one i)))
+pub flatMap-more : (f : ℕ → List ℕ) (s : List ℕ) (i : ℕ) → i < length s → flatMap f (take i s) ++ f (getD s i 0) ≡ flatMap f (take (i + 1) s)
+flatMap-more f s i h =
+    ap (λ (x : List ℕ). flatMap f (take i s) ++ x) (sym (flatMap-one f (getD s i 0)))
+    ∙ sym (flatMap-append f (take i s) (getD s i 0 ∷ []))
+    ∙ ap (flatMap f) (sym (take-suc s i 0 h) ∙ ap (λ (n : ℕ). take n s) (sym (add-one i)))
 
-pub put-each : (f : ℕ → List ℕ) (s : List ℕ) (i : ℕ) {p q t : List ℕ} {at m r : ℕ} → i < length s → Put p at (each f (take i s)) m q → Put q m (f (getD s i 0)) r t → Put p at (each f (take (i + 1) s)) r t
-put-each f s i h a b = put-same (each f (take (i + 1) s)) (put-then a b) (each-more f s i h)
+pub put-each : (f : ℕ → List ℕ) (s : List ℕ) (i : ℕ) {p q t : List ℕ} {at m r : ℕ} → i < length s → Put p at (flatMap f (take i s)) m q → Put q m (f (getD s i 0)) r t → Put p at (flatMap f (take (i + 1) s)) r t
+put-each f s i h a b = put-same (flatMap f (take (i + 1) s)) (put-then a b) (flatMap-more f s i h)
 
 -- a list whose elements are written as they are
-pub each-itself : (s : List ℕ) → each (λ b. b ∷ []) s ≡ s
-unfolding each
-each-itself [] = refl
-each-itself (b ∷ s) = ap (λ (x : List ℕ). b ∷ x) (each-itself s)
+pub flatMap-itself : (s : List ℕ) → flatMap (λ b. b ∷ []) s ≡ s
+unfolding flatMap
+flatMap-itself [] = refl
+flatMap-itself (b ∷ s) = ap (λ (x : List ℕ). b ∷ x) (flatMap-itself s)

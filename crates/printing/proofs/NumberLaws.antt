@@ -1,7 +1,7 @@
 -- Laws of numbers as text: what the decimal digits say, and how many there are. Assumes nothing.
 use mathlib.Core.Path.{_≡_, refl, sym, ap, _∙_}
 use mathlib.Core.Bool.{Bool, true, false}
-use mathlib.Core.List.{List, [], _∷_, _++_}
+use mathlib.Core.List.{List, [], _∷_, _++_, flatMap}
 use Prim.Native.Char.{code}
 use Prim.Native.Nat.{ℕ, zero, suc, _+_, _-_, _*_, _/_, _%_, _^_, _≤_, _<_}
 use native.Mathlib.Omega.{arith}
@@ -10,7 +10,6 @@ use lib.Dec.{ltb}
 use borrow.Author.Tests.{ltb-true, ltb-false, lt-ltb, le-ltb}
 use lib.ListN.{length, take, getD, length-append, List·getD-append}
 use lib.Seq.{getD-at, getD-take, take-suc, take-all, length-take-le}
-use Rattle.printing.specs.Laid.{each}
 use Rattle.printing.specs.Numbers.{digit, hexOf, digitsIn, decimalOf, valueAfter, Decimal}
 
 one-digit : (f n : ℕ) → n < 10 → digitsIn (suc f) n ≡ digit n ∷ []
@@ -62,10 +61,10 @@ pub length-hex : (b : ℕ) → length (hexOf b) ≡ 2
 unfolding hexOf
 length-hex b = refl
 
-pub length-hexes : (s : List ℕ) → length (each hexOf s) ≡ 2 * length s
-unfolding each
+pub length-hexes : (s : List ℕ) → length (flatMap hexOf s) ≡ 2 * length s
+unfolding flatMap
 length-hexes [] = refl
-length-hexes (b ∷ s) = length-append (hexOf b) (each hexOf s) ∙ rw (length-hex b, length-hexes s) (omega arith)
+length-hexes (b ∷ s) = length-append (hexOf b) (flatMap hexOf s) ∙ rw (length-hex b, length-hexes s) (omega arith)
 
 -- The decimal digits say the number.
 digit-ten : (d : ℕ) → d < 10 → digit d ≡ code "0" + d

@@ -1,4 +1,5 @@
 -- Bytes laid into a lent buffer, as far as it reaches. Assumes nothing: these are definitions.
+-- To be believed: nothing.
 use mathlib.Core.Path.{_≡_}
 use mathlib.Core.List.{List, [], _∷_, _++_}
 use Prim.Native.Nat.{ℕ, _+_}
@@ -13,8 +14,3 @@ laid p at (b ∷ bs) = laid (set p at b) (at + 1) bs
 pub record Put (p : List ℕ) (at : ℕ) (bs : List ℕ) (r : ℕ) (q : List ℕ) : Type 0 where
   pub next : r ≡ at + length bs
   pub holds : q ≡ laid p at bs
-
--- what f gives for each of a list, one after another
-unfoldable pub each : (ℕ → List ℕ) → List ℕ → List ℕ
-each f [] = []
-each f (x ∷ xs) = f x ++ each f xs

@@ -1,4 +1,5 @@
 -- Numbers as text. Assumes nothing: these are definitions.
+-- To be believed: `digit` `hexOf` `valueAfter` `Decimal`.
 use mathlib.Core.Path.{_≡_}
 use mathlib.Core.Bool.{cond}
 use mathlib.Core.List.{List, [], _∷_, _++_}

@@ -1,10 +1,10 @@
 // Bytes and numbers as text, written into lent bytes. A writer lays down what fits and always answers the place after all of its bytes, so that no
 // caller has to ask for room on the way: who called first compares the last place with the buffer's length.
 ghost use mathlib.Core.Path.{_≡_};
-ghost use mathlib.Core.List.{[], _∷_};
+ghost use mathlib.Core.List.{[], _∷_, flatMap};
 ghost use Prim.Native.Nat.{_+_, _*_, _<_, _^_};
 ghost use lib.ListN.{length};
-ghost use Rattle.printing.specs.Laid.{Put, each};
+ghost use Rattle.printing.specs.Laid.{Put};
 ghost use Rattle.printing.specs.Numbers.{digit, hexOf, decimalOf};
 
 pub fn put_byte(out: &mut [u8], at: usize, b: u8) -> usize
@@ -54,7 +54,7 @@ pub fn put_hex(out: &mut [u8], at: usize, b: u8) -> usize
 // A byte string in digits, without blanks.
 pub fn put_hexes(out: &mut [u8], at: usize, s: &[u8]) -> usize
     requires { ⌜ at + 2 * length (now s) < 2 ^ 64 ⌝ }
-    ensures { λ r. ⌜ Put (now (out .entry)) at (each hexOf (now (s .entry))) r (now (out .exit)) ⌝ }
+    ensures { λ r. ⌜ Put (now (out .entry)) at (flatMap hexOf (now (s .entry))) r (now (out .exit)) ⌝ }
 {
     let mut k = at;
     let mut i = 0;

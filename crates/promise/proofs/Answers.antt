@@ -14,7 +14,7 @@ use Rattle.meaning.specs.Rows.{forward, backward}
 use Rattle.meaning.specs.Words.{prog, sound}
 use Rattle.meaning.proofs.ChoiceLaws.{span-fits, fits-span}
 use Rattle.meaning.proofs.WordSpans.{sound-length}
-use Rattle.checkdoors.specs.Doors.{Outcome, found, noMatch, refused, window, refusal, endAt, startAt, forwardSays, reverseSays}
+use Rattle.checkdoors.specs.Doors.{CheckSaid, found, noMatch, refuses, window, refusal, endAt, startAt, forwardSays, reverseSays}
 use Rattle.checkdoors.proofs.DoorLaws.{passed, forward-checked, reverse-checked}
 use Rattle.checkdoors.proofs.Theorems.{forward-finds, finds-forward, forward-misses, reverse-finds, finds-reverse, reverse-misses}
 use Rattle.promise.specs.NodeWords.{SoundWords}
@@ -22,31 +22,31 @@ use Rattle.promise.specs.Pattern.{SpanAt, FirstEnd, FirstStart, AnswersF
 use Rattle.promise.proofs.NodeWords.{sound-listed, program-listed}
 use Rattle.promise.proofs.Cuts.{part-length, part-bytes, parts, cut}
 
-end-fine : (e k p : ℕ) (x : Option (List ℕ)) → endAt e x ≡ refused k p → ⊥
+end-fine : (e k p : ℕ) (x : Option (List ℕ)) → endAt e x ≡ refuses k p → ⊥
 end-fine e k p none h = let z : _≡_ {A = ℕ} 0 1 = cc in omega arith
 end-fine e k p (some v) h = let z : _≡_ {A = ℕ} 0 1 = cc in omega arith
 
-start-fine : (s k p : ℕ) (x : Option (List ℕ)) → startAt s x ≡ refused k p → ⊥
+start-fine : (s k p : ℕ) (x : Option (List ℕ)) → startAt s x ≡ refuses k p → ⊥
 start-fine s k p none h = let z : _≡_ {A = ℕ} 0 1 = cc in omega arith
 start-fine s k p (some v) h = let z : _≡_ {A = ℕ} 0 1 = cc in omega arith
 
 -- an answer that is no refusal is found wherever it is not missed
-found-or : (P : Type 0) (x : Outcome) → ((k p : ℕ) → x ≡ refused k p → ⊥) → (x ≡ noMatch → P → ⊥) → P → (n : ℕ) × (x ≡ found n)
+found-or : (P : Type 0) (x : CheckSaid) → ((k p : ℕ) → x ≡ refuses k p → ⊥) → (x ≡ noMatch → P → ⊥) → P → (n : ℕ) × (x ≡ found n)
 found-or P (found n) a b p = (n, refl)
 found-or P noMatch a b p = absurd (b refl p)
-found-or P (refused k q) a b p = absurd (a k q refl)
+found-or P (refuses k q) a b p = absurd (a k q refl)
 
-missed-or : (x : Outcome) → ((k p : ℕ) → x ≡ refused k p → ⊥) → ((n : ℕ) → x ≡ found n → ⊥) → x ≡ noMatch
+missed-or : (x : CheckSaid) → ((k p : ℕ) → x ≡ refuses k p → ⊥) → ((n : ℕ) → x ≡ found n → ⊥) → x ≡ noMatch
 missed-or (found n) a b = absurd (b n refl)
 missed-or noMatch a b = refl
-missed-or (refused k q) a b = absurd (a k q refl)
+missed-or (refuses k q) a b = absurd (a k q refl)
 
 -- sound words and a window: what is found is the first choice, and there is no refusal
 module _ (ws hay : List ℕ) (s e : ℕ) (h : sound ws ≡ true) (d : s ≤ e) (l : e ≤ length hay) where
   ok : none ≡ refusal ws (length hay) s e
   ok = passed ws (length hay) s e d l (sound-length ws h) (sym h)
 
-  pub fine : (k p : ℕ) → forwardSays ws hay s e ≡ refused k p → ⊥
+  pub fine : (k p : ℕ) → forwardSays ws hay s e ≡ refuses k p → ⊥
   fine k p g = end-fine e k p (forward (prog ws) (window hay s e)) (forward-checked ws hay s e ok ∙ g)
 
   pub to-first : (n : ℕ) → forwardSays ws hay s e ≡ found n → FirstEnd (prog ws) hay s e n
@@ -62,7 +62,7 @@ module _ (ws hay : List ℕ) (s e : ℕ) (h : sound ws ≡ true) (d : s ≤ e) (
       let m : e - length (window hay n e) ≡ n = omega (arith, k) in
       finds-forward ws hay s e h d l (window hay n e) f ∙ ap found m
 
-  pub back-fine : (k p : ℕ) → reverseSays ws hay s e ≡ refused k p → ⊥
+  pub back-fine : (k p : ℕ) → reverseSays ws hay s e ≡ refuses k p → ⊥
   back-fine k p g = start-fine s k p (backward (prog ws) (window hay s e)) (reverse-checked ws hay s e ok ∙ g)
 
   -- what the first choice takes, read forward again, is behind what it leaves

@@ -21,7 +21,7 @@ use Rattle.checkdoors.proofs.Theorems.{forward-misses, reverse-misses, left-tai
 use Rattle.promise.specs.NodeWords.{Nodes}
 use Rattle.promise.specs.Pattern.{FirstEnd, FirstStart}
 use Rattle.promise.specs.Checks.{Refuses, Forward, Reverse, Left}
-use Rattle.promise.specs.Checks as said
+use Rattle.promise.specs.Checks as table
 use Rattle.promise.proofs.NodeWords.{sound-listed, not-sound, program-listed, sound-says}
 use Rattle.promise.proofs.Answers.{fine, to-first, of-first, back-fine, to-start, of-start}
 
@@ -44,20 +44,20 @@ module _ (ws hay : List ℕ) (s e : ℕ) where
       at-words d l b h true g = inl (record { ordered = d; inside = l; tested = g })
       at-words d l true h false g =
           let k = leb-true (length ws) nodeLimit h in
-          inr (record { number = 15; listed = said.unsound d l k (λ x. let y = sound-listed ws .1 x in let z : _≡_ {A = ℕ} 0 1 = cc in omega arith); tells = law.unsound ws (length hay) s e d l k (sym g) })
-      at-words d l false h false g = let k = leb-false (length ws) nodeLimit h in inr (record { number = 13; listed = said.too-many d l k; tells = law.many ws (length hay) s e d l k })
+          inr (record { number = 15; listed = table.unsound d l k (λ x. let y = sound-listed ws .1 x in let z : _≡_ {A = ℕ} 0 1 = cc in omega arith); tells = law.unsound ws (length hay) s e d l k (sym g) })
+      at-words d l false h false g = let k = leb-false (length ws) nodeLimit h in inr (record { number = 13; listed = table.too-many d l k; tells = law.many ws (length hay) s e d l k })
 
       at-end : s ≤ e → (b : Bool) → leb e (length hay) ≡ b → Asked ws hay s e ⊎ Why ws hay s e
       at-end d true h = at-words d (leb-true e (length hay) h) (leb (length ws) nodeLimit) refl (sound ws) refl
-      at-end d false h = let k = leb-false e (length hay) h in inr (record { number = 16; listed = said.bad-window (λ a b. omega arith); tells = law.beyond ws (length hay) s e d k })
+      at-end d false h = let k = leb-false e (length hay) h in inr (record { number = 16; listed = table.bad-window (λ a b. omega arith); tells = law.beyond ws (length hay) s e d k })
 
       at-start : (b : Bool) → leb s e ≡ b → Asked ws hay s e ⊎ Why ws hay s e
       at-start true h = at-end (leb-true s e h) (leb e (length hay)) refl
-      at-start false h = let k = leb-false s e h in inr (record { number = 16; listed = said.bad-window (λ a b. omega arith); tells = law.crossed ws (length hay) s e k })
+      at-start false h = let k = leb-false s e h in inr (record { number = 16; listed = table.bad-window (λ a b. omega arith); tells = law.crossed ws (length hay) s e k })
 
   -- a listed refusal is the computed one
   tells-so : {k : ℕ} → Refuses ws hay s e k → some k ≡ refusal ws (length hay) s e
-  tells-so (said.bad-window h) = go (leb s e) refl
+  tells-so (table.bad-window h) = go (leb s e) refl
     where
       past : s ≤ e → (b : Bool) → leb e (length hay) ≡ b → some 16 ≡ refusal ws (length hay) s e
       past d true g = absurd (h d (leb-true e (length hay) g))
@@ -66,8 +66,8 @@ module _ (ws hay : List ℕ) (s e : ℕ) where
       go : (b : Bool) → leb s e ≡ b → some 16 ≡ refusal ws (length hay) s e
       go true g = past (leb-true s e g) (leb e (length hay)) refl
       go false g = law.crossed ws (length hay) s e (leb-false s e g)
-  tells-so (said.too-many d l h) = law.many ws (length hay) s e d l h
-  tells-so (said.unsound d l k h) = law.unsound ws (length hay) s e d l k (not-sound ws h)
+  tells-so (table.too-many d l h) = law.many ws (length hay) s e d l h
+  tells-so (table.unsound d l k h) = law.unsound ws (length hay) s e d l k (not-sound ws h)
 
   listed-sound : (p : Prog) → length ws ≤ nodeLimit → Nodes ws p → sound ws ≡ true
   listed-sound p k n = sound-listed ws .1 (record { few = k; program = p; nodes = n })
@@ -76,22 +76,22 @@ module _ (ws hay : List ℕ) (s e : ℕ) where
   pub forwards : Forward ws hay s e (forwardSays ws hay s e)
   forwards = go asked
     where
-      answer : Asked ws hay s e → (o : doors.Outcome) → forwardSays ws hay s e ≡ o → Forward ws hay s e o
-      answer a (doors.found n) g = said.Forward.found (a .inside) (sound-length ws (a .tested)) (sound-says ws (a .tested)) (to-first ws hay s e (a .tested) (a .ordered) (a .inside) n g)
-      answer a doors.noMatch g = said.Forward.missed (a .ordered) (a .inside) (sound-length ws (a .tested)) (sound-says ws (a .tested)) (forward-misses ws hay s e (a .tested) (a .ordered) (a .inside) .0 g)
-      answer a (doors.refused k p) g = absurd (fine ws hay s e (a .tested) (a .ordered) (a .inside) k p g)
+      answer : Asked ws hay s e → (o : doors.CheckSaid) → forwardSays ws hay s e ≡ o → Forward ws hay s e o
+      answer a (doors.found n) g = table.Forward.found (a .inside) (sound-length ws (a .tested)) (sound-says ws (a .tested)) (to-first ws hay s e (a .tested) (a .ordered) (a .inside) n g)
+      answer a doors.noMatch g = table.Forward.missed (a .ordered) (a .inside) (sound-length ws (a .tested)) (sound-says ws (a .tested)) (forward-misses ws hay s e (a .tested) (a .ordered) (a .inside) .0 g)
+      answer a (doors.refuses k p) g = absurd (fine ws hay s e (a .tested) (a .ordered) (a .inside) k p g)
 
       go : Asked ws hay s e ⊎ Why ws hay s e → Forward ws hay s e (forwardSays ws hay s e)
       go (inl a) = answer a (forwardSays ws hay s e) refl
-      go (inr w) = subst (Forward ws hay s e) (law.forward-refused ws hay s e (w .number) (w .tells)) (said.Forward.refused (w .listed))
+      go (inr w) = subst (Forward ws hay s e) (law.forward-refused ws hay s e (w .number) (w .tells)) (table.Forward.refused (w .listed))
 
-  pub forwards-one : {o : doors.Outcome} → Forward ws hay s e o → o ≡ forwardSays ws hay s e
-  forwards-one (said.Forward.refused {k = k} r) = law.forward-refused ws hay s e k (tells-so r)
-  forwards-one (said.Forward.found {p = p} {n = n} l k g f) =
+  pub forwards-one : {o : doors.CheckSaid} → Forward ws hay s e o → o ≡ forwardSays ws hay s e
+  forwards-one (table.Forward.refused {k = k} r) = law.forward-refused ws hay s e k (tells-so r)
+  forwards-one (table.Forward.found {p = p} {n = n} l k g f) =
       let h = listed-sound p k g in
       let d : s ≤ e = let a = f .0 in let b = f .1 in omega arith in
       sym (of-first ws hay s e h d l n (subst (λ (x : Prog). FirstEnd x hay s e n) (sym (program-listed g)) f))
-  forwards-one (said.Forward.missed {p = p} d l k g f) =
+  forwards-one (table.Forward.missed {p = p} d l k g f) =
       let h = listed-sound p k g in
       sym (forward-misses ws hay s e h d l .1 (subst (λ (x : Prog). Nowhere x (window hay s e)) (sym (program-listed g)) f))
 
@@ -99,34 +99,34 @@ module _ (ws hay : List ℕ) (s e : ℕ) where
   pub reverses : Reverse ws hay s e (reverseSays ws hay s e)
   reverses = go asked
     where
-      answer : Asked ws hay s e → (o : doors.Outcome) → reverseSays ws hay s e ≡ o → Reverse ws hay s e o
-      answer a (doors.found n) g = said.Reverse.found (a .inside) (sound-length ws (a .tested)) (sound-says ws (a .tested)) (to-start ws hay s e (a .tested) (a .ordered) (a .inside) n g)
-      answer a doors.noMatch g = said.Reverse.missed (a .ordered) (a .inside) (sound-length ws (a .tested)) (sound-says ws (a .tested)) (reverse-misses ws hay s e (a .tested) (a .ordered) (a .inside) .0 g)
-      answer a (doors.refused k p) g = absurd (back-fine ws hay s e (a .tested) (a .ordered) (a .inside) k p g)
+      answer : Asked ws hay s e → (o : doors.CheckSaid) → reverseSays ws hay s e ≡ o → Reverse ws hay s e o
+      answer a (doors.found n) g = table.Reverse.found (a .inside) (sound-length ws (a .tested)) (sound-says ws (a .tested)) (to-start ws hay s e (a .tested) (a .ordered) (a .inside) n g)
+      answer a doors.noMatch g = table.Reverse.missed (a .ordered) (a .inside) (sound-length ws (a .tested)) (sound-says ws (a .tested)) (reverse-misses ws hay s e (a .tested) (a .ordered) (a .inside) .0 g)
+      answer a (doors.refuses k p) g = absurd (back-fine ws hay s e (a .tested) (a .ordered) (a .inside) k p g)
 
       go : Asked ws hay s e ⊎ Why ws hay s e → Reverse ws hay s e (reverseSays ws hay s e)
       go (inl a) = answer a (reverseSays ws hay s e) refl
-      go (inr w) = subst (Reverse ws hay s e) (law.reverse-refused ws hay s e (w .number) (w .tells)) (said.Reverse.refused (w .listed))
+      go (inr w) = subst (Reverse ws hay s e) (law.reverse-refused ws hay s e (w .number) (w .tells)) (table.Reverse.refused (w .listed))
 
-  pub reverses-one : {o : doors.Outcome} → Reverse ws hay s e o → o ≡ reverseSays ws hay s e
-  reverses-one (said.Reverse.refused {k = k} r) = law.reverse-refused ws hay s e k (tells-so r)
-  reverses-one (said.Reverse.found {p = p} {n = n} l k g f) =
+  pub reverses-one : {o : doors.CheckSaid} → Reverse ws hay s e o → o ≡ reverseSays ws hay s e
+  reverses-one (table.Reverse.refused {k = k} r) = law.reverse-refused ws hay s e k (tells-so r)
+  reverses-one (table.Reverse.found {p = p} {n = n} l k g f) =
       let h = listed-sound p k g in
       let d : s ≤ e = let a = f .0 in let b = f .1 in omega arith in
       sym (of-start ws hay s e h d l n (subst (λ (x : Prog). FirstStart x hay s e n) (sym (program-listed g)) f))
-  reverses-one (said.Reverse.missed {p = p} d l k g f) =
+  reverses-one (table.Reverse.missed {p = p} d l k g f) =
       let h = listed-sound p k g in
       sym (reverse-misses ws hay s e h d l .1 (subst (λ (x : Prog). Nowhere x (reverse (window hay s e))) (sym (program-listed g)) f))
 
   -- what is left
-  not-found : (k n : ℕ) (o : doors.Outcome) → doors.refused k 0 ≡ o → doors.found n ≡ o → ⊥
+  not-found : (k n : ℕ) (o : doors.CheckSaid) → doors.refuses k 0 ≡ o → doors.found n ≡ o → ⊥
   not-found k n o h g = let z : _≡_ {A = ℕ} 0 1 = cc in omega arith
 
-  no-found : (n : ℕ) (o : doors.Outcome) → o ≡ doors.noMatch → doors.found n ≡ o → ⊥
+  no-found : (n : ℕ) (o : doors.CheckSaid) → o ≡ doors.noMatch → doors.found n ≡ o → ⊥
   no-found n o h g = let z : _≡_ {A = ℕ} 0 1 = cc in omega arith
 
-  -- where it begins, by the outcome
-  begins : (o : doors.Outcome) → forwardSays ws hay s e ≡ o → leftFrom o ≡ leftAt ws hay s e
+  -- where it begins, by what is said
+  begins : (o : doors.CheckSaid) → forwardSays ws hay s e ≡ o → leftFrom o ≡ leftAt ws hay s e
   unfolding leftAt
   begins o g = sym (ap leftFrom g)
 
@@ -136,30 +136,30 @@ module _ (ws hay : List ℕ) (s e : ℕ) where
   pub lefts : Left ws hay s e (leftAt ws hay s e) (leftSays ws hay s e)
   lefts = go asked
     where
-      answer : Asked ws hay s e → (o : doors.Outcome) → forwardSays ws hay s e ≡ o → Left ws hay s e (leftAt ws hay s e) (leftSays ws hay s e)
-      answer a (doors.found n) g = left-so (begins (doors.found n) g) (sym (left-tail ws hay s e (a .tested) (a .ordered) (a .inside) n g)) (said.tail (subst (Forward ws hay s e) g forwards))
-      answer a doors.noMatch g = left-so (begins doors.noMatch g) (sym (left-nothing ws hay s e (a .tested) (a .ordered) (a .inside) g)) (said.nothing (λ n f. no-found n (forwardSays ws hay s e) g (forwards-one f)))
-      answer a (doors.refused k p) g = absurd (fine ws hay s e (a .tested) (a .ordered) (a .inside) k p g)
+      answer : Asked ws hay s e → (o : doors.CheckSaid) → forwardSays ws hay s e ≡ o → Left ws hay s e (leftAt ws hay s e) (leftSays ws hay s e)
+      answer a (doors.found n) g = left-so (begins (doors.found n) g) (sym (left-tail ws hay s e (a .tested) (a .ordered) (a .inside) n g)) (table.tail (subst (Forward ws hay s e) g forwards))
+      answer a doors.noMatch g = left-so (begins doors.noMatch g) (sym (left-nothing ws hay s e (a .tested) (a .ordered) (a .inside) g)) (table.nothing (λ n f. no-found n (forwardSays ws hay s e) g (forwards-one f)))
+      answer a (doors.refuses k p) g = absurd (fine ws hay s e (a .tested) (a .ordered) (a .inside) k p g)
 
       go : Asked ws hay s e ⊎ Why ws hay s e → Left ws hay s e (leftAt ws hay s e) (leftSays ws hay s e)
       go (inl a) = answer a (forwardSays ws hay s e) refl
       go (inr w) =
           let r = law.forward-refused ws hay s e (w .number) (w .tells) in
-          left-so (begins (doors.refused (w .number) 0) (sym r)) (law.left-refused ws hay s e (w .number) (w .tells)) (said.nothing (λ n f. not-found (w .number) n (forwardSays ws hay s e) r (forwards-one f)))
+          left-so (begins (doors.refuses (w .number) 0) (sym r)) (law.left-refused ws hay s e (w .number) (w .tells)) (table.nothing (λ n f. not-found (w .number) n (forwardSays ws hay s e) r (forwards-one f)))
 
   pub lefts-one : {n : ℕ} {v : List ℕ} → Left ws hay s e n v → (n ≡ leftAt ws hay s e) × (v ≡ leftSays ws hay s e)
-  lefts-one (said.tail {n = n} f) = (begins (doors.found n) (sym (forwards-one f)), go asked)
+  lefts-one (table.tail {n = n} f) = (begins (doors.found n) (sym (forwards-one f)), go asked)
     where
       go : Asked ws hay s e ⊎ Why ws hay s e → window hay n e ≡ leftSays ws hay s e
       go (inl a) = sym (left-tail ws hay s e (a .tested) (a .ordered) (a .inside) n (sym (forwards-one f)))
       go (inr w) = absurd (not-found (w .number) n (forwardSays ws hay s e) (law.forward-refused ws hay s e (w .number) (w .tells)) (forwards-one f))
-  lefts-one (said.nothing c) = go asked
+  lefts-one (table.nothing c) = go asked
     where
-      answer : Asked ws hay s e → (o : doors.Outcome) → forwardSays ws hay s e ≡ o → (0 ≡ leftAt ws hay s e) × ([] ≡ leftSays ws hay s e)
+      answer : Asked ws hay s e → (o : doors.CheckSaid) → forwardSays ws hay s e ≡ o → (0 ≡ leftAt ws hay s e) × ([] ≡ leftSays ws hay s e)
       answer a (doors.found n) g = absurd (c n (subst (Forward ws hay s e) g forwards))
       answer a doors.noMatch g = (begins doors.noMatch g, sym (left-nothing ws hay s e (a .tested) (a .ordered) (a .inside) g))
-      answer a (doors.refused k p) g = absurd (fine ws hay s e (a .tested) (a .ordered) (a .inside) k p g)
+      answer a (doors.refuses k p) g = absurd (fine ws hay s e (a .tested) (a .ordered) (a .inside) k p g)
 
       go : Asked ws hay s e ⊎ Why ws hay s e → (0 ≡ leftAt ws hay s e) × ([] ≡ leftSays ws hay s e)
       go (inl a) = answer a (forwardSays ws hay s e) refl
-      go (inr w) = (begins (doors.refused (w .number) 0) (sym (law.forward-refused ws hay s e (w .number) (w .tells))), law.left-refused ws hay s e (w .number) (w .tells))
+      go (inr w) = (begins (doors.refuses (w .number) 0) (sym (law.forward-refused ws hay s e (w .number) (w .tells))), law.left-refused ws hay s e (w .number) (w .tells))

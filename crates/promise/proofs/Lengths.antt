@@ -1,4 +1,4 @@
--- The length that the choice of literals gives to tokens is that of their shortest literal. Assumes nothing.
+-- The length that picking gives to tokens is that of their shortest literal. Assumes nothing.
 use mathlib.Core.Path.{_≡_}
 use mathlib.Core.Bool.{true}
 use lib.ListN.{length}

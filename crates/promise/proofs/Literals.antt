@@ -1,4 +1,4 @@
--- The functions by which the choice of literals is defined do what their names say. Assumes nothing.
+-- The functions by which picking is defined do what their names say. Assumes nothing.
 use mathlib.Core.Path.{_≡_, refl, sym, ap, ap₂, _∙_, subst}
 use mathlib.Core.Bool.{Bool, true, false}
 use mathlib.Core.Logic.{_⊎_, ⊎-elim, _↔_}
@@ -15,9 +15,9 @@ use Rattle.meaning.proofs.TokenLaws.{one-span, span-one}
 use Rattle.picking.specs.Literals.{kept, passing, taken, isByte, isPlain, plainLists, before, _⊗_, singles, spelt, literals, listable}
 use Rattle.picking.proofs.MatchLaws.{in-singles, literals-are-spans, singles-in}
 use Rattle.picking.specs.Runs.{isAlternatives, plainInside}
-use Rattle.picking.specs.Choice.{lowest, least, byteOf, bytesOf}
+use Rattle.picking.specs.Candidates.{lowest, least, byteOf, bytesOf}
 use Rattle.promise.specs.Literals.{Plain, Rising, Members, Least}
-use Rattle.promise.specs.Literals as said
+use Rattle.promise.specs.Literals as table
 use Rattle.promise.specs.Parts.{OnlyBytes}
 use Rattle.promise.specs.Parts as part
 
@@ -74,22 +74,22 @@ unfolding isPlain
 is-plain t = (go t, back)
   where
     go : (x : Token) → isPlain x ≡ true → Plain x
-    go (Byte v) h = said.byte
-    go (NotByte v) h = said.not-byte
-    go (MaskedByte v left) h = said.half left-some
-    go (MaskedByte v right) h = said.half right-some
+    go (Byte v) h = table.byte
+    go (NotByte v) h = table.not-byte
+    go (MaskedByte v left) h = table.half left-some
+    go (MaskedByte v right) h = table.half right-some
     go (MaskedByte v all) h = false-true h
-    go (NotMaskedByte v left) h = said.not-half left-some
-    go (NotMaskedByte v right) h = said.not-half right-some
+    go (NotMaskedByte v left) h = table.not-half left-some
+    go (NotMaskedByte v right) h = table.not-half right-some
     go (NotMaskedByte v all) h = false-true h
     go (Jump from to) h = false-true h
     go (Alternatives ls) h = false-true h
 
     back : {x : Token} → Plain x → isPlain x ≡ true
-    back said.byte = refl
-    back said.not-byte = refl
-    back (said.half {v = v} {m = m} h) = open-mask m h (λ (k : Mask). isPlain (MaskedByte v k) ≡ true) refl refl
-    back (said.not-half {v = v} {m = m} h) = open-mask m h (λ (k : Mask). isPlain (NotMaskedByte v k) ≡ true) refl refl
+    back table.byte = refl
+    back table.not-byte = refl
+    back (table.half {v = v} {m = m} h) = open-mask m h (λ (k : Mask). isPlain (MaskedByte v k) ≡ true) refl refl
+    back (table.not-half {v = v} {m = m} h) = open-mask m h (λ (k : Mask). isPlain (NotMaskedByte v k) ≡ true) refl refl
 
 -- the bytes of a list of bytes are its one literal
 spelt-bytes : {ts : Tokens} (p : List ℕ) → OnlyBytes ts → spelt ts (p ∷ []) ≡ (p ++ bytesOf ts) ∷ []
@@ -171,8 +171,8 @@ none-above a b m = absurd (List·Memᴰ·not-nil m)
 
 rising-before : (a : ℕ) (l : List ℕ) → Rising l → above a l → Rising (a ∷ l)
 unfolding above
-rising-before a [] r h = said.single
-rising-before a (b ∷ l) r h = said.more (h b (List·Memᴰ·head refl)) r
+rising-before a [] r h = table.single
+rising-before a (b ∷ l) r h = table.more (h b (List·Memᴰ·head refl)) r
 
 rising-kept : (b : Bool) (v : ℕ) (l : List ℕ) → Rising l → above v l → Rising (kept b v l)
 unfolding kept
@@ -191,21 +191,21 @@ passing-above p a v (suc n) h = kept-above (p v) a v (passing p (v + 1) n) h (pa
 
 passing-rises : (p : ℕ → Bool) (v n : ℕ) → Rising (passing p v n)
 unfolding passing
-passing-rises p v zero = said.none
+passing-rises p v zero = table.none
 passing-rises p v (suc n) = rising-kept (p v) v (passing p (v + 1) n) (passing-rises p (v + 1) n) (passing-above p v (v + 1) n (omega arith))
 
 taken-rises : (t : Token) → Rising (taken t)
 unfolding taken
-taken-rises (Byte v) = said.single
+taken-rises (Byte v) = table.single
 taken-rises (NotByte v) = passing-rises _ 0 256
 taken-rises (MaskedByte v left) = passing-rises _ 0 256
 taken-rises (MaskedByte v right) = passing-rises _ 0 256
-taken-rises (MaskedByte v all) = said.none
+taken-rises (MaskedByte v all) = table.none
 taken-rises (NotMaskedByte v left) = passing-rises _ 0 256
 taken-rises (NotMaskedByte v right) = passing-rises _ 0 256
-taken-rises (NotMaskedByte v all) = said.none
-taken-rises (Jump from to) = said.none
-taken-rises (Alternatives ls) = said.none
+taken-rises (NotMaskedByte v all) = table.none
+taken-rises (Jump from to) = table.none
+taken-rises (Alternatives ls) = table.none
 
 -- they are bytes
 kept-below : (b : Bool) (v n x : ℕ) (l : List ℕ) → ((y : ℕ) → List·Memᴰ y l → y < v + 1 + n) → List·Memᴰ x (kept b v l) → x < v + suc n
@@ -281,12 +281,12 @@ taken-members t k w = record { rising = taken-rises t; matched = λ b. (to b, fr
 
 -- there is one such list
 rising-rest : {a : ℕ} {l : List ℕ} → Rising (a ∷ l) → Rising l
-rising-rest said.single = said.none
-rising-rest (said.more h r) = r
+rising-rest table.single = table.none
+rising-rest (table.more h r) = r
 
 rising-above : (a : ℕ) (l : List ℕ) → Rising (a ∷ l) → (b : ℕ) → List·Memᴰ b l → a < b
 rising-above a [] r b m = absurd (List·Memᴰ·not-nil m)
-rising-above a (c ∷ l) (said.more h r) b m = ⊎-elim (λ e. omega arith) (λ q. let k = rising-above c l r b q in omega arith) (List·Memᴰ·cases-cons m)
+rising-above a (c ∷ l) (table.more h r) b m = ⊎-elim (λ e. omega arith) (λ q. let k = rising-above c l r b q in omega arith) (List·Memᴰ·cases-cons m)
 
 rising-one : (l k : List ℕ) → Rising l → Rising k → ((b : ℕ) → List·Memᴰ b l → List·Memᴰ b k) → ((b : ℕ) → List·Memᴰ b k → List·Memᴰ b l) → l ≡ k
 rising-one [] [] r q f g = refl

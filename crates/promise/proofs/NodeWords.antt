@@ -11,17 +11,17 @@ use borrow.Author.Tests.{leb-true, le-leb}
 use lib.ListN.{length, take, drop, length-append, length-drop, take-append-drop}
 use lib.Seq.{take-append-seam, drop-append-seam, length-take-le, take-all}
 use Rattle.meaning.specs.Programs.{Item, Prog, Branches, one, jump, range, alt, end, _▹_, stop, or}
-use Rattle.meaning.specs.Words.{fieldSize, Shape, item, opens, mark, wrong, shape, proper, plain, plainProg, plainWords, soundWords, soundBranches, branches, prog, branchesOf, sound, Sound, SoundBranches}
+use Rattle.meaning.specs.Words.{fieldSize, Shape, item, opens, mark, wrong, shape, proper, isFlat, flatProg, flatWords, soundWords, soundBranches, branches, prog, branchesOf, sound, Sound, SoundBranches}
 use Rattle.meaning.proofs.WordLaws.{drop-le, prog-nil, prog-item, prog-opens, branches-mark}
-use Rattle.meaning.proofs.SoundLaws.{Marked, and-left, and-right, and-both, false-true, sound-proper, branch-proper, sound-item, sound-opens, sound-mark, sound-wrong, sound-branch, branch-shape, make-item, make-opens, make-branch, make-plain, plain-item, plain-nil}
+use Rattle.meaning.proofs.SoundLaws.{Marked, and-left, and-right, and-both, false-true, sound-proper, branch-proper, sound-item, sound-opens, sound-mark, sound-wrong, sound-branch, branch-shape, make-item, make-opens, make-branch, make-flat, flat-item, flat-nil}
 use Rattle.promise.specs.NodeWords.{word, Flats, no-node, a-node, Branched, last, more, Nodes, nothing, flat, kind-4, kind-6, SoundWords}
-use Rattle.promise.proofs.WordTests.{OfItem, of-item, of-opens, of-mark, flat-of, ordered, opens-some, range-word, mark-word, opens-word, flat-tested, flat-plain, range-tested, mark-tested, opens-tested}
+use Rattle.promise.proofs.WordTests.{OfItem, of-item, of-opens, of-mark, flat-of, ordered, opens-some, range-word, mark-word, opens-word, flat-tested, flat-is, range-tested, mark-tested, opens-tested}
 
 -- what listed words compute to
 record Computes (ws : List ℕ) (p : Prog) : Type 0 where
   sounds : Sound ws
   says : prog ws ≡ p
-  plainly : plainProg p ≡ true → plainWords ws ≡ true
+  plainly : flatProg p ≡ true → flatWords ws ≡ true
 
 record ComputesIn (bs : List ℕ) (b : Branches) : Type 0 where
   sounds : SoundBranches bs
@@ -29,18 +29,18 @@ record ComputesIn (bs : List ℕ) (b : Branches) : Type 0 where
 
 nothing-computes : Computes [] end
 unfolding soundWords
-nothing-computes = record { sounds = refl; says = prog-nil; plainly = λ h. plain-nil }
+nothing-computes = record { sounds = refl; says = prog-nil; plainly = λ h. flat-nil }
 
 node-computes : (w : ℕ) (ws : List ℕ) (i : Item) (p : Prog) → proper w ≡ true → shape w ≡ item i → Computes ws p → Computes (w ∷ ws) (i ▹ p)
-unfolding plainProg
+unfolding flatProg
 node-computes w ws i p h e q = record {
   sounds = make-item w ws e h (q .sounds);
   says = prog-item w ws i e ∙ ap (λ (r : Prog). i ▹ r) (q .says);
-  plainly = λ g. make-plain w ws e (and-left (plain i) (plainProg p) g) h (q .plainly (and-right (plain i) (plainProg p) g));
+  plainly = λ g. make-flat w ws e (and-left (isFlat i) (flatProg p) g) h (q .plainly (and-right (isFlat i) (flatProg p) g));
 }
 
 alternation-computes : (w : ℕ) (bs ws : List ℕ) (b : Branches) (p : Prog) → proper w ≡ true → shape w ≡ opens (length bs) → ComputesIn bs b → Computes ws p → Computes (w ∷ (bs ++ ws)) (alt b ▹ p)
-unfolding plainProg plain
+unfolding flatProg isFlat
 alternation-computes w bs ws b p h e q r =
     let t = take-append-seam bs ws in
     let d = drop-append-seam bs ws in
@@ -50,12 +50,12 @@ alternation-computes w bs ws b p h e q r =
       plainly = λ g. false-true g;
     }
 
-branch-computes : (w : ℕ) (ns bs : List ℕ) (p : Prog) (b : Branches) → proper w ≡ true → shape w ≡ mark (length ns) → plainProg p ≡ true → Computes ns p → ComputesIn bs b → ComputesIn (w ∷ (ns ++ bs)) (or p b)
+branch-computes : (w : ℕ) (ns bs : List ℕ) (p : Prog) (b : Branches) → proper w ≡ true → shape w ≡ mark (length ns) → flatProg p ≡ true → Computes ns p → ComputesIn bs b → ComputesIn (w ∷ (ns ++ bs)) (or p b)
 branch-computes w ns bs p b h e g q r =
     let t = take-append-seam ns bs in
     let d = drop-append-seam ns bs in
     record {
-      sounds = make-branch w (ns ++ bs) e h (record { fits = omega (arith, length-append ns bs); inside = ap plainWords t ∙ q .plainly g; after = subst SoundBranches (sym d) (r .sounds) });
+      sounds = make-branch w (ns ++ bs) e h (record { fits = omega (arith, length-append ns bs); inside = ap flatWords t ∙ q .plainly g; after = subst SoundBranches (sym d) (r .sounds) });
       says = branches-mark w (ns ++ bs) (length ns) e ∙ ap₂ (λ (x y : List ℕ). or (prog x) (branchesOf y)) t d ∙ ap₂ or (q .says) (r .says);
     }
 
@@ -63,13 +63,13 @@ stop-computes : ComputesIn [] stop
 unfolding soundBranches branchesOf branches
 stop-computes = record { sounds = refl; says = refl }
 
-last-computes : (w : ℕ) (ns : List ℕ) (p : Prog) → proper w ≡ true → shape w ≡ mark (length ns) → plainProg p ≡ true → Computes ns p → ComputesIn (w ∷ ns) (or p stop)
+last-computes : (w : ℕ) (ns : List ℕ) (p : Prog) → proper w ≡ true → shape w ≡ mark (length ns) → flatProg p ≡ true → Computes ns p → ComputesIn (w ∷ ns) (or p stop)
 last-computes w ns p h e g q = subst (λ (l : List ℕ). ComputesIn (w ∷ l) (or p stop)) (append-nil ns) (branch-computes w ns [] p stop h e g q stop-computes)
 
-flats-plain : {ns : List ℕ} {p : Prog} → Flats ns p → plainProg p ≡ true
-unfolding plainProg
+flats-plain : {ns : List ℕ} {p : Prog} → Flats ns p → flatProg p ≡ true
+unfolding flatProg
 flats-plain no-node = refl
-flats-plain (a-node f q) = and-both (flat-plain f) (flats-plain q)
+flats-plain (a-node f q) = and-both (flat-is f) (flats-plain q)
 
 flats-compute : {ns : List ℕ} {p : Prog} → Flats ns p → Computes ns p
 flats-compute no-node = nothing-computes
@@ -94,10 +94,10 @@ nodes-compute (kind-6 {a = a} {b = b} {bs = bs} {ws = ws} {br = br} {p = p} h g 
     alternation-computes (word 6 a b) bs ws br p (t .proper-word) (t .says) (branched-computes u) (nodes-compute q)
 
 -- what is tested is listed, with the computed program: words of a branch
-flats-listed : (ws : List ℕ) → plainWords ws ≡ true → Flats ws (prog ws)
+flats-listed : (ws : List ℕ) → flatWords ws ≡ true → Flats ws (prog ws)
 flats-listed [] h = subst (Flats []) (sym prog-nil) no-node
 flats-listed (w ∷ ws) h =
-    let q = plain-item w ws h in
+    let q = flat-item w ws h in
     subst (Flats (w ∷ ws)) (sym (prog-item w ws (q .0) (q .1))) (a-node (flat-of w (q .0) (q .4) (q .1) (q .2)) (flats-listed ws (q .3)))
 
 -- a branch and those after it
@@ -136,7 +136,7 @@ branched-listed (suc n) (w ∷ ws) l h j =
 
 -- an item of one word
 node-listed : (w : ℕ) (ws : List ℕ) (i : Item) (p : Prog) → proper w ≡ true → shape w ≡ item i → Nodes ws p → Nodes (w ∷ ws) (i ▹ p)
-unfolding plain OfItem
+unfolding isFlat OfItem
 node-listed w ws (one t) p h e q = flat (flat-of w (one t) h e refl) q
 node-listed w ws (jump n) p h e q = flat (flat-of w (jump n) h e refl) q
 node-listed w ws (range a b) p h e q =

@@ -15,15 +15,15 @@ use Rattle.reading.proofs.SpelledValues.{accepted-spelled}
 use Rattle.grammar.specs.Grammar.{Derives}
 use Rattle.grammar.proofs.Derivable.{derived-accepted}
 use Rattle.picking.specs.Literals.{isByte, isPlain, literals, lengthIn, listableOf, listable, listableIn}
-use Rattle.picking.specs.Runs.{isAlternatives, closes, plainInside, plain, runs, isLiteral, joins, partBefore, parts, slice, slices}
-use Rattle.picking.specs.Choice.{least, chosen, widened, bytesOf}
+use Rattle.picking.specs.Runs.{isAlternatives, closes, plainInside, plainAlternatives, runs, isLiteral, joinsPart, partBefore, parts, slice, slices}
+use Rattle.picking.specs.Candidates.{least, chosen, widened, bytesOf}
 use Rattle.picking.proofs.KeepLaws.{Every, every-at}
 use Rattle.picking.proofs.FactorLaws.{Open, run-parts, run-slices}
 use Rattle.picking.proofs.ChosenLaws.{open-listable}
 use Rattle.picking.proofs.ShortestLaws.{shortest-reached, Able, able-left, able-right, able-within, runs-able, chosen-able}
 use Rattle.promise.specs.Literals.{Least}
 use Rattle.promise.specs.Parts.{OnlyBytes, Part, TokenOf, TokenIn, MembersTaken}
-use Rattle.promise.specs.Parts as said
+use Rattle.promise.specs.Parts as table
 use Rattle.promise.specs.Winners.{WinsRun}
 use Rattle.promise.proofs.Literals.{is-byte, is-plain, bytes-literal, some-least, taken-members}
 use Rattle.promise.proofs.Lengths.{shortest-length}
@@ -32,11 +32,11 @@ use Rattle.promise.proofs.Winners.{run-wins}
 -- ---- what a part is
 
 class-part : (t : Token) → isPlain t ≡ true → isByte t ≡ false → Part (t then nothing)
-class-part t h e = said.class (is-plain t .0 h) (λ v g. false-true (sym e ∙ is-byte t .1 (v, g)))
+class-part t h e = table.class (is-plain t .0 h) (λ v g. false-true (sym e ∙ is-byte t .1 (v, g)))
 
 one-part : (t : Token) → closes t ≡ false → plainInside t ≡ true → Part (t then nothing)
 unfolding isByte isPlain isAlternatives plainInside
-one-part (Byte v) o h = said.literal said.none
+one-part (Byte v) o h = table.literal table.none
 one-part (NotByte v) o h = class-part (NotByte v) refl refl
 one-part (MaskedByte v left) o h = class-part (MaskedByte v left) refl refl
 one-part (MaskedByte v right) o h = class-part (MaskedByte v right) refl refl
@@ -45,37 +45,37 @@ one-part (NotMaskedByte v left) o h = class-part (NotMaskedByte v left) refl ref
 one-part (NotMaskedByte v right) o h = class-part (NotMaskedByte v right) refl refl
 one-part (NotMaskedByte v all) o h = false-true (sym o)
 one-part (Jump from to) o h = false-true (sym o)
-one-part (Alternatives ls) o h = said.alternatives h
+one-part (Alternatives ls) o h = table.alternatives h
 
 -- one that begins with a byte holds only bytes
 literal-bytes : {p : Tokens} → Part p → isLiteral p ≡ true → OnlyBytes p
 unfolding isLiteral isByte
-literal-bytes (said.literal h) e = said.more h
-literal-bytes (said.class {t = t} k f) e = let (v, g) = is-byte t .0 e in absurd (f v g)
-literal-bytes (said.alternatives h) e = false-true e
+literal-bytes (table.literal h) e = table.more h
+literal-bytes (table.class {t = t} k f) e = let (v, g) = is-byte t .0 e in absurd (f v g)
+literal-bytes (table.alternatives h) e = false-true e
 
 bytes-first : {p : Tokens} → Part p → OnlyBytes p → isLiteral p ≡ true
 unfolding isLiteral isByte
-bytes-first (said.literal h) (said.more k) = refl
-bytes-first (said.class k f) (said.more h) = refl
-bytes-first (said.alternatives h) k = elim k [ ]
+bytes-first (table.literal h) (table.more k) = refl
+bytes-first (table.class k f) (table.more h) = refl
+bytes-first (table.alternatives h) k = elim k [ ]
 
 joined-part : (t : Token) (p : Tokens) → isByte t && isLiteral p ≡ true → Part p → Part (t then p)
 joined-part t p h k =
     let (v, e) = is-byte t .0 (and-left (isByte t) _ h) in
-    subst (λ (x : Token). Part (x then p)) (sym e) (said.literal (literal-bytes k (and-right (isByte t) _ h)))
+    subst (λ (x : Token). Part (x then p)) (sym e) (table.literal (literal-bytes k (and-right (isByte t) _ h)))
 
 part-before : (t : Token) (ps : List Tokens) → closes t ≡ false → plainInside t ≡ true → Every Part ps → Every Part (partBefore t ps)
-unfolding partBefore joins Every
+unfolding partBefore joinsPart Every
 part-before t [] o q h = (one-part t o q, tt)
 part-before t (p ∷ ps) o q h = go (isByte t && isLiteral p) refl
   where
-    go : (b : Bool) → isByte t && isLiteral p ≡ b → Every Part (joins b t p ps)
+    go : (b : Bool) → isByte t && isLiteral p ≡ b → Every Part (joinsPart b t p ps)
     go true e = (joined-part t p e (h .0), h .1)
     go false e = (one-part t o q, h)
 
-parts-are : (run : Tokens) → Open run → plain run ≡ true → Every Part (parts run)
-unfolding parts Every Open plain
+parts-are : (run : Tokens) → Open run → plainAlternatives run ≡ true → Every Part (parts run)
+unfolding parts Every Open plainAlternatives
 parts-are nothing o q = tt
 parts-are (t then ts) o q = part-before t (parts ts) (o .0) (and-left (plainInside t) _ q) (parts-are ts (o .1) (and-right (plainInside t) _ q))
 
@@ -97,13 +97,13 @@ mutual
   unfolding listable Spelled
 
   tokens-told : {t : Token} {us : Tokens} → listable us ≡ true → Spelled us → TokenOf t us → MembersTaken t
-  tokens-told {t} k w said.first = token-told t (and-left (listableOf t) _ k) (w .0)
-  tokens-told k w (said.later {u = u} h) = tokens-told (and-right (listableOf u) _ k) (w .1) h
-  tokens-told k w (said.inside {ls = ls} h) = lists-told (and-left (listableIn ls) _ k) (any-spelled ls (w .0)) h
+  tokens-told {t} k w table.first = token-told t (and-left (listableOf t) _ k) (w .0)
+  tokens-told k w (table.later {u = u} h) = tokens-told (and-right (listableOf u) _ k) (w .1) h
+  tokens-told k w (table.inside {ls = ls} h) = lists-told (and-left (listableIn ls) _ k) (any-spelled ls (w .0)) h
 
   lists-told : {t : Token} {ls : Lists} → listableIn ls ≡ true → SpelledMore ls → TokenIn t ls → MembersTaken t
-  lists-told k w (said.this {ts = ts} h) = tokens-told (and-left (listable ts) _ k) (w .0) h
-  lists-told k w (said.other {ts = ts} h) = lists-told (and-right (listable ts) _ k) (w .1) h
+  lists-told k w (table.this {ts = ts} h) = tokens-told (and-left (listable ts) _ k) (w .0) h
+  lists-told k w (table.other {ts = ts} h) = lists-told (and-right (listable ts) _ k) (w .1) h
 
 module _ (us : Tokens) (able : Able us) where
   able-listable : listable us ≡ true
@@ -120,7 +120,7 @@ module _ (us : Tokens) (able : Able us) where
 
 -- ---- the parts, the slices and the winner of a run, in a text whose alternatives are plain
 
-module _ {t : List ℕ} {reached : ℕ} {ts : Tokens} (text : Derives t reached ts) (plainly : plain ts ≡ true) {run : Tokens} (among : List·Memᴰ run (runs ts)) where
+module _ {t : List ℕ} {reached : ℕ} {ts : Tokens} (text : Derives t reached ts) (plainly : plainAlternatives ts ≡ true) {run : Tokens} (among : List·Memᴰ run (runs ts)) where
   run-able : Able run
   run-able = every-at Able (runs ts) (runs-able ts plainly (accepted-spelled t reached ts (derived-accepted t reached ts text))) among
 

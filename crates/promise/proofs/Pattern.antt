@@ -8,11 +8,11 @@ use lib.Seq.{take-at}
 use Rattle.base.specs.Pools.{filled}
 use Rattle.meaning.specs.Limits.{nodePool}
 use Rattle.meaning.specs.Tokens.{Tokens, Spans}
-use Rattle.reading.specs.Lists.{Outcome, accepted, rejected, reading}
+use Rattle.reading.specs.Lists.{Verdict, accepted, rejected, reading}
 use Rattle.reading.proofs.PieceLaws.{never}
 use Rattle.grammar.proofs.Derivable.{accepted-derived}
 use Rattle.compiling.specs.Compile.{Compiled, compiled, refused, compile}
-use Rattle.compiledoor.specs.Door.{gives, refuses, room, compiledSays, outcomeSays, compiledForward, compiledReverse, outcomeForward, outcomeReverse, compileSays, forwardLeaves, reverseLeaves}
+use Rattle.compiledoor.specs.Door.{gives, refuses, room, compiledSays, verdictSays, compiledForward, compiledReverse, verdictForward, verdictReverse, compileSays, forwardLeaves, reverseLeaves}
 use Rattle.compiledoor.proofs.Promises as promised
 use Rattle.promise.specs.Pattern.{ForwardDoor, ReverseDoor, PatternForward, PatternReverse}
 use Rattle.promise.proofs.Answers.{forward-door, reverse-door}
@@ -45,8 +45,8 @@ module _ (t p q : List ℕ) (reached n m : ℕ) where
   }
   of-compiled e ts (refused z) a b g x y = never (cc)
 
-  of-outcome : (o : Outcome) → reading t ≡ o → outcomeSays o ≡ gives reached n m → take n (forwardLeaves t p q) ≡ take n (outcomeForward o p) → take m (reverseLeaves t p q) ≡ take m (outcomeReverse o q) → Compiles t p q reached n m
-  unfolding outcomeSays outcomeForward outcomeReverse
+  of-outcome : (o : Verdict) → reading t ≡ o → verdictSays o ≡ gives reached n m → take n (forwardLeaves t p q) ≡ take n (verdictForward o p) → take m (reverseLeaves t p q) ≡ take m (verdictReverse o q) → Compiles t p q reached n m
+  unfolding verdictSays verdictForward verdictReverse
   of-outcome (accepted e ts) a g x y = of-compiled e ts (compile ts) a refl g x y
   of-outcome (rejected z k) a g x y = never (cc)
 
@@ -56,11 +56,11 @@ module _ (t p q : List ℕ) (reached n m : ℕ) where
     where
       go : (b : Bool) → room p q ≡ b → Compiles t p q reached n m
       go true h =
-          of-outcome (reading t) refl (sym (ap (λ (b : Bool). cond b (outcomeSays (reading t)) (refuses 18 0)) h) ∙ g)
-          (ap (λ (b : Bool). take n (cond b (outcomeForward (reading t) p) p)) h)
-          (ap (λ (b : Bool). take m (cond b (outcomeReverse (reading t) q) q)) h)
+          of-outcome (reading t) refl (sym (ap (λ (b : Bool). cond b (verdictSays (reading t)) (refuses 18 0)) h) ∙ g)
+          (ap (λ (b : Bool). take n (cond b (verdictForward (reading t) p) p)) h)
+          (ap (λ (b : Bool). take m (cond b (verdictReverse (reading t) q) q)) h)
       go false h =
-          let z : refuses 18 0 ≡ gives reached n m = sym (ap (λ (b : Bool). cond b (outcomeSays (reading t)) (refuses 18 0)) h) ∙ g in
+          let z : refuses 18 0 ≡ gives reached n m = sym (ap (λ (b : Bool). cond b (verdictSays (reading t)) (refuses 18 0)) h) ∙ g in
           never (cc)
 
   -- The text t is read up to the offset reached and compiles to n forward and m reverse words, which the pools then hold in front.

@@ -10,12 +10,12 @@ use borrow.Author.Tests.{leb-true}
 use Rattle.base.specs.declared.Refusal.the-variants.{NotPlain}
 use Rattle.meaning.specs.Tokens.{Tokens}
 use Rattle.meaning.proofs.SoundLaws.{and-left, and-right}
-use Rattle.reading.specs.Lists.{Outcome, accepted, rejected, reading}
+use Rattle.reading.specs.Lists.{Verdict, accepted, rejected, reading}
 use Rattle.grammar.specs.Grammar.{Derives}
 use Rattle.grammar.proofs.Derivable.{accepted-derived, derived-accepted}
 use Rattle.grammar.proofs.FaultLaws.{fault-exactly}
-use Rattle.picking.specs.Runs.{plain}
-use Rattle.picking.specs.Choice.{Choice, unranked, chosen, tooMany, choice, Picked, picked, unpicked, taking, pick}
+use Rattle.picking.specs.Runs.{plainAlternatives}
+use Rattle.picking.specs.Candidates.{Candidate, unranked, chosen, tooMany, inPattern, Picked, picked, unpicked, taking, pick}
 use Rattle.generator.specs.declared.Wrote.the-variants.{All, NoRoom}
 use Rattle.generator.specs.Output as output
 use Rattle.generator.proofs.OutputLaws.{all-fit, too-short}
@@ -23,32 +23,32 @@ use Rattle.literaldoor.specs.Door as literaldoor
 use Rattle.literaldoor.proofs.DoorLaws.{all-written, none-written, text-refused, Door}
 use Rattle.promise.specs.Winners.{Wins}
 use Rattle.promise.specs.Picks.{Yields, Picks}
-use Rattle.promise.specs.Picks as said
-use Rattle.promise.proofs.Winners.{choice-wins}
+use Rattle.promise.specs.Picks as table
+use Rattle.promise.proofs.Winners.{pattern-wins}
 use Rattle.promise.proofs.Outcomes.{short-some}
 
 -- ---- tokens
 
 picked-yields : (ts : Tokens) → Yields ts (pick ts)
 unfolding pick taking
-picked-yields ts = go (plain ts) refl (choice ts) refl
+picked-yields ts = go (plainAlternatives ts) refl (inPattern ts) refl
   where
-    go : (b : Bool) → plain ts ≡ b → (c : Choice) → choice ts ≡ c → Yields ts (cond b (taking c) (unpicked NotPlain))
-    go true h unranked e = said.none-ranked h (choice-wins ts unranked .0 e)
-    go true h (chosen n us) e = said.winner h (choice-wins ts (chosen n us) .0 e)
-    go true h tooMany e = said.too-many h (choice-wins ts tooMany .0 e)
-    go false h c e = said.not-plain h
+    go : (b : Bool) → plainAlternatives ts ≡ b → (c : Candidate) → inPattern ts ≡ c → Yields ts (cond b (taking c) (unpicked NotPlain))
+    go true h unranked e = table.none-ranked h (pattern-wins ts unranked .0 e)
+    go true h (chosen n us) e = table.winner h (pattern-wins ts (chosen n us) .0 e)
+    go true h tooMany e = table.too-many h (pattern-wins ts tooMany .0 e)
+    go false h c e = table.not-plain h
 
-pick-taking : (ts : Tokens) (c : Choice) → plain ts ≡ true → Wins ts c → pick ts ≡ taking c
+pick-taking : (ts : Tokens) (c : Candidate) → plainAlternatives ts ≡ true → Wins ts c → pick ts ≡ taking c
 unfolding pick
-pick-taking ts c h w = ap (λ (b : Bool). cond b (taking (choice ts)) (unpicked NotPlain)) h ∙ ap taking (choice-wins ts c .1 w)
+pick-taking ts c h w = ap (λ (b : Bool). cond b (taking (inPattern ts)) (unpicked NotPlain)) h ∙ ap taking (pattern-wins ts c .1 w)
 
 yields-picked : {ts : Tokens} {p : Picked} → Yields ts p → pick ts ≡ p
 unfolding pick taking
-yields-picked {ts} (said.not-plain h) = ap (λ (b : Bool). cond b (taking (choice ts)) (unpicked NotPlain)) h
-yields-picked {ts} (said.too-many h w) = pick-taking ts tooMany h w
-yields-picked {ts} (said.none-ranked h w) = pick-taking ts unranked h w
-yields-picked {ts} (said.winner {rank = n} {us = us} h w) = pick-taking ts (chosen n us) h w
+yields-picked {ts} (table.not-plain h) = ap (λ (b : Bool). cond b (taking (inPattern ts)) (unpicked NotPlain)) h
+yields-picked {ts} (table.too-many h w) = pick-taking ts tooMany h w
+yields-picked {ts} (table.none-ranked h w) = pick-taking ts unranked h w
+yields-picked {ts} (table.winner {rank = n} {us = us} h w) = pick-taking ts (chosen n us) h w
 
 pub yields : (ts : Tokens) (p : Picked) → (pick ts ≡ p) ↔ Yields ts p
 yields ts p = (λ e. subst (λ (x : Picked). Yields ts x) e (picked-yields ts), λ y. yields-picked y)
@@ -68,32 +68,32 @@ module _ (ls : List (List ℕ)) (b l : List ℕ) where
   one-short h = short-some (length ls) (length l) (length (flatten ls)) (length b) h
 
 pub picks : (t b l : List ℕ) → Picks t b l (literaldoor.literalsSays t b l) (literaldoor.bytesLeft t b l) (literaldoor.lengthsLeft t b l)
-unfolding literaldoor.outcomeSays literaldoor.outcomeBytes literaldoor.outcomeLengths literaldoor.pickedSays literaldoor.pickedBytes literaldoor.pickedLengths output.bytesLeft output.lengthsLeft
+unfolding literaldoor.verdictSays literaldoor.verdictBytes literaldoor.verdictLengths literaldoor.pickedSays literaldoor.pickedBytes literaldoor.pickedLengths output.bytesLeft output.lengthsLeft
 picks t b l = go (reading t) refl
   where
     by-room : (e n : ℕ) (ts : Tokens) (ls : List (List ℕ)) → Derives t e ts → Yields ts (picked n ls) → (f : Bool) → output.fits ls b l ≡ f → Picks t b l (cond f (literaldoor.gives e (length ls) n) (literaldoor.refuses 18 0)) (cond f (output.over (flatten ls) b) b) (cond f (output.over (map length ls) l) l)
-    by-room e n ts ls d y true h = let (lengths, bytes) = both-fit ls b l h in said.handed d y lengths bytes
-    by-room e n ts ls d y false h = said.no-room d y (one-short ls b l h)
+    by-room e n ts ls d y true h = let (lengths, bytes) = both-fit ls b l h in table.handed d y lengths bytes
+    by-room e n ts ls d y false h = table.no-room d y (one-short ls b l h)
 
     by-tokens : (e : ℕ) (ts : Tokens) → Derives t e ts → (p : Picked) → Yields ts p → Picks t b l (literaldoor.pickedSays e p b l) (literaldoor.pickedBytes p b l) (literaldoor.pickedLengths p b l)
     by-tokens e ts d (picked n ls) y = by-room e n ts ls d y (output.fits ls b l) refl
-    by-tokens e ts d (unpicked x) y = said.refused d y
+    by-tokens e ts d (unpicked x) y = table.refused d y
 
-    go : (o : Outcome) → reading t ≡ o → Picks t b l (literaldoor.outcomeSays o b l) (literaldoor.outcomeBytes o b l) (literaldoor.outcomeLengths o b l)
+    go : (o : Verdict) → reading t ≡ o → Picks t b l (literaldoor.verdictSays o b l) (literaldoor.verdictBytes o b l) (literaldoor.verdictLengths o b l)
     go (accepted e ts) g = by-tokens e ts (accepted-derived t e ts g) (pick ts) (picked-yields ts)
-    go (rejected x k) g = said.rejected (fault-exactly t x k .0 g)
+    go (rejected x k) g = table.rejected (fault-exactly t x k .0 g)
 
 -- from what is said of a pick
-by-pick : {t u v : List ℕ} {s : literaldoor.Said} {e : ℕ} {ts : Tokens} {p : Picked} (b l : List ℕ) → Derives t e ts → Yields ts p → literaldoor.Picks e p s b l u v → Door t s b l u v
-unfolding literaldoor.outcomeSays literaldoor.outcomeBytes literaldoor.outcomeLengths
-by-pick {t} {u} {v} {s} {e} {ts} b l d y h = rw (derived-accepted t e ts d) (subst (λ (x : Picked). literaldoor.Picks e x s b l u v) (sym (yields-picked y)) h)
+by-pick : {t u v : List ℕ} {s : literaldoor.LiteralsSaid} {e : ℕ} {ts : Tokens} {p : Picked} (b l : List ℕ) → Derives t e ts → Yields ts p → literaldoor.HandsOut e p s b l u v → Door t s b l u v
+unfolding literaldoor.verdictSays literaldoor.verdictBytes literaldoor.verdictLengths
+by-pick {t} {u} {v} {s} {e} {ts} b l d y h = rw (derived-accepted t e ts d) (subst (λ (x : Picked). literaldoor.HandsOut e x s b l u v) (sym (yields-picked y)) h)
 
-pub picks-one : {t b l : List ℕ} {s : literaldoor.Said} {u v : List ℕ} → Picks t b l s u v → (s ≡ literaldoor.literalsSays t b l) × (u ≡ literaldoor.bytesLeft t b l) × (v ≡ literaldoor.lengthsLeft t b l)
+pub picks-one : {t b l : List ℕ} {s : literaldoor.LiteralsSaid} {u v : List ℕ} → Picks t b l s u v → (s ≡ literaldoor.literalsSays t b l) × (u ≡ literaldoor.bytesLeft t b l) × (v ≡ literaldoor.lengthsLeft t b l)
 unfolding literaldoor.pickedSays literaldoor.pickedBytes literaldoor.pickedLengths
-picks-one {t} {b} {l} (said.rejected {x = x} {place = k} e) = text-refused t x k b l (fault-exactly t x k .1 e)
-picks-one {b = b} {l} (said.refused d y) = by-pick b l d y (refl, refl, refl)
-picks-one {b = b} {l} (said.no-room {reached = e} {rank = n} {ls = ls} d y h) = by-pick b l d y (none-written e ls n NoRoom b l b l (too-short ls b l h) refl)
-picks-one {b = b} {l} (said.handed {reached = e} {rank = n} {ls = ls} d y h g) =
+picks-one {t} {b} {l} (table.rejected {x = x} {place = k} e) = text-refused t x k b l (fault-exactly t x k .1 e)
+picks-one {b = b} {l} (table.refused d y) = by-pick b l d y (refl, refl, refl)
+picks-one {b = b} {l} (table.no-room {reached = e} {rank = n} {ls = ls} d y h) = by-pick b l d y (none-written e ls n NoRoom b l b l (too-short ls b l h) refl)
+picks-one {b = b} {l} (table.handed {reached = e} {rank = n} {ls = ls} d y h g) =
     let bytes = output.over (flatten ls) b in
     let lengths = output.over (map length ls) l in
     by-pick b l d y

@@ -15,7 +15,7 @@ use Rattle.meaning.proofs.JoinLaws.{prog-append, append-span, span-append}
 use Rattle.meaning.proofs.WordSpans.{sound-length, sound-words, join-sound, mirrored-sound, mirrored-span, span-mirrored}
 use Rattle.mirror.specs.MirrorDoor.{mirrored, mirrorSays, mirrorLeaves}
 use Rattle.promise.specs.NodeWords.{Nodes, SoundWords}
-use Rattle.promise.specs.Programs.{Joined, Joins, MirrorOf}
+use Rattle.promise.specs.Programs.{Joined, Joins, IsMirror}
 use Rattle.promise.proofs.NodeWords.{sound-listed, program-listed, sound-says}
 use Rattle.promise.proofs.OneWording.{mirror-wording}
 use Rattle.promise.proofs.Answers.{forward-door, reverse-door}
@@ -51,7 +51,7 @@ module _ (ws : List ℕ) (h : sound ws ≡ true) where
     λ s. span-mirrored ws h (reverse x) (subst (Span (prog (mirrorWords ws))) (sym (reverse-reverse x)) s),
   )
 
-  mirror-of : MirrorOf (prog ws) (mirrorWords ws)
+  mirror-of : IsMirror (prog ws) (mirrorWords ws)
   mirror-of =
       let k = mirrored-sound ws h in
       record {
@@ -75,11 +75,11 @@ module _ (ws : List ℕ) (h : sound ws ≡ true) where
 
 -- The mirror's door, asked with sound words and lent a pool with room (with none it refuses by 18), never refuses: the words that it says it wrote
 -- are the mirror, and the reverse door, asked with them, answers for the program's own spans, the forward door for these read from their other side.
-pub mirror-answers : {ws : List ℕ} (a : SoundWords ws) (pool : List ℕ) → nodePool ≤ length pool → (n : ℕ) × (mirrorSays ws pool ≡ mirrored n) × MirrorOf (a .program) (take n (mirrorLeaves ws pool))
+pub mirror-answers : {ws : List ℕ} (a : SoundWords ws) (pool : List ℕ) → nodePool ≤ length pool → (n : ℕ) × (mirrorSays ws pool ≡ mirrored n) × IsMirror (a .program) (take n (mirrorLeaves ws pool))
 mirror-answers {ws} a pool room =
     let h = sound-listed ws .1 a in (
       length (mirrorWords ws),
       door-says ws h pool room,
-      subst (λ (p : Prog). MirrorOf p (take (length (mirrorWords ws)) (mirrorLeaves ws pool))) (program-listed (a .nodes))
-          (subst (MirrorOf (prog ws)) (sym (door-leaves ws h pool room)) (mirror-of ws h)),
+      subst (λ (p : Prog). IsMirror p (take (length (mirrorWords ws)) (mirrorLeaves ws pool))) (program-listed (a .nodes))
+          (subst (IsMirror (prog ws)) (sym (door-leaves ws h pool room)) (mirror-of ws h)),
     )

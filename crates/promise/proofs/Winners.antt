@@ -15,11 +15,11 @@ use Rattle.atoms.specs.Score.{literalScore}
 use Rattle.reading.proofs.PieceLaws.{never}
 use Rattle.picking.specs.Literals.{literals, combinations}
 use Rattle.picking.specs.Runs.{runs, parts, isLiteral, Slice, slice, slices}
-use Rattle.picking.specs.Choice.{least, Ranked, ranked, skipped, excessive, rankValue, counted, combined, rank, Choice, unranked, chosen, tooMany, widened, against, rankOf, best, bytesOf, strong, aloneOr, inRun, beats, between, among, choice}
+use Rattle.picking.specs.Candidates.{least, Ranked, ranked, skipped, excessive, rankValue, counted, combined, rank, Candidate, unranked, chosen, tooMany, widened, against, rankOf, best, bytesOf, strong, aloneOr, inRun, beats, between, amongRuns, inPattern}
 use Rattle.picking.proofs.RefusalLaws.{excessive-is}
 use Rattle.promise.proofs.Best.{against-next, best-from, Ranking, Ordered, best-is}
 use Rattle.promise.specs.Winners.{Offers, Each, Higher, Better, Best, Strong, NoneStrong, WinsRun, Wins}
-use Rattle.promise.specs.Winners as said
+use Rattle.promise.specs.Winners as table
 
 -- ---- the two relations
 
@@ -30,14 +30,14 @@ rank-over n us m ts = ltb m n
 abbrev RankOver : ℕ → Tokens → ℕ → Tokens → Type 0
 RankOver n us m ts = m < n
 
-higher-told : {c d : Choice} → Higher c d → Ranking RankOver c d
-higher-told (said.above h) = h
-higher-told said.over-none = tt
+higher-told : {c d : Candidate} → Higher c d → Ranking RankOver c d
+higher-told (table.above h) = h
+higher-told table.over-none = tt
 
-higher-shown : (c d : Choice) → Ranking RankOver c d → Higher c d
+higher-shown : (c d : Candidate) → Ranking RankOver c d → Higher c d
 higher-shown unranked d h = absurd h
-higher-shown (chosen n us) unranked h = said.over-none
-higher-shown (chosen n us) (chosen m ts) h = said.above h
+higher-shown (chosen n us) unranked h = table.over-none
+higher-shown (chosen n us) (chosen m ts) h = table.above h
 higher-shown (chosen n us) tooMany h = absurd h
 higher-shown tooMany d h = absurd h
 
@@ -58,16 +58,16 @@ shortest ts = least length (literals ts)
 abbrev LengthOver : ℕ → Tokens → ℕ → Tokens → Type 0
 LengthOver n us m ts = (m < n) ⊎ ((m ≡ n) × (shortest ts < shortest us))
 
-better-told : {c d : Choice} → Better c d → Ranking LengthOver c d
-better-told (said.higher (said.above h)) = inl h
-better-told (said.higher said.over-none) = tt
-better-told (said.longer h) = inr (refl, h)
+better-told : {c d : Candidate} → Better c d → Ranking LengthOver c d
+better-told (table.higher (table.above h)) = inl h
+better-told (table.higher table.over-none) = tt
+better-told (table.longer h) = inr (refl, h)
 
-better-shown : (c d : Choice) → Ranking LengthOver c d → Better c d
+better-shown : (c d : Candidate) → Ranking LengthOver c d → Better c d
 better-shown unranked d h = absurd h
-better-shown (chosen n us) unranked h = said.higher said.over-none
-better-shown (chosen n us) (chosen m ts) (inl h) = said.higher (said.above h)
-better-shown (chosen n us) (chosen m ts) (inr (e, h)) = subst (λ (k : ℕ). Better (chosen n us) (chosen k ts)) (sym e) (said.longer h)
+better-shown (chosen n us) unranked h = table.higher table.over-none
+better-shown (chosen n us) (chosen m ts) (inl h) = table.higher (table.above h)
+better-shown (chosen n us) (chosen m ts) (inr (e, h)) = subst (λ (k : ℕ). Better (chosen n us) (chosen k ts)) (sym e) (table.longer h)
 better-shown (chosen n us) tooMany h = absurd h
 better-shown tooMany d h = absurd h
 
@@ -125,23 +125,23 @@ better-ordered = record {
 
 -- ---- what each of some things offers
 
-module _ {A : Type 0} (Offer : A → Choice → Type 0) (of : A → Choice) where
+module _ {A : Type 0} (Offer : A → Candidate → Type 0) (of : A → Candidate) where
   each-shown : ((x : A) → Offer x (of x)) → (xs : List A) → Each Offer xs (map of xs)
-  each-shown f [] = said.end
-  each-shown f (x ∷ xs) = said.next (f x) (each-shown f xs)
+  each-shown f [] = table.end
+  each-shown f (x ∷ xs) = table.next (f x) (each-shown f xs)
 
-  each-told : ((x : A) (c : Choice) → Offer x c → of x ≡ c) → {xs : List A} {cs : List Choice} → Each Offer xs cs → map of xs ≡ cs
-  each-told f said.end = refl
-  each-told f (said.next {x = x} {c = c} h k) = ap₂ (λ (d : Choice) (ds : List Choice). d ∷ ds) (f x c h) (each-told f k)
+  each-told : ((x : A) (c : Candidate) → Offer x c → of x ≡ c) → {xs : List A} {cs : List Candidate} → Each Offer xs cs → map of xs ≡ cs
+  each-told f table.end = refl
+  each-told f (table.next {x = x} {c = c} h k) = ap₂ (λ (d : Candidate) (ds : List Candidate). d ∷ ds) (f x c h) (each-told f k)
 
 -- ---- slices
 
-abbrev offered : Slice → Ranked → Choice
+abbrev offered : Slice → Ranked → Candidate
 offered s (ranked n) = chosen n (widened s)
 offered s skipped = unranked
 offered s excessive = tooMany
 
-abbrev offer : Slice → Choice
+abbrev offer : Slice → Candidate
 offer s = offered s (rankOf s)
 
 rank-skips : (ts : Tokens) → combinationLimit < combinations ts → rank ts ≡ skipped
@@ -160,23 +160,23 @@ offers-shown (slice prior own next) = go (ltb combinationLimit (combinations own
     by r e h = subst (λ (x : Ranked). Offers (slice prior own next) (offered (slice prior own next) x)) (sym e) h
 
     go : (a b : Bool) → ltb combinationLimit (combinations own) ≡ a → ltb literalLimit (length (literals own)) ≡ b → Offers (slice prior own next) (offered (slice prior own next) (rank own))
-    go true b e f = let h = ltb-true combinationLimit (combinations own) e in by skipped (rank-skips own h) (said.skipped h)
+    go true b e f = let h = ltb-true combinationLimit (combinations own) e in by skipped (rank-skips own h) (table.skipped h)
     go false true e f =
         let h = ltb-false combinationLimit (combinations own) e in
         let g = ltb-true literalLimit (length (literals own)) f in
-        by excessive (excessive-is own .1 (h, g)) (said.exceeds h g)
+        by excessive (excessive-is own .1 (h, g)) (table.exceeds h g)
     go false false e f =
         let h = ltb-false combinationLimit (combinations own) e in
         let g = ltb-false literalLimit (length (literals own)) f in
-        by (ranked (rankValue own)) (rank-ranks own h g) (said.ranks h g)
+        by (ranked (rankValue own)) (rank-ranks own h g) (table.ranks h g)
 
-offers-told : {s : Slice} {c : Choice} → Offers s c → offer s ≡ c
+offers-told : {s : Slice} {c : Candidate} → Offers s c → offer s ≡ c
 unfolding rankOf widened
-offers-told (said.ranks {prior = prior} {own = own} {next = next} h g) = ap (offered (slice prior own next)) (rank-ranks own h g)
-offers-told (said.skipped {prior = prior} {own = own} {next = next} h) = ap (offered (slice prior own next)) (rank-skips own h)
-offers-told (said.exceeds {prior = prior} {own = own} {next = next} h g) = ap (offered (slice prior own next)) (excessive-is own .1 (h, g))
+offers-told (table.ranks {prior = prior} {own = own} {next = next} h g) = ap (offered (slice prior own next)) (rank-ranks own h g)
+offers-told (table.skipped {prior = prior} {own = own} {next = next} h) = ap (offered (slice prior own next)) (rank-skips own h)
+offers-told (table.exceeds {prior = prior} {own = own} {next = next} h g) = ap (offered (slice prior own next)) (excessive-is own .1 (h, g))
 
-against-offered : (c : Choice) (s : Slice) (r : Ranked) → against c s r ≡ against-next rank-over c (offered s r)
+against-offered : (c : Candidate) (s : Slice) (r : Ranked) → against c s r ≡ against-next rank-over c (offered s r)
 unfolding against
 against-offered unranked s (ranked n) = refl
 against-offered unranked s skipped = refl
@@ -186,16 +186,16 @@ against-offered (chosen m ts) s skipped = refl
 against-offered (chosen m ts) s excessive = refl
 against-offered tooMany s r = refl
 
-best-offered : (ss : List Slice) (c : Choice) → best c ss ≡ best-from rank-over c (map offer ss)
+best-offered : (ss : List Slice) (c : Candidate) → best c ss ≡ best-from rank-over c (map offer ss)
 unfolding best
 best-offered [] c = refl
-best-offered (s ∷ ss) c = best-offered ss (against c s (rankOf s)) ∙ ap (λ (d : Choice). best-from rank-over d (map offer ss)) (against-offered c s (rankOf s))
+best-offered (s ∷ ss) c = best-offered ss (against c s (rankOf s)) ∙ ap (λ (d : Candidate). best-from rank-over d (map offer ss)) (against-offered c s (rankOf s))
 
 -- the best of slices
-slices-best : (ss : List Slice) → (cs : List Choice) × Each Offers ss cs × Best Higher cs (best unranked ss)
+slices-best : (ss : List Slice) → (cs : List Candidate) × Each Offers ss cs × Best Higher cs (best unranked ss)
 slices-best ss = (map offer ss, each-shown Offers offer offers-shown ss, best-is Higher RankOver rank-over higher-ordered (map offer ss) (best unranked ss) .0 (sym (best-offered ss unranked)))
 
-best-slices : (ss : List Slice) (cs : List Choice) (c : Choice) → Each Offers ss cs → Best Higher cs c → best unranked ss ≡ c
+best-slices : (ss : List Slice) (cs : List Candidate) (c : Candidate) → Each Offers ss cs → Best Higher cs c → best unranked ss ≡ c
 best-slices ss cs c h b =
     best-offered ss unranked ∙ ap (best-from rank-over unranked) (each-told Offers offer (λ s d k. offers-told k) h) ∙ best-is Higher RankOver rank-over higher-ordered cs c .1 b
 
@@ -262,19 +262,19 @@ unfolding inRun aloneOr
 run-shown run = go (strong (parts run)) (sought (parts run))
   where
     go : (r : Option Tokens) → Sought (parts run) r → WinsRun run (aloneOr r (best unranked (slices (parts run) nothing)))
-    go (some p) (a, b, e, w, h) = said.alone a b e w h
-    go none w = let (cs, h, b) = slices-best (slices (parts run) nothing) in said.a-slice w h b
+    go (some p) (a, b, e, w, h) = table.alone a b e w h
+    go none w = let (cs, h, b) = slices-best (slices (parts run) nothing) in table.a-slice w h b
 
-run-told : (run : Tokens) {c : Choice} → WinsRun run c → inRun run ≡ c
+run-told : (run : Tokens) {c : Candidate} → WinsRun run c → inRun run ≡ c
 unfolding inRun aloneOr
-run-told run (said.alone {p = p} a b e w h) = rw (ap strong e ∙ strong-found a b p w h)
-run-told run (said.a-slice {c = c} {cs = cs} w h b) = rw (strong-missing (parts run) w) (best-slices (slices (parts run) nothing) cs c h b)
+run-told run (table.alone {p = p} a b e w h) = rw (ap strong e ∙ strong-found a b p w h)
+run-told run (table.a-slice {c = c} {cs = cs} w h b) = rw (strong-missing (parts run) w) (best-slices (slices (parts run) nothing) cs c h b)
 
 -- what is chosen in a run is what wins there
-pub run-wins : (run : Tokens) (c : Choice) → (inRun run ≡ c) ↔ WinsRun run c
+pub run-wins : (run : Tokens) (c : Candidate) → (inRun run ≡ c) ↔ WinsRun run c
 run-wins run c = (λ e. subst (WinsRun run) e (run-shown run), λ w. run-told run w)
 
-between-next : (c d : Choice) → between c d ≡ against-next beats c d
+between-next : (c d : Candidate) → between c d ≡ against-next beats c d
 unfolding between
 between-next unranked d = refl
 between-next (chosen m ts) unranked = refl
@@ -282,31 +282,31 @@ between-next (chosen m ts) (chosen n us) = refl
 between-next (chosen m ts) tooMany = refl
 between-next tooMany d = refl
 
-among-next : (rs : List Tokens) (c : Choice) → among c rs ≡ best-from beats c (map inRun rs)
-unfolding among
+among-next : (rs : List Tokens) (c : Candidate) → amongRuns c rs ≡ best-from beats c (map inRun rs)
+unfolding amongRuns
 among-next [] c = refl
-among-next (r ∷ rs) c = among-next rs (between c (inRun r)) ∙ ap (λ (d : Choice). best-from beats d (map inRun rs)) (between-next c (inRun r))
+among-next (r ∷ rs) c = among-next rs (between c (inRun r)) ∙ ap (λ (d : Candidate). best-from beats d (map inRun rs)) (between-next c (inRun r))
 
 -- and what is chosen in all runs is what wins
-pub choice-wins : (ts : Tokens) (c : Choice) → (choice ts ≡ c) ↔ Wins ts c
-unfolding choice
-choice-wins ts c = (to, back)
+pub pattern-wins : (ts : Tokens) (c : Candidate) → (inPattern ts ≡ c) ↔ Wins ts c
+unfolding inPattern
+pattern-wins ts c = (to, back)
   where
-    to : among unranked (runs ts) ≡ c → Wins ts c
-    to e = said.a-run (each-shown WinsRun inRun run-shown (runs ts)) (best-is Better LengthOver beats better-ordered (map inRun (runs ts)) c .0 (sym (among-next (runs ts) unranked) ∙ e))
+    to : amongRuns unranked (runs ts) ≡ c → Wins ts c
+    to e = table.a-run (each-shown WinsRun inRun run-shown (runs ts)) (best-is Better LengthOver beats better-ordered (map inRun (runs ts)) c .0 (sym (among-next (runs ts) unranked) ∙ e))
 
-    back : Wins ts c → among unranked (runs ts) ≡ c
-    back (said.a-run {cs = cs} h b) =
+    back : Wins ts c → amongRuns unranked (runs ts) ≡ c
+    back (table.a-run {cs = cs} h b) =
         among-next (runs ts) unranked ∙ ap (best-from beats unranked) (each-told WinsRun inRun (λ r d k. run-told r k) h) ∙ best-is Better LengthOver beats better-ordered cs c .1 b
 
 -- what wins between runs wins in one of them
-winner-among : {rs : List Tokens} {cs : List Choice} {c : Choice} → Each WinsRun rs cs → List·Memᴰ c cs → (run : Tokens) × List·Memᴰ run rs × WinsRun run c
-winner-among said.end m = absurd (List·Memᴰ·not-nil m)
-winner-among (said.next {x = r} h k) m = ⊎-elim
+winner-among : {rs : List Tokens} {cs : List Candidate} {c : Candidate} → Each WinsRun rs cs → List·Memᴰ c cs → (run : Tokens) × List·Memᴰ run rs × WinsRun run c
+winner-among table.end m = absurd (List·Memᴰ·not-nil m)
+winner-among (table.next {x = r} h k) m = ⊎-elim
     (λ e. (r, List·Memᴰ·head refl, subst (WinsRun r) (sym e) h))
     (λ q. let (run, i, w) = winner-among k q in (run, List·Memᴰ·tail i, w))
     (List·Memᴰ·cases-cons m)
 
 pub winner-run : {ts : Tokens} {n : ℕ} {us : Tokens} → Wins ts (chosen n us) → (run : Tokens) × List·Memᴰ run (runs ts) × WinsRun run (chosen n us)
-winner-run {n = n} {us = us} (said.a-run h (said.first f b)) =
+winner-run {n = n} {us = us} (table.a-run h (table.first f b)) =
     winner-among h (subst (List·Memᴰ (chosen n us)) (sym (b .stands)) (Memᴰ·append-right (b .earlier) (List·Memᴰ·head refl)))

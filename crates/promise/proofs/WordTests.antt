@@ -6,7 +6,7 @@ use native.Mathlib.Omega.{arith}
 use lib.Dec.{eqb, ltb}
 use borrow.Author.Tests.{leb-true, le-leb}
 use Rattle.meaning.specs.Programs.{Test, byte, mask, negatedMask, any, dot, Item, one, jump, range, alt}
-use Rattle.meaning.specs.Words.{fieldSize, kindOf, firstOf, secondOf, wordSize, countSize, countBy, countOf, Shape, item, opens, mark, wrong, shapeBy, shape, properBy, proper, plain}
+use Rattle.meaning.specs.Words.{fieldSize, kindOf, firstOf, secondOf, wordSize, countSize, countBy, countOf, Shape, item, opens, mark, wrong, shapeBy, shape, properBy, proper, isFlat}
 use Rattle.meaning.proofs.KindLaws.{Seen, seen, kind-opens, kind-range}
 use Rattle.meaning.proofs.MadeLaws.{made-shape, made-proper}
 use Rattle.meaning.proofs.SoundLaws.{and-right, false-true}
@@ -68,8 +68,8 @@ unfolding OfShape
 of-mark w n e = subst OfShape e (of-shape w)
 
 -- from the test to the table
-pub flat-of : (w : ℕ) (i : Item) → proper w ≡ true → shape w ≡ item i → plain i ≡ true → Flat w i
-unfolding OfItem OfTest plain
+pub flat-of : (w : ℕ) (i : Item) → proper w ≡ true → shape w ≡ item i → isFlat i ≡ true → Flat w i
+unfolding OfItem OfTest isFlat
 flat-of w (one (byte v)) h e g = subst (λ (x : ℕ). Flat x (one (byte v))) (word-again w (One (Byte v)) h (sym e)) (kind-0 (of-item w (one (byte v)) e))
 flat-of w (one (mask v m)) h e g = let b = of-item w (one (mask v m)) e in subst (λ (x : ℕ). Flat x (one (mask v m))) (word-again w (One (Mask v m)) h (sym e)) (kind-1 (b .0) (b .1))
 flat-of w (one (negatedMask v m)) h e g = let b = of-item w (one (negatedMask v m)) e in subst (λ (x : ℕ). Flat x (one (negatedMask v m))) (word-again w (One (NegatedMask v m)) h (sym e)) (kind-2 (b .0) (b .1))
@@ -128,13 +128,13 @@ flat-tested (kind-2 {v = v} {m = m} h g) = made 2 v m (omega arith) h g refl
 flat-tested (kind-3 {n = n} h) = made 3 n 0 (omega arith) h (omega arith) refl
 flat-tested kind-5 = made 5 0 0 (omega arith) (omega arith) (omega arith) refl
 
-pub flat-plain : {w : ℕ} {i : Item} → Flat w i → plain i ≡ true
-unfolding plain
-flat-plain (kind-0 h) = refl
-flat-plain (kind-1 h g) = refl
-flat-plain (kind-2 h g) = refl
-flat-plain (kind-3 h) = refl
-flat-plain kind-5 = refl
+pub flat-is : {w : ℕ} {i : Item} → Flat w i → isFlat i ≡ true
+unfolding isFlat
+flat-is (kind-0 h) = refl
+flat-is (kind-1 h g) = refl
+flat-is (kind-2 h g) = refl
+flat-is (kind-3 h) = refl
+flat-is kind-5 = refl
 
 pub range-tested : (a b : ℕ) → a ≤ b → b < fieldSize → Tested (word 4 a b) (item (range a b))
 unfolding properBy shapeBy

@@ -1,4 +1,5 @@
 -- How an item is added to a program, as 01 says it. Assumes nothing: these are definitions.
+-- To be believed: all.
 use mathlib.Core.Path.{_≡_}
 use Prim.Native.Nat.{ℕ, _+_, _≤_, _<_}
 use Rattle.meaning.specs.Limits.{jumpLimit}

@@ -1,4 +1,5 @@
 -- When compiling refuses, by 12, by 14 and by 13. Assumes nothing: these are definitions.
+-- To be believed: all.
 use mathlib.Core.Option.{none, some}
 use Prim.Native.Nat.{ℕ, suc, _+_, _<_}
 use Rattle.meaning.specs.Limits.{jumpLimit, branchLimit, nodeLimit}

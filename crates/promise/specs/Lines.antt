@@ -1,4 +1,5 @@
 -- The line of each node in a listing, kind by kind. Assumes nothing: these are definitions.
+-- To be believed: all.
 use mathlib.Core.List.{List}
 use Prim.Native.Nat.{ℕ, _+_, _*_, _<_}
 use Rattle.base.specs.Text.{ascii}

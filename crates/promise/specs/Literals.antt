@@ -1,4 +1,5 @@
--- What the choice of literals counts and compares, in other words. Assumes nothing: these are definitions.
+-- What picking counts and compares, in other words. Assumes nothing: these are definitions.
+-- To be believed: all.
 use mathlib.Core.Path.{_≡_}
 use mathlib.Core.Logic.{_↔_}
 use mathlib.Core.List.{List, [], _∷_, List·Memᴰ}

@@ -1,4 +1,5 @@
 -- Sound words as 01 lists them, kind by kind, and the program that they say. Assumes nothing: these are definitions.
+-- To be believed: all.
 use mathlib.Core.Path.{_≡_}
 use mathlib.Core.List.{List, [], _∷_, _++_}
 use Prim.Native.Nat.{ℕ, _+_, _*_, _≤_, _<_}

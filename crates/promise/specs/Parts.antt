@@ -1,5 +1,6 @@
 -- What a part of a run is, and of which tokens the members are taken. Assumes nothing: these are definitions, and only the statements of
 -- proofs/Parts.antt, and of `bytes-literal`, rest on them.
+-- To be believed: nothing.
 use mathlib.Core.Path.{_≡_}
 use mathlib.Core.Bool.{true}
 use mathlib.Core.Logic.{_⊎_}

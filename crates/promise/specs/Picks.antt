@@ -1,4 +1,5 @@
 -- What tokens yield, and what the literal door answers and leaves in the two lent buffers, case by case. Assumes nothing: these are definitions.
+-- To be believed: all.
 use mathlib.Core.Path.{_≡_}
 use mathlib.Core.Bool.{true, false}
 use mathlib.Core.Logic.{_⊎_}
@@ -12,21 +13,21 @@ use Rattle.meaning.specs.Tokens.{Tokens}
 use Rattle.grammar.specs.Grammar.{Derives}
 use Rattle.grammar.specs.Faults.{Fault}
 use Rattle.picking.specs.Literals.{literals}
-use Rattle.picking.specs.Runs.{plain}
-use Rattle.picking.specs.Choice.{unranked, chosen, tooMany, Picked, picked, unpicked}
+use Rattle.picking.specs.Runs.{plainAlternatives}
+use Rattle.picking.specs.Candidates.{unranked, chosen, tooMany, Picked, picked, unpicked}
 use Rattle.generator.specs.Output.{over}
 use Rattle.literaldoor.specs.Door as literaldoor
 use Rattle.promise.specs.Winners.{Wins}
 
 -- what the tokens ts yield: 19, else 17, else the rank and the literals of what wins; where nothing has a rank, no literals and rank 0
 pub data Yields (ts : Tokens) : Picked → Type 0 where
-  not-plain : plain ts ≡ false → Yields ts (unpicked NotPlain)
-  too-many : plain ts ≡ true → Wins ts tooMany → Yields ts (unpicked TooManyLiterals)
-  none-ranked : plain ts ≡ true → Wins ts unranked → Yields ts (picked 0 [])
-  winner : {rank : ℕ} {us : Tokens} → plain ts ≡ true → Wins ts (chosen rank us) → Yields ts (picked rank (literals us))
+  not-plain : plainAlternatives ts ≡ false → Yields ts (unpicked NotPlain)
+  too-many : plainAlternatives ts ≡ true → Wins ts tooMany → Yields ts (unpicked TooManyLiterals)
+  none-ranked : plainAlternatives ts ≡ true → Wins ts unranked → Yields ts (picked 0 [])
+  winner : {rank : ℕ} {us : Tokens} → plainAlternatives ts ≡ true → Wins ts (chosen rank us) → Yields ts (picked rank (literals us))
 
 -- picking from the text t into the bytes b and the lengths l
-pub data Picks (t b l : List ℕ) : literaldoor.Said → List ℕ → List ℕ → Type 0 where
+pub data Picks (t b l : List ℕ) : literaldoor.LiteralsSaid → List ℕ → List ℕ → Type 0 where
   rejected : {x : Refusal} {place : ℕ} → Fault t x place → Picks t b l (literaldoor.refuses (numberOf x) place) b l
   refused : {x : Refusal} {reached : ℕ} {ts : Tokens} → Derives t reached ts → Yields ts (unpicked x) → Picks t b l (literaldoor.refuses (numberOf x) 0) b l
   no-room : {reached rank : ℕ} {ts : Tokens} {ls : List (List ℕ)} → Derives t reached ts → Yields ts (picked rank ls) → (length l < length ls) ⊎ (length b < length (flatten ls)) → Picks t b l (literaldoor.refuses 18 0) b l

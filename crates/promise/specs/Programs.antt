@@ -1,4 +1,5 @@
 -- What the doors are to say of sound programs that are laid end to end, and of the mirror. Assumes nothing: these are definitions.
+-- To be believed: all.
 use mathlib.Core.Path.{_≡_}
 use mathlib.Core.List.{List, _++_, reverse}
 use Prim.Native.Nat.{ℕ}
@@ -21,7 +22,7 @@ pub record Joins (p q : Prog) (ws : List ℕ) : Type 0 where
 
 -- The words ws are the mirror of p: sound, they say the mirror, and the reverse door answers for the spans of p, the forward door for these read
 -- from their other side.
-pub record MirrorOf (p : Prog) (ws : List ℕ) : Type 0 where
+pub record IsMirror (p : Prog) (ws : List ℕ) : Type 0 where
   pub words-sound : SoundWords ws
   pub say : Nodes ws (mirror p)
   pub answers-reverse : ReverseDoor (Span p) ws

@@ -14,7 +14,7 @@ use Rattle.meaning.specs.Tokens.{Tokens}
 use Rattle.atoms.specs.Score.{literalScore}
 use Rattle.picking.specs.Literals.{literals, combinations}
 use Rattle.picking.specs.Numbers.{count, literalAt}
-use Rattle.picking.specs.Choice.{lowest, least, penalty, rankValue, counted, combined, rank, ranked, skipped, excessive}
+use Rattle.picking.specs.Candidates.{lowest, least, penalty, rankValue, counted, combined, rank, ranked, skipped, excessive}
 use Rattle.picking.proofs.NumberLaws.{count-literals, literal-numbered}
 
 -- a least can only fall

@@ -6,14 +6,14 @@ use lib.ListN.{drop}
 use Rattle.meaning.specs.Tokens.{Tokens}
 use Rattle.atoms.specs.Score.{literalScore}
 use Rattle.picking.specs.Literals.{literals}
-use Rattle.picking.specs.Choice.{lowest, least, ranked}
-use Rattle.picks.specs.declared.Pick.{Pick}
+use Rattle.picking.specs.Candidates.{lowest, least, ranked}
+use Rattle.picks.specs.declared.Winner.{Winner}
 use Rattle.picks.specs.declared.Rank.the-variants.{Of, Skipped}
 use Rattle.picks.specs.Ranks.{Settles, Beaten}
 use Rattle.ranking.proofs.RankLaws.{lowest-le}
-use Rattle.picks.proofs.PickLaws.{settled}
+use Rattle.picks.proofs.WinnerLaws.{settled}
 
-module _ (ts : Tokens) (penalty : ℕ) (b : Pick) where
+module _ (ts : Tokens) (penalty : ℕ) (b : Winner) where
   -- all literals are scored
   pub worth-all : (x y : ℕ) → least literalScore (literals ts) ≡ x → y ≡ x - penalty → Settles b (Of y) (ranked (least literalScore (literals ts) - penalty))
   worth-all x y e f = settled b (Of y) (ranked (least literalScore (literals ts) - penalty)) (ap ranked (f ∙ ap (λ (n : ℕ). n - penalty) (sym e)))

@@ -7,14 +7,14 @@ ghost use Rattle.meaning.specs.Limits.{literalLimit, tokenPool};
 ghost use Rattle.atoms.specs.Score.{literalScore};
 ghost use Rattle.picking.specs.Literals.{literals};
 ghost use Rattle.picking.specs.Numbers.{count, literalAt};
-ghost use Rattle.picking.specs.Choice.{least, penalty, rank, ranked};
+ghost use Rattle.picking.specs.Candidates.{least, penalty, rank, ranked};
 ghost use Rattle.entries.specs.Words.{tokensIn};
 ghost use Rattle.picks.specs.Ranks.{Settles};
 use base::COMBINATION_LIMIT;
 use base::ENTRY_LIMIT;
 use base::LITERAL_LIMIT;
-use picks::Pick;
 use picks::Rank;
+use picks::Winner;
 
 // A literal has at most as many bytes as there are entries.
 pub fn score_at(ws: &[u32], k: usize) -> u32
@@ -51,7 +51,7 @@ fn less(a: u32, b: u32) -> u32
 }
 
 // What the literals are worth to the best so far. Scoring more of them can only lower the rank, so it stops where that changes nothing.
-fn worth(ws: &[u32], n: usize, penalty: u32, best: Pick) -> Rank
+fn worth(ws: &[u32], n: usize, penalty: u32, best: Winner) -> Rank
     requires { ⌜ (length (now ws) ≤ tokenPool) × (n ≡ count (tokensIn (now ws))) × (n ≤ literalLimit) ⌝ }
     ensures { λ r. ⌜ Settles best r (ranked (least literalScore (literals (tokensIn (now (ws .entry)))) - penalty)) ⌝ }
 {
@@ -76,7 +76,7 @@ fn worth(ws: &[u32], n: usize, penalty: u32, best: Pick) -> Rank
 }
 
 // A slice's rank, or one that changes the best so far as little.
-pub fn rank_of(ws: &[u32], best: Pick) -> Rank
+pub fn rank_of(ws: &[u32], best: Winner) -> Rank
     requires { ⌜ length (now ws) ≤ tokenPool ⌝ }
     ensures { λ r. ⌜ Settles best r (rank (tokensIn (now (ws .entry)))) ⌝ }
 {

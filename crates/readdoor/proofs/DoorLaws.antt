@@ -15,7 +15,7 @@ use Rattle.meaning.specs.Limits.{textLimit, tokenPool}
 use Rattle.meaning.specs.Tokens.{Tokens}
 use Rattle.meaning.specs.Entries.{entries}
 use Rattle.reading.specs.Blanks.{skip}
-use Rattle.reading.specs.Lists.{list, Outcome, accepted, rejected, closing, reading}
+use Rattle.reading.specs.Lists.{list, Verdict, accepted, rejected, closing, reading}
 use Rattle.reading.proofs.PieceLaws.{never}
 use Rattle.reading.proofs.TextLaws.{text-opened, text-closed, text-unclosed, accepted-words}
 use Rattle.reader.specs.declared.ListGot.{ListGot}
@@ -25,13 +25,13 @@ use Rattle.reader.specs.Says.{ListSays}
 use Rattle.reader.proofs.SaysLaws.{list-read, list-absent, list-refused}
 use Rattle.readdoor.specs.declared.ReadAnswer.{ReadAnswer}
 use Rattle.readdoor.specs.declared.ReadAnswer.the-variants as answer
-use Rattle.readdoor.specs.Door.{gives, said, outcomeSays, outcomeLeaves, readSays, readLeaves, TextSays}
+use Rattle.readdoor.specs.Door.{gives, readSaid, verdictSays, verdictLeaves, readSays, readLeaves, TextSays}
 
-pub text-refused : (x : Outcome) (p q : List ℕ) (r : Refusal) (y : ℕ) → x ≡ rejected r y → TextSays x (answer.Refused r y) p q
+pub text-refused : (x : Verdict) (p q : List ℕ) (r : Refusal) (y : ℕ) → x ≡ rejected r y → TextSays x (answer.Refused r y) p q
 unfolding TextSays
 text-refused x p q r y h = rw h refl
 
-pub text-read : (x : Outcome) (p q : List ℕ) (e u : ℕ) (ts : Tokens) → x ≡ accepted e ts → u ≡ length (entries ts) → q ≡ written p 0 (entries ts) → TextSays x (answer.Read e u) p q
+pub text-read : (x : Verdict) (p q : List ℕ) (e u : ℕ) (ts : Tokens) → x ≡ accepted e ts → u ≡ length (entries ts) → q ≡ written p 0 (entries ts) → TextSays x (answer.Read e u) p q
 unfolding TextSays
 text-read x p q e u ts h a b = rw h (ap (answer.Read e) a, b)
 
@@ -57,12 +57,12 @@ module _ (t : List ℕ) (at : ℕ) (short : length t ≤ textLimit) (opened : ge
   text-stopped r y h = text-refused (reading t) p q r y (text-opened t short opened at start (list-refused 0 g p q (list t 1 0 at) r y h says))
 
 -- what was read, once the answer is known
-pub text-accepted : (x : Outcome) (p q : List ℕ) (r : ReadAnswer) (e u : ℕ) → r ≡ answer.Read e u → TextSays x r p q → (ts : Tokens) × (x ≡ accepted e ts) × (u ≡ length (entries ts)) × (q ≡ written p 0 (entries ts))
+pub text-accepted : (x : Verdict) (p q : List ℕ) (r : ReadAnswer) (e u : ℕ) → r ≡ answer.Read e u → TextSays x r p q → (ts : Tokens) × (x ≡ accepted e ts) × (u ≡ length (entries ts)) × (q ≡ written p 0 (entries ts))
 unfolding TextSays
 text-accepted (accepted e′ ts) p q r e u h s = let a : e′ ≡ e = cc in (ts, ap (λ (i : ℕ). accepted i ts) a, cc, s .1)
 text-accepted (rejected y z) p q r e u h s = never (cc)
 
-pub text-rejected : (x : Outcome) (p q : List ℕ) (r : ReadAnswer) (c : Refusal) (y : ℕ) → r ≡ answer.Refused c y → TextSays x r p q → x ≡ rejected c y
+pub text-rejected : (x : Verdict) (p q : List ℕ) (r : ReadAnswer) (c : Refusal) (y : ℕ) → r ≡ answer.Refused c y → TextSays x r p q → x ≡ rejected c y
 unfolding TextSays
 text-rejected (accepted e ts) p q r c y h s = never (cc)
 text-rejected (rejected c′ y′) p q r c y h s = cc
@@ -72,11 +72,11 @@ unfolding cleared
 cleared-after size q p l = ap (λ (x : List ℕ). replicate size 0 ++ x) (drop-at q (drop size p) size l)
 
 module _ (t p : List ℕ) where
-  pub door-small : length p < tokenPool → (said (answer.Refused NoRoom 0) ≡ readSays t p) × (p ≡ readLeaves t p)
+  pub door-small : length p < tokenPool → (readSaid (answer.Refused NoRoom 0) ≡ readSays t p) × (p ≡ readLeaves t p)
   unfolding readSays readLeaves
   door-small h = (simp (lt-leb tokenPool (length p) h), simp (lt-leb tokenPool (length p) h))
 
-  pub says-at : tokenPool ≤ length p → (x : Outcome) → reading t ≡ x → (outcomeSays x ≡ readSays t p) × (outcomeLeaves x p ≡ readLeaves t p)
+  pub says-at : tokenPool ≤ length p → (x : Verdict) → reading t ≡ x → (verdictSays x ≡ readSays t p) × (verdictLeaves x p ≡ readLeaves t p)
   unfolding readSays readLeaves
   says-at h x e = (simp (le-leb tokenPool (length p) h, e), simp (le-leb tokenPool (length p) h, e))
 
@@ -87,8 +87,8 @@ module _ (t p : List ℕ) where
         let v = z .2 in
         omega (arith, accepted-words t e (z .0) (z .1))
 
-    pub door-read : (e u : ℕ) (o : List ℕ) → r ≡ answer.Read e u → o ≡ zeroed u tokenPool (q ++ drop tokenPool p) → (said (answer.Read e u) ≡ readSays t p) × (o ≡ readLeaves t p)
-    unfolding outcomeSays outcomeLeaves written
+    pub door-read : (e u : ℕ) (o : List ℕ) → r ≡ answer.Read e u → o ≡ zeroed u tokenPool (q ++ drop tokenPool p) → (readSaid (answer.Read e u) ≡ readSays t p) × (o ≡ readLeaves t p)
+    unfolding verdictSays verdictLeaves written
     door-read e u o h w =
         let z = text-accepted (reading t) (take tokenPool p) q r e u h says in
         let ts = z .0 in
@@ -105,8 +105,8 @@ module _ (t p : List ℕ) where
         zero-add : (n : ℕ) → 0 + n ≡ n
         zero-add n = omega arith
 
-    pub door-refused : (c : Refusal) (y : ℕ) (o : List ℕ) → r ≡ answer.Refused c y → o ≡ zeroed 0 tokenPool (q ++ drop tokenPool p) → (said (answer.Refused c y) ≡ readSays t p) × (o ≡ readLeaves t p)
-    unfolding outcomeSays outcomeLeaves
+    pub door-refused : (c : Refusal) (y : ℕ) (o : List ℕ) → r ≡ answer.Refused c y → o ≡ zeroed 0 tokenPool (q ++ drop tokenPool p) → (readSaid (answer.Refused c y) ≡ readSays t p) × (o ≡ readLeaves t p)
+    unfolding verdictSays verdictLeaves
     door-refused c y o h w =
         let d = says-at enough (rejected c y) (text-rejected (reading t) (take tokenPool p) q r c y h says) in
         (d .0, w ∙ zeroed-cleared tokenPool (q ++ drop tokenPool p) ∙ cleared-after tokenPool q p kept ∙ d .1)

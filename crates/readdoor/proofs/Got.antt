@@ -13,34 +13,34 @@ use Rattle.base.proofs.RefusalLaws.{number-one}
 use Rattle.meaning.specs.Limits.{tokenPool}
 use Rattle.meaning.specs.Tokens.{Tokens}
 use Rattle.meaning.specs.Entries.{entries}
-use Rattle.reading.specs.Lists.{Outcome, accepted, rejected, reading}
+use Rattle.reading.specs.Lists.{Verdict, accepted, rejected, reading}
 use Rattle.reading.proofs.PieceLaws.{never}
 use Rattle.reading.proofs.TextLaws.{accepted-words}
 use Rattle.readdoor.specs.declared.ReadAnswer.{ReadAnswer}
 use Rattle.readdoor.specs.declared.ReadAnswer.the-variants.{Read, Refused}
-use Rattle.readdoor.specs.Door.{gives, refuses, said, outcomeSays, outcomeLeaves, readSays, readLeaves}
+use Rattle.readdoor.specs.Door.{gives, refuses, readSaid, verdictSays, verdictLeaves, readSays, readLeaves}
 
 -- the text is accepted, and its entries are the first u words of the pool q
 pub record Got (t q : List ℕ) (e u : ℕ) : Type 0 where
   pub tokens : Tokens
-  pub outcome : reading t ≡ accepted e tokens
+  pub verdict : reading t ≡ accepted e tokens
   pub words : take (u - 0) (drop 0 q) ≡ entries tokens
   pub few : length (entries tokens) ≤ 4092
   pub fits : u ≤ tokenPool
 
-module _ (t p q : List ℕ) (r : ReadAnswer) (a : said r ≡ readSays t p) (b : q ≡ readLeaves t p) (l : tokenPool ≤ length p) where
-  says-it : said r ≡ outcomeSays (reading t)
+module _ (t p q : List ℕ) (r : ReadAnswer) (a : readSaid r ≡ readSays t p) (b : q ≡ readLeaves t p) (l : tokenPool ≤ length p) where
+  says-it : readSaid r ≡ verdictSays (reading t)
   unfolding readSays
   says-it = a ∙ rw (le-leb tokenPool (length p) l)
 
-  leaves-it : q ≡ outcomeLeaves (reading t) p
+  leaves-it : q ≡ verdictLeaves (reading t) p
   unfolding readLeaves
   leaves-it = b ∙ rw (le-leb tokenPool (length p) l)
 
-  got-from : (e u : ℕ) → r ≡ Read e u → (x : Outcome) → reading t ≡ x → Got t q e u
-  unfolding outcomeSays outcomeLeaves filled
+  got-from : (e u : ℕ) → r ≡ Read e u → (x : Verdict) → reading t ≡ x → Got t q e u
+  unfolding verdictSays verdictLeaves filled
   got-from e u f (accepted e′ ts) g =
-      let s : gives e u ≡ gives e′ (length (entries ts)) = sym (ap said f) ∙ says-it ∙ ap outcomeSays g in
+      let s : gives e u ≡ gives e′ (length (entries ts)) = sym (ap readSaid f) ∙ says-it ∙ ap verdictSays g in
       let ee : e ≡ e′ = cc in
       let eu : u ≡ length (entries ts) = cc in
       let h : reading t ≡ accepted e ts = g ∙ ap (λ (x : ℕ). accepted x ts) (sym ee) in
@@ -48,25 +48,25 @@ module _ (t p q : List ℕ) (r : ReadAnswer) (a : said r ≡ readSays t p) (b : 
       let z : u - 0 ≡ u = omega arith in
       record {
         tokens = ts;
-        outcome = h;
-        words = ap₂ take z (leaves-it ∙ ap (λ (x : Outcome). outcomeLeaves x p) g) ∙ take-at (entries ts) (replicate (tokenPool - length (entries ts)) 0 ++ drop tokenPool p) u (sym eu);
+        verdict = h;
+        words = ap₂ take z (leaves-it ∙ ap (λ (x : Verdict). verdictLeaves x p) g) ∙ take-at (entries ts) (replicate (tokenPool - length (entries ts)) 0 ++ drop tokenPool p) u (sym eu);
         few = m;
         fits = omega arith;
       }
   got-from e u f (rejected x y) g =
-      let s : gives e u ≡ refuses (numberOf x) y = sym (ap said f) ∙ says-it ∙ ap outcomeSays g in
+      let s : gives e u ≡ refuses (numberOf x) y = sym (ap readSaid f) ∙ says-it ∙ ap verdictSays g in
       never (cc)
 
   pub got : (e u : ℕ) → r ≡ Read e u → Got t q e u
   got e u f = got-from e u f (reading t) refl
 
-  refused-from : (c : Refusal) (y : ℕ) → r ≡ Refused c y → (x : Outcome) → reading t ≡ x → reading t ≡ rejected c y
-  unfolding outcomeSays
+  refused-from : (c : Refusal) (y : ℕ) → r ≡ Refused c y → (x : Verdict) → reading t ≡ x → reading t ≡ rejected c y
+  unfolding verdictSays
   refused-from c y f (accepted e ts) g =
-      let s : refuses (numberOf c) y ≡ gives e (length (entries ts)) = sym (ap said f) ∙ says-it ∙ ap outcomeSays g in
+      let s : refuses (numberOf c) y ≡ gives e (length (entries ts)) = sym (ap readSaid f) ∙ says-it ∙ ap verdictSays g in
       never (cc)
   refused-from c y f (rejected x z) g =
-      let s : refuses (numberOf c) y ≡ refuses (numberOf x) z = sym (ap said f) ∙ says-it ∙ ap outcomeSays g in
+      let s : refuses (numberOf c) y ≡ refuses (numberOf x) z = sym (ap readSaid f) ∙ says-it ∙ ap verdictSays g in
       let n : numberOf c ≡ numberOf x = cc in
       let m : y ≡ z = cc in
       g ∙ ap₂ rejected (sym (number-one c x n)) (sym m)

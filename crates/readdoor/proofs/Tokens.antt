@@ -10,7 +10,7 @@ use Rattle.meaning.specs.Tokens.{Tokens}
 use Rattle.meaning.specs.Entries.{entries}
 use Rattle.reading.specs.Lists.{accepted, reading}
 use Rattle.reading.proofs.Decoded.{decode, decode-entries}
-use Rattle.readdoor.specs.Door.{outcomeLeaves, readLeaves}
+use Rattle.readdoor.specs.Door.{verdictLeaves, readLeaves}
 use Rattle.readdoor.proofs.DoorLaws.{says-at}
 
 front : (size : ℕ) (ws p : List ℕ) → take (length ws) (filled size ws p) ≡ ws
@@ -18,5 +18,5 @@ unfolding filled
 front size ws p = take-at ws _ (length ws) refl
 
 pub read-tokens : (t p : List ℕ) (e : ℕ) (ts : Tokens) → tokenPool ≤ length p → reading t ≡ accepted e ts → decode (take (length (entries ts)) (readLeaves t p)) ≡ ts
-unfolding outcomeLeaves
+unfolding verdictLeaves
 read-tokens t p e ts h q = ap (λ (x : List ℕ). decode (take (length (entries ts)) x)) (sym (says-at t p h (accepted e ts) q .1)) ∙ ap decode (front tokenPool (entries ts) p) ∙ decode-entries ts

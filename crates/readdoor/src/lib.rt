@@ -8,7 +8,7 @@ ghost use mathlib.Core.Path.{_≡_};
 ghost use lib.ListN.{length};
 ghost use Rattle.meaning.specs.Limits.{tokenPool};
 ghost use Rattle.reading.specs.Lists.{reading};
-ghost use Rattle.readdoor.specs.Door.{said, readSays, readLeaves, TextSays};
+ghost use Rattle.readdoor.specs.Door.{readSaid, readSays, readLeaves, TextSays};
 
 // The offset reached and the words used, or a refusal and its place.
 pub enum ReadAnswer {
@@ -44,7 +44,7 @@ fn read_text(text: &[u8], pool: &mut [u32]) -> ReadAnswer
 
 // Reads a text's tokens into the first 4,096 words of the pool.
 pub fn read(text: &[u8], pool: &mut [u32]) -> ReadAnswer
-    ensures { λ r. ⌜ (said r ≡ readSays (now (text .entry)) (now (pool .entry)))
+    ensures { λ r. ⌜ (readSaid r ≡ readSays (now (text .entry)) (now (pool .entry)))
         × (now (pool .exit) ≡ readLeaves (now (text .entry)) (now (pool .entry))) ⌝ }
 {
     if pool.len() < TOKEN_POOL {

@@ -26,7 +26,7 @@ use Rattle.reader.proofs.SaysLaws.{list-read, list-absent, list-refused
 use Rattle.reader.proofs.Joined.{_with_, besides, besides-with, besides-read, besides-stopped, entries-with, count-with}
 
 -- the lists ls have been read; the alternatives are these and what is read from x on
-pub record Listed (t : List ℕ) (l count at n : ℕ) (p pool : List ℕ) (x miss m c k : ℕ) : Type 0 where
+pub record ListsRead (t : List ℕ) (l count at n : ℕ) (p pool : List ℕ) (x miss m c k : ℕ) : Type 0 where
   pub ls : Lists
   pub whole : lists t (l + 1) (count + 1) (skip t (at + 1)) (skip t (at + 1)) ≡ besides ls (lists t (l + 1) c x miss)
   pub words : pool ≡ written p (n + 4) (listEntries ls)
@@ -50,9 +50,9 @@ pub record Turned (t : List ℕ) (x m c e u d own : ℕ) : Type 0 where
   pub few : own ≤ tokenPool
 
 module _ (t : List ℕ) (l count at n : ℕ) (p : List ℕ) where
-  pub listed-start : at < length t → n ≤ 8 * count → count < tokenLimit → Listed t l count at n p p (skip t (at + 1)) (skip t (at + 1)) (n + 4) (count + 1) 0
+  pub lists-read-start : at < length t → n ≤ 8 * count → count < tokenLimit → ListsRead t l count at n p p (skip t (at + 1)) (skip t (at + 1)) (n + 4) (count + 1) 0
   unfolding besides listEntries listCount
-  listed-start a b c = record {
+  lists-read-start a b c = record {
     ls = neither;
     whole = refl;
     words = written-none p (n + 4);
@@ -66,7 +66,7 @@ module _ (t : List ℕ) (l count at n : ℕ) (p : List ℕ) where
     kept = refl;
   }
 
-  module _ (pool : List ℕ) (x miss m c k : ℕ) (inv : Listed t l count at n p pool x miss m c k) (g : ListGot) (q : List ℕ) (says : ListSays (list t (l + 1) c x) (m + 4) g pool q) where
+  module _ (pool : List ℕ) (x miss m c k : ℕ) (inv : ListsRead t l count at n p pool x miss m c k) (g : ListGot) (q : List ℕ) (says : ListSays (list t (l + 1) c x) (m + 4) g pool q) where
     pub turned : (e u d own : ℕ) → g ≡ list-got.Read e u d own → Turned t x m c e u d own
     turned e u d own h =
         let z = list-read (m + 4) g pool q (list t (l + 1) c x) e u d own h says in
@@ -101,9 +101,9 @@ module _ (t : List ℕ) (l count at n : ℕ) (p : List ℕ) where
               ∙ ap (written p (n + 4)) (sym (entries-with ls ts)),
         )
 
-    pub listed-next : (e u d own y : ℕ) (q′ : List ℕ) → n + 4 ≤ length p → m + 4 ≤ length p → g ≡ list-got.Read e u d own → q′ ≡ written q m (6 ∷ own ∷ ((u - (m + 4)) / 4) ∷ 0 ∷ []) → length q′ ≡ length p
-        → getD t e 0 ≡ code "|" → y ≡ skip t (e + 1) → Listed t l count at n p q′ y e u d (k + 1)
-    listed-next e u d own y q′ r r′ h hq lq b s =
+    pub lists-read-next : (e u d own y : ℕ) (q′ : List ℕ) → n + 4 ≤ length p → m + 4 ≤ length p → g ≡ list-got.Read e u d own → q′ ≡ written q m (6 ∷ own ∷ ((u - (m + 4)) / 4) ∷ 0 ∷ []) → length q′ ≡ length p
+        → getD t e 0 ≡ code "|" → y ≡ skip t (e + 1) → ListsRead t l count at n p q′ y e u d (k + 1)
+    lists-read-next e u d own y q′ r r′ h hq lq b s =
         let z = marked e u d own r r′ h in
         let ts = z .0 in
         let ls = inv .ls in
@@ -128,10 +128,10 @@ module _ (t : List ℕ) (l count at n : ℕ) (p : List ℕ) where
           kept = lq;
         }
 
-    pub listed-done : (e u d own y : ℕ) (q′ q″ : List ℕ) → n + 4 ≤ length p → m + 4 ≤ length p → getD t at 0 ≡ code "(" → count < tokenLimit → g ≡ list-got.Read e u d own → q′ ≡ written q m (6 ∷ own ∷ ((u - (m + 4)) / 4) ∷ 0 ∷ [])
+    pub lists-read-done : (e u d own y : ℕ) (q′ q″ : List ℕ) → n + 4 ≤ length p → m + 4 ≤ length p → getD t at 0 ≡ code "(" → count < tokenLimit → g ≡ list-got.Read e u d own → q′ ≡ written q m (6 ∷ own ∷ ((u - (m + 4)) / 4) ∷ 0 ∷ [])
         → q″ ≡ written q′ n (5 ∷ (k + 1) ∷ ((u - (n + 4)) / 4) ∷ 0 ∷ []) → getD t e 0 ≡ code ")" → y ≡ skip t (e + 1) → TokenSays (alternatives t l count at) n (token-got.Read y u d false) p q″
     unfolding asToken isJump entriesOf
-    listed-done e u d own y q′ q″ r r′ o f h hq hq″ b s =
+    lists-read-done e u d own y q′ q″ r r′ o f h hq hq″ b s =
         let z = marked e u d own r r′ h in
         let ts = z .0 in
         let ls = inv .ls with ts in
@@ -149,13 +149,13 @@ module _ (t : List ℕ) (l count at n : ℕ) (p : List ℕ) where
     unfolding asToken
     stops {r} {y} q′ o f w = says-refused (alternatives t l count at) n p q′ r y (bracket-open t l count at o f (inv .whole ∙ ap (besides (inv .ls)) w ∙ besides-stopped (inv .ls) r y))
 
-    pub listed-else : (e u d own : ℕ) (q′ : List ℕ) → getD t at 0 ≡ code "(" → count < tokenLimit → g ≡ list-got.Read e u d own → (getD t e 0 ≡ code ")" → ⊥) → (getD t e 0 ≡ code "|" → ⊥) → TokenSays (alternatives t l count at) n (token-got.Refused Unexpected e) p q′
-    listed-else e u d own q′ o f h a b =
+    pub lists-read-else : (e u d own : ℕ) (q′ : List ℕ) → getD t at 0 ≡ code "(" → count < tokenLimit → g ≡ list-got.Read e u d own → (getD t e 0 ≡ code ")" → ⊥) → (getD t e 0 ≡ code "|" → ⊥) → TokenSays (alternatives t l count at) n (token-got.Refused Unexpected e) p q′
+    lists-read-else e u d own q′ o f h a b =
         let z = list-read (m + 4) g pool q (list t (l + 1) c x) e u d own h says in
         stops q′ o f (lists-else t (l + 1) c x miss (z .1) a b)
 
-    pub listed-missing : getD t at 0 ≡ code "(" → count < tokenLimit → g ≡ list-got.Absent → (q′ : List ℕ) → TokenSays (alternatives t l count at) n (token-got.Refused Unexpected miss) p q′
-    listed-missing o f h q′ = stops q′ o f (lists-missing t (l + 1) c x miss (list-absent (m + 4) g pool q (list t (l + 1) c x) h says .0))
+    pub lists-read-missing : getD t at 0 ≡ code "(" → count < tokenLimit → g ≡ list-got.Absent → (q′ : List ℕ) → TokenSays (alternatives t l count at) n (token-got.Refused Unexpected miss) p q′
+    lists-read-missing o f h q′ = stops q′ o f (lists-missing t (l + 1) c x miss (list-absent (m + 4) g pool q (list t (l + 1) c x) h says .0))
 
-    pub listed-stop : getD t at 0 ≡ code "(" → count < tokenLimit → (r : Refusal) (y : ℕ) → g ≡ list-got.Refused r y → (q′ : List ℕ) → TokenSays (alternatives t l count at) n (token-got.Refused r y) p q′
-    listed-stop o f r y h q′ = stops q′ o f (lists-stopped t (l + 1) c x miss (list-refused (m + 4) g pool q (list t (l + 1) c x) r y h says))
+    pub lists-read-stop : getD t at 0 ≡ code "(" → count < tokenLimit → (r : Refusal) (y : ℕ) → g ≡ list-got.Refused r y → (q′ : List ℕ) → TokenSays (alternatives t l count at) n (token-got.Refused r y) p q′
+    lists-read-stop o f r y h q′ = stops q′ o f (lists-stopped t (l + 1) c x miss (list-refused (m + 4) g pool q (list t (l + 1) c x) r y h says))

@@ -9,7 +9,7 @@ use lib.Dec.{leb, eqb·suc-zero}
 use Rattle.base.specs.declared.Refusal.{Refusal}
 use Rattle.meaning.specs.Tokens.{Token, Tokens, Lists, nothing, _then_, neither, _or_}
 use Rattle.meaning.specs.Entries.{entry, entriesIn, entriesOf, entries, listEntries, tokenCount, listCount}
-use Rattle.reading.specs.Lists.{Parsed, read, stopped, before, beside, isJump, begins, endsIn, ends, atBound}
+use Rattle.reading.specs.Lists.{Parsed, read, stopped, before, beside, isJump, jumpFirst, jumpLastIn, jumpLast, atBound}
 use Rattle.reader.specs.Says.{firstOf}
 
 infixl 55 _and_
@@ -46,24 +46,24 @@ unfolding tokenCount _and_
 count-and nothing k = refl
 count-and (t then ts) k = ap suc (count-and ts k)
 
-pub begins-and : (ts : Tokens) (k : Token) → firstOf (tokenCount ts) (begins ts) (isJump k) ≡ begins (ts and k)
-unfolding tokenCount begins _and_
-begins-and nothing k = refl
-begins-and (t then ts) k = rw (eqb·suc-zero (tokenCount ts))
+pub jump-first-and : (ts : Tokens) (k : Token) → firstOf (tokenCount ts) (jumpFirst ts) (isJump k) ≡ jumpFirst (ts and k)
+unfolding tokenCount jumpFirst _and_
+jump-first-and nothing k = refl
+jump-first-and (t then ts) k = rw (eqb·suc-zero (tokenCount ts))
 
-endsIn-and : (t : Token) (ts : Tokens) (k : Token) → isJump k ≡ endsIn t (ts and k)
-unfolding endsIn _and_
-endsIn-and t nothing k = refl
-endsIn-and t (u then us) k = endsIn-and u us k
+jump-last-in-and : (t : Token) (ts : Tokens) (k : Token) → isJump k ≡ jumpLastIn t (ts and k)
+unfolding jumpLastIn _and_
+jump-last-in-and t nothing k = refl
+jump-last-in-and t (u then us) k = jump-last-in-and u us k
 
-pub ends-and : (ts : Tokens) (k : Token) → isJump k ≡ ends (ts and k)
-unfolding ends endsIn _and_
-ends-and nothing k = refl
-ends-and (t then ts) k = endsIn-and t ts k
+pub jump-last-and : (ts : Tokens) (k : Token) → isJump k ≡ jumpLast (ts and k)
+unfolding jumpLast jumpLastIn _and_
+jump-last-and nothing k = refl
+jump-last-and (t then ts) k = jump-last-in-and t ts k
 
 -- a list that ends with a jump has two or more tokens, or begins with it
-pub at-bound : (ts : Tokens) → atBound ts ≡ (begins ts || ends ts)
-unfolding atBound begins ends endsIn tokenCount
+pub at-bound : (ts : Tokens) → atBound ts ≡ (jumpFirst ts || jumpLast ts)
+unfolding atBound jumpFirst jumpLast jumpLastIn tokenCount
 at-bound nothing = refl
 at-bound (t then nothing) = go (isJump t)
   where

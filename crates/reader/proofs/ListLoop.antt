@@ -11,7 +11,7 @@ use Rattle.base.specs.declared.Refusal.the-variants.{JumpAtBound}
 use Rattle.meaning.specs.Limits.{tokenLimit, levelLimit}
 use Rattle.meaning.specs.Tokens.{Tokens, nothing, _then_}
 use Rattle.meaning.specs.Entries.{entriesOf, entries, tokenCount}
-use Rattle.reading.specs.Lists.{read, stopped, begins, ends, listOf, token, more, list}
+use Rattle.reading.specs.Lists.{read, stopped, jumpFirst, jumpLast, listOf, token, more, list}
 use Rattle.reading.proofs.ListSteps.{token-gone, more-read, more-none, more-stopped, list-of}
 use Rattle.reader.specs.declared.TokenGot.{TokenGot}
 use Rattle.reader.specs.declared.TokenGot.the-variants as token-got
@@ -20,7 +20,7 @@ use Rattle.reader.specs.Written.{written}
 use Rattle.reader.specs.Says.{TokenSays, ListSays, firstOf, listEnd}
 use Rattle.reader.proofs.WrittenLaws.{written-none, written-append}
 use Rattle.reader.proofs.SaysLaws.{token-read, token-absent, token-refused, list-says-refused}
-use Rattle.reader.proofs.Joined.{_and_, befores, befores-and, befores-read, befores-stopped, entries-and, count-and, begins-and, ends-and, at-bound}
+use Rattle.reader.proofs.Joined.{_and_, befores, befores-and, befores-read, befores-stopped, entries-and, count-and, jump-first-and, jump-last-and, at-bound}
 
 -- the tokens us have been read from `at` to x; the list is these and what is read from x on
 pub record Tokened (t : List ℕ) (l count at n : ℕ) (p pool : List ℕ) (x m c k : ℕ) (first last : Bool) : Type 0 where
@@ -29,8 +29,8 @@ pub record Tokened (t : List ℕ) (l count at n : ℕ) (p pool : List ℕ) (x m 
   pub words : pool ≡ written p n (entries us)
   pub used : m ≡ n + length (entries us)
   pub own : k ≡ tokenCount us
-  pub begun : first ≡ begins us
-  pub ended : last ≡ ends us
+  pub begun : first ≡ jumpFirst us
+  pub ended : last ≡ jumpLast us
   pub from : at ≤ x
   pub inside : x ≤ length t
   pub room : m ≤ 8 * c
@@ -49,7 +49,7 @@ pub record Stepped (t : List ℕ) (x m c e u d : ℕ) : Type 0 where
 
 module _ (t : List ℕ) (l count at n : ℕ) (p : List ℕ) where
   pub tokened-start : at ≤ length t → n ≤ 8 * count → count ≤ tokenLimit → Tokened t l count at n p p at n count 0 false false
-  unfolding befores entries tokenCount begins ends
+  unfolding befores entries tokenCount jumpFirst jumpLast
   tokened-start a b c = record {
     us = nothing;
     whole = refl;
@@ -92,8 +92,8 @@ module _ (t : List ℕ) (l count at n : ℕ) (p : List ℕ) where
           words = z .4 ∙ ap₂ (λ (a : List ℕ) (i : ℕ). written a i (entriesOf tok)) (inv .words) (inv .used) ∙ written-append p n (entries us) (entriesOf tok) r ∙ ap (written p n) (sym (entries-and us tok));
           used = omega arith;
           own = omega arith;
-          begun = ap₂ (λ (a : ℕ) (b : Bool). firstOf a b j) (inv .own) (inv .begun) ∙ ap (firstOf (tokenCount us) (begins us)) (z .3) ∙ begins-and us tok;
-          ended = z .3 ∙ ends-and us tok;
+          begun = ap₂ (λ (a : ℕ) (b : Bool). firstOf a b j) (inv .own) (inv .begun) ∙ ap (firstOf (tokenCount us) (jumpFirst us)) (z .3) ∙ jump-first-and us tok;
+          ended = z .3 ∙ jump-last-and us tok;
           from = omega (arith, inv .from);
           inside = s .inside;
           room = omega (arith, inv .room);
@@ -103,11 +103,11 @@ module _ (t : List ℕ) (l count at n : ℕ) (p : List ℕ) where
         }
 
     -- the list's end
-    ended-list : (ts : Tokens) (e d : ℕ) → ListSays (listOf at (read ts e d)) n (listEnd at e (n + length (entries ts)) d (tokenCount ts) (begins ts) (ends ts)) p (written p n (entries ts))
+    ended-list : (ts : Tokens) (e d : ℕ) → ListSays (listOf at (read ts e d)) n (listEnd at e (n + length (entries ts)) d (tokenCount ts) (jumpFirst ts) (jumpLast ts)) p (written p n (entries ts))
     unfolding listOf ListSays entries tokenCount
     ended-list nothing e d = (refl, sym (written-none p n))
-    ended-list (tok then ts) e d = subst (λ (b : Bool). ListSays (cond b (stopped JumpAtBound at) (read (tok then ts) e d)) n (listEnd at e (n + length (entries (tok then ts))) d (suc (tokenCount ts)) (begins (tok then ts)) (ends (tok then ts))) p (written p n (entries (tok then ts)))) (sym (at-bound (tok then ts)))
-        (rw (eqb·suc-zero (tokenCount ts)) (go (begins (tok then ts)) (ends (tok then ts))))
+    ended-list (tok then ts) e d = subst (λ (b : Bool). ListSays (cond b (stopped JumpAtBound at) (read (tok then ts) e d)) n (listEnd at e (n + length (entries (tok then ts))) d (suc (tokenCount ts)) (jumpFirst (tok then ts)) (jumpLast (tok then ts))) p (written p n (entries (tok then ts)))) (sym (at-bound (tok then ts)))
+        (rw (eqb·suc-zero (tokenCount ts)) (go (jumpFirst (tok then ts)) (jumpLast (tok then ts))))
       where
         go : (a b : Bool) → ListSays (cond (a || b) (stopped JumpAtBound at) (read (tok then ts) e d)) n (cond a (list-got.Refused JumpAtBound at) (cond b (list-got.Refused JumpAtBound at) (list-got.Read e (n + length (entries (tok then ts))) d (suc (tokenCount ts))))) p (written p n (entries (tok then ts)))
         go true b = refl

@@ -13,10 +13,10 @@ use Rattle.meaning.specs.Limits.{tokenLimit}
 use Rattle.meaning.specs.Tokens.{Token, Tokens, Lists}
 use Rattle.meaning.specs.Entries.{entriesOf, entries, tokenCount}
 use Rattle.reading.specs.Blanks.{skip}
-use Rattle.reading.specs.Pieces.{Seen, found, absent, refused, plainAt}
+use Rattle.reading.specs.Pieces.{Seen, found, absent, refused, leafAt}
 use Rattle.reading.specs.Lists.{Parsed, read, missing, stopped, isJump, tokenOr, asToken, bracketed, token, lists}
 use Rattle.reading.proofs.PieceLaws.{never}
-use Rattle.reading.proofs.PieceBounds.{Flat, plain-flat}
+use Rattle.reading.proofs.PieceBounds.{OneEntry, leaf-entry}
 use Rattle.reading.proofs.ListSteps.{token-step}
 use Rattle.reader.specs.declared.TokenGot.{TokenGot}
 use Rattle.reader.specs.declared.TokenGot.the-variants as token-got
@@ -93,28 +93,28 @@ says-same x y n r p q e h = rw e h
 
 -- one token
 module _ (t : List ℕ) (l c at : ℕ) where
-  token-of : {x : Seen Token} → plainAt t (ltb 1 l) at ≡ x → token t l c at ≡ tokenOr at c x (alternatives t l c at)
+  token-of : {x : Seen Token} → leafAt t (ltb 1 l) at ≡ x → token t l c at ≡ tokenOr at c x (alternatives t l c at)
   token-of e = token-step t l c at ∙ ap (λ (y : Seen Token). tokenOr at c y (alternatives t l c at)) e
 
-  pub token-full : {tok : Token} {s e : ℕ} → plainAt t (ltb 1 l) at ≡ found tok s e → tokenLimit ≤ c → token t l c at ≡ stopped TooManyTokens at
+  pub token-full : {tok : Token} {s e : ℕ} → leafAt t (ltb 1 l) at ≡ found tok s e → tokenLimit ≤ c → token t l c at ≡ stopped TooManyTokens at
   unfolding tokenOr
   token-full {tok} {s} {e} h k = token-of h ∙ ap (λ (b : Bool). cond b (read tok e (c + 1)) (stopped TooManyTokens at)) (le-ltb c tokenLimit k)
 
-  pub token-found : {tok : Token} {s e : ℕ} → plainAt t (ltb 1 l) at ≡ found tok s e → c < tokenLimit → token t l c at ≡ read tok e (c + 1)
+  pub token-found : {tok : Token} {s e : ℕ} → leafAt t (ltb 1 l) at ≡ found tok s e → c < tokenLimit → token t l c at ≡ read tok e (c + 1)
   unfolding tokenOr
   token-found {tok} {s} {e} h k = token-of h ∙ ap (λ (b : Bool). cond b (read tok e (c + 1)) (stopped TooManyTokens at)) (lt-ltb c tokenLimit k)
 
-  pub token-other : plainAt t (ltb 1 l) at ≡ absent → token t l c at ≡ alternatives t l c at
+  pub token-other : leafAt t (ltb 1 l) at ≡ absent → token t l c at ≡ alternatives t l c at
   unfolding tokenOr
   token-other h = token-of h
 
-  pub token-refuses : {r : Refusal} {p : ℕ} → plainAt t (ltb 1 l) at ≡ refused r p → token t l c at ≡ stopped r p
+  pub token-refuses : {r : Refusal} {p : ℕ} → leafAt t (ltb 1 l) at ≡ refused r p → token t l c at ≡ stopped r p
   unfolding tokenOr
   token-refuses h = token-of h
 
-  pub one-entry : {tok : Token} {s e : ℕ} → plainAt t (ltb 1 l) at ≡ found tok s e → length (entriesOf tok) ≡ 4
-  unfolding Flat
-  one-entry h = subst (λ (x : Seen Token). Flat x) h (plain-flat t (ltb 1 l) at)
+  pub one-entry : {tok : Token} {s e : ℕ} → leafAt t (ltb 1 l) at ≡ found tok s e → length (entriesOf tok) ≡ 4
+  unfolding OneEntry
+  one-entry h = subst (λ (x : Seen Token). OneEntry x) h (leaf-entry t (ltb 1 l) at)
 
   -- alternatives
   pub no-bracket : (getD t at 0 ≡ code "(" → ⊥) → alternatives t l c at ≡ missing

@@ -1,4 +1,5 @@
 -- Words written into a pool. Assumes nothing: this is a definition.
+-- To be believed: nothing.
 use mathlib.Core.List.{List, _++_}
 use Prim.Native.Nat.{ℕ, _+_}
 use lib.ListN.{length, take, drop}

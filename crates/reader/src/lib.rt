@@ -4,9 +4,9 @@
 use base::LEVEL_LIMIT;
 use base::Refusal;
 use base::TOKEN_LIMIT;
+use digits::Leaf;
+use digits::LeafGot;
 use digits::Mask;
-use digits::Piece;
-use digits::Plain;
 ghost use mathlib.Core.Path.{_≡_};
 ghost use mathlib.Core.List.{[], _∷_};
 ghost use Prim.Native.Nat.{_+_, _-_, _/_, _≤_, _<_};
@@ -68,32 +68,32 @@ fn wide(v: u8) -> u32
 }
 
 // Writes a token's entry, and says whether it is a jump.
-fn put_plain(pool: &mut [u32], n: usize, tok: Plain) -> bool
+fn put_leaf(pool: &mut [u32], n: usize, tok: Leaf) -> bool
     requires { ⌜ n + 4 ≤ length (now pool) ⌝ }
     ensures { λ r. ⌜ (r ≡ isJump (tokenOf tok)) × (now (pool .exit) ≡ written (now (pool .entry)) n (entriesOf (tokenOf tok))) ⌝ }
 {
     match tok {
-        Plain::Byte(v) => {
+        Leaf::Byte(v) => {
             put(pool, n, 0, wide(v), 0, 0);
             false
         }
-        Plain::NotByte(v) => {
+        Leaf::NotByte(v) => {
             put(pool, n, 1, wide(v), 0, 0);
             false
         }
-        Plain::MaskedByte(v, m) => {
+        Leaf::MaskedByte(v, m) => {
             put(pool, n, 2, wide(v), mask_number(m), 0);
             false
         }
-        Plain::NotMaskedByte(v, m) => {
+        Leaf::NotMaskedByte(v, m) => {
             put(pool, n, 3, wide(v), mask_number(m), 0);
             false
         }
-        Plain::Jump(from, to) => {
+        Leaf::Jump(from, to) => {
             put(pool, n, 4, from, to, 1);
             true
         }
-        Plain::OpenJump(from) => {
+        Leaf::OpenJump(from) => {
             put(pool, n, 4, from, 0, 0);
             true
         }
@@ -144,17 +144,17 @@ pub fn read_token(
     requires { ⌜ Room (length (now text)) at level count n (length (now pool)) × (level ≤ levelLimit) ⌝ }
     ensures { λ r. ⌜ TokenSays (token (now (text .entry)) level count at) n r (now (pool .entry)) (now (pool .exit)) ⌝ }
 {
-    let piece = digits::plain_token(text, at, 1 < level);
-    match piece {
-        Piece::Found(tok, _, end) => {
+    let leaf = digits::leaf_token(text, at, 1 < level);
+    match leaf {
+        LeafGot::Found(tok, _, end) => {
             if TOKEN_LIMIT <= count {
                 return TokenGot::Refused(Refusal::TooManyTokens, at);
             }
-            let jump = put_plain(pool, n, tok);
+            let jump = put_leaf(pool, n, tok);
             TokenGot::Read(end, n + 4, count + 1, jump)
         }
-        Piece::Absent => read_alternatives(text, at, level, count, pool, n),
-        Piece::Refused(code, place) => TokenGot::Refused(code, place),
+        LeafGot::Absent => read_alternatives(text, at, level, count, pool, n),
+        LeafGot::Refused(code, place) => TokenGot::Refused(code, place),
     }
 }
 

@@ -16,8 +16,8 @@ maskOf : ℕ → Mask
 maskOf b = cond (eqb b 0) left (cond (eqb b 1) right all)
 
 -- the token of one entry
-flat : ℕ → ℕ → ℕ → ℕ → Token
-flat k a b c =
+leafOf : ℕ → ℕ → ℕ → ℕ → Token
+leafOf k a b c =
     cond (eqb k 0) (Byte a) (cond (eqb k 1) (NotByte a) (cond (eqb k 2) (MaskedByte a (maskOf b)) (cond (eqb k 3) (NotMaskedByte a (maskOf b)) (Jump a (cond (eqb c 0) none (some b))))))
 
 -- the tokens of so many words; the first number bounds the depth of calls
@@ -27,7 +27,7 @@ mutual
   tokensF (suc f) [] = nothing
   tokensF (suc f) (k ∷ ws) =
       cond (eqb k 5) (Alternatives (listsF f (take (4 * getD ws 1 0) (drop 3 ws))) then tokensF f (drop (4 * getD ws 1 0) (drop 3 ws)))
-      (flat k (getD ws 0 0) (getD ws 1 0) (getD ws 2 0) then tokensF f (drop 3 ws))
+      (leafOf k (getD ws 0 0) (getD ws 1 0) (getD ws 2 0) then tokensF f (drop 3 ws))
 
   listsF : ℕ → List ℕ → Lists
   listsF zero ws = neither
@@ -42,7 +42,7 @@ part : (xs ys : List ℕ) → 4 * (length xs / 4) ≡ length xs → (take (4 * (
 part xs ys e = (take-at xs ys (4 * (length xs / 4)) (sym e), drop-at xs ys (4 * (length xs / 4)) (sym e))
 
 mutual
-  unfolding tokensF listsF flat maskOf entriesOf entries listEntries
+  unfolding tokensF listsF leafOf maskOf entriesOf entries listEntries
 
   token-back : (t : Token) (ws : List ℕ) (f : ℕ) → length (entriesOf t) ≤ f → tokensF (suc f) (entriesOf t ++ ws) ≡ t then tokensF f ws
   token-back (Byte v) ws f h = refl

@@ -14,22 +14,22 @@ use Rattle.meaning.specs.Limits.{textLimit, tokenLimit, levelLimit}
 use Rattle.meaning.specs.Tokens.{Token, Tokens, Lists, nothing, _then_, _or_}
 use Rattle.meaning.specs.Entries.{tokenCount}
 use Rattle.reading.specs.Blanks.{skip}
-use Rattle.reading.specs.Pieces.{Seen, found, absent, refused, digit, within, jumped, plainAt}
-use Rattle.reading.specs.Lists.{Parsed, read, missing, stopped, tokenOr, asToken, bracketed, before, listOf, beside, atBound, begins, ends, token, more, list, lists, Outcome, accepted, rejected, closing, reading}
+use Rattle.reading.specs.Pieces.{Seen, found, absent, refused, digit, within, jumped, leafAt}
+use Rattle.reading.specs.Lists.{Parsed, read, missing, stopped, tokenOr, asToken, bracketed, before, listOf, beside, atBound, jumpFirst, jumpLast, token, more, list, lists, Verdict, accepted, rejected, closing, reading}
 use Rattle.reading.specs.Given as given
 use Rattle.reading.proofs.PieceLaws.{never, here-at, skip-from}
 use Rattle.reading.proofs.PieceSteps.{range-else}
-use Rattle.reading.proofs.InToken.{plain-other, in-token-refuses, refused-in-token}
+use Rattle.reading.proofs.InToken.{leaf-other, in-token-refuses, refused-in-token}
 use Rattle.reading.proofs.ListSteps.{token-gone, list-gone, token-step, more-read, more-none, more-stopped, list-deep, list-of, lists-closed, lists-barred, lists-else, lists-missing, lists-stopped}
 use Rattle.reading.proofs.TextLaws.{text-long, text-unopened, text-opened, text-unclosed}
 
 -- no other token begins with `(`
-bracket-alone : (t : List ℕ) (inside : Bool) (at : ℕ) → getD t at 0 ≡ code "(" → plainAt t inside at ≡ absent
+bracket-alone : (t : List ℕ) (inside : Bool) (at : ℕ) → getD t at 0 ≡ code "(" → leafAt t inside at ≡ absent
 unfolding jumped digit within
-bracket-alone t inside at h = plain-other t inside at (code "(") h (λ z. omega arith) (λ z. omega arith) refl ∙ ap (jumped inside at) (range-else t at (λ z. let w : code "(" ≡ code "[" = sym h ∙ z in omega arith))
+bracket-alone t inside at h = leaf-other t inside at (code "(") h (λ z. omega arith) (λ z. omega arith) refl ∙ ap (jumped inside at) (range-else t at (λ z. let w : code "(" ≡ code "[" = sym h ∙ z in omega arith))
 
 module _ (t : List ℕ) (l c at : ℕ) where
-  token-by : {x : Seen Token} → plainAt t (ltb 1 l) at ≡ x → token t l c at ≡ tokenOr at c x (bracketed t at c (lists t (l + 1) (c + 1) (skip t (at + 1)) (skip t (at + 1))))
+  token-by : {x : Seen Token} → leafAt t (ltb 1 l) at ≡ x → token t l c at ≡ tokenOr at c x (bracketed t at c (lists t (l + 1) (c + 1) (skip t (at + 1)) (skip t (at + 1))))
   token-by e = token-step t l c at ∙ ap (λ (y : Seen Token). tokenOr at c y (bracketed t at c (lists t (l + 1) (c + 1) (skip t (at + 1)) (skip t (at + 1))))) e
 
   bracket-by : getD t at 0 ≡ code "(" → token t l c at ≡ cond (ltb c tokenLimit) (asToken (lists t (l + 1) (c + 1) (skip t (at + 1)) (skip t (at + 1)))) (stopped TooManyTokens at)
@@ -70,7 +70,7 @@ mutual
       stop-lists a r p (lists-barred t l c at miss h b ∙ ap (λ (y : ℕ). beside ts (lists t l d y e)) (sym i) ∙ ap (beside ts) q)
 
 bounded : (at e d : ℕ) (ts : Tokens) → atBound ts ≡ true → listOf at (read ts e d) ≡ stopped JumpAtBound at
-unfolding listOf atBound begins ends tokenCount
+unfolding listOf atBound jumpFirst jumpLast tokenCount
 bounded at e d nothing w = never (cc)
 bounded at e d (tok then ts) w = rw w
 
@@ -116,9 +116,9 @@ move {t} {r} {s} {p} {q} a b g = subst (λ (x : Refusal). given.Given t x p) a (
 module _ (t : List ℕ) (r : Refusal) (p : ℕ) where
   token-case : (l c at : ℕ) → given.Looked t l c at → (getD t at 0 ≡ code "(" → c < tokenLimit → lists t (l + 1) (c + 1) (skip t (at + 1)) (skip t (at + 1)) ≡ stopped r p → given.Given t r p) → token t l c at ≡ stopped r p → given.Given t r p
   unfolding tokenOr bracketed
-  token-case l c at k inner q = go (plainAt t (ltb 1 l) at) refl (ltb c tokenLimit) refl (eqb (getD t at 0) (code "(")) refl
+  token-case l c at k inner q = go (leafAt t (ltb 1 l) at) refl (ltb c tokenLimit) refl (eqb (getD t at 0) (code "(")) refl
     where
-      go : (x : Seen Token) → plainAt t (ltb 1 l) at ≡ x → (b : Bool) → ltb c tokenLimit ≡ b → (o : Bool) → eqb (getD t at 0) (code "(") ≡ o → given.Given t r p
+      go : (x : Seen Token) → leafAt t (ltb 1 l) at ≡ x → (b : Bool) → ltb c tokenLimit ≡ b → (o : Bool) → eqb (getD t at 0) (code "(") ≡ o → given.Given t r p
       go (found tok s e) i true j o w =
           let z : token t l c at ≡ read tok e (c + 1) = token-by t l c at i ∙ ap (λ (b : Bool). cond b (read tok e (c + 1)) (stopped TooManyTokens at)) j in
           never (cc)
@@ -160,17 +160,17 @@ module _ (t : List ℕ) (r : Refusal) (p : ℕ) where
       of : {x : Parsed Tokens} → more t l c at ≡ x → listOf at x ≡ stopped r p
       of i = sym (list-of t l c at (shallow b) ∙ ap (listOf at) i) ∙ q
 
-      ends : (tok : Token) (ts : Tokens) (e d : ℕ) → more t l c at ≡ read (tok then ts) e d → (w : Bool) → atBound (tok then ts) ≡ w → given.Given t r p
-      ends tok ts e d i true w =
+      jumpLast : (tok : Token) (ts : Tokens) (e d : ℕ) → more t l c at ≡ read (tok then ts) e d → (w : Bool) → atBound (tok then ts) ≡ w → given.Given t r p
+      jumpLast tok ts e d i true w =
           let z : stopped JumpAtBound at ≡ stopped r p = sym (bounded at e d (tok then ts) w) ∙ of i in
           move (cc) (cc) (given.jump-at-bound b i w)
-      ends tok ts e d i false w =
+      jumpLast tok ts e d i false w =
           let z : _≡_ {A = Parsed Tokens} (read (tok then ts) e d) (stopped r p) = sym (ap (λ (v : Bool). cond v (stopped JumpAtBound at) (read (tok then ts) e d)) w) ∙ of i in
           never (cc)
 
       go : (x : Parsed Tokens) → more t l c at ≡ x → given.Given t r p
       go (read nothing e d) i = let z = of i in never (cc)
-      go (read (tok then ts) e d) i = ends tok ts e d i (atBound (tok then ts)) refl
+      go (read (tok then ts) e d) i = jumpLast tok ts e d i (atBound (tok then ts)) refl
       go missing i = let z = of i in never (cc)
       go (stopped s y) i = within (i ∙ of i)
 
@@ -224,7 +224,7 @@ module _ (t : List ℕ) (r : Refusal) (p : ℕ) where
   rejected-given h = go (leb (length t) textLimit) (eqb (getD t 0 0) (code "{")) (list t 1 0 (skip t 1)) refl refl refl h
     where
       closes : (us : Tokens) (s c : ℕ) → length t ≤ textLimit → getD t 0 0 ≡ code "{" → list t 1 0 (skip t 1) ≡ read us s c → (d : Bool) → eqb (getD t s 0) (code "}") ≡ d
-          → _≡_ {A = Outcome} (cond d (accepted (skip t (s + 1)) us) (rejected Unexpected s)) (rejected r p) → given.Given t r p
+          → _≡_ {A = Verdict} (cond d (accepted (skip t (s + 1)) us) (rejected Unexpected s)) (rejected r p) → given.Given t r p
       closes us s c a b i true w h = never (cc)
       closes us s c a b i false w h = move (cc) (cc) (given.not-closed a b i (eqb-false (getD t s 0) (code "}") w))
 

@@ -14,25 +14,25 @@ use Rattle.base.specs.declared.Refusal.the-variants.{Unexpected, NumberTooBig, 
 use Rattle.meaning.specs.Limits.{numberLimit, innerJumpLimit}
 use Rattle.meaning.specs.Tokens.{left, right, all, Token}
 use Rattle.reading.specs.Blanks.{skip}
-use Rattle.reading.specs.Pieces.{Seen, found, absent, refused, Hex, whole, masked, Range, between, digit, within, twoDigits, byteAt, oneDigit, maskedAt, hexAt, negated, decimals, numeral, numberAt, checked, closedAt, upperAt, dashAt, lowerAt, rangeAt, jumpToken, jumped, plainly, plainAt, _else_, decimal}
+use Rattle.reading.specs.Pieces.{Seen, found, absent, refused, Hex, whole, masked, Range, between, digit, within, twoDigits, byteAt, oneDigit, maskedAt, hexAt, negated, decimals, numeral, numberAt, checked, closedAt, upperAt, dashAt, lowerAt, rangeAt, jumpToken, jumped, hexToken, leafAt, _else_, decimal}
 use Rattle.reading.specs.Given as given
 use Rattle.reading.proofs.PieceLaws.{never}
-use Rattle.reading.proofs.PieceSteps.{byte-none, masked-all, masked-no-right, hex-masked, not-else, not-hex, number-big, checked-empty, checked-wrong, checked-both, closed-at, dash-at, range-at, lower-closed, lower-dash, plain-not, byte-else, jumped-unbounded, jumped-big}
+use Rattle.reading.proofs.PieceSteps.{byte-none, masked-all, masked-no-right, hex-masked, not-else, not-hex, number-big, checked-empty, checked-wrong, checked-both, closed-at, dash-at, range-at, lower-closed, lower-dash, leaf-not, byte-else, jumped-unbounded, jumped-big}
 
 -- a byte that begins neither `~` token nor byte nor masked byte
-pub plain-other : (t : List ℕ) (inside : Bool) (at c : ℕ) → getD t at 0 ≡ c → (c ≡ code "~" → ⊥) → (c ≡ code "?" → ⊥) → digit c ≡ none → plainAt t inside at ≡ jumped inside at (rangeAt t at)
-unfolding _else_ plainly
-plain-other t inside at c h n m d =
+pub leaf-other : (t : List ℕ) (inside : Bool) (at c : ℕ) → getD t at 0 ≡ c → (c ≡ code "~" → ⊥) → (c ≡ code "?" → ⊥) → digit c ≡ none → leafAt t inside at ≡ jumped inside at (rangeAt t at)
+unfolding _else_ hexToken
+leaf-other t inside at c h n m d =
     let x : hexAt t at ≡ absent = hex-masked t at (byte-none t at (ap digit h ∙ d)) ∙ masked-no-right t at (λ z. m (sym h ∙ z)) (ap digit h ∙ d) in
-    plain-not t at inside (not-else t at (λ z. n (sym h ∙ z))) ∙ byte-else t at x _
+    leaf-not t at inside (not-else t at (λ z. n (sym h ∙ z))) ∙ byte-else t at x _
 
-plain-jump : (t : List ℕ) (inside : Bool) (at : ℕ) → getD t at 0 ≡ code "[" → {x : Seen Range} → rangeAt t at ≡ x → plainAt t inside at ≡ jumped inside at x
+leaf-jump : (t : List ℕ) (inside : Bool) (at : ℕ) → getD t at 0 ≡ code "[" → {x : Seen Range} → rangeAt t at ≡ x → leafAt t inside at ≡ jumped inside at x
 unfolding digit within
-plain-jump t inside at h q = plain-other t inside at (code "[") h (λ z. omega arith) (λ z. omega arith) refl ∙ ap (jumped inside at) q
+leaf-jump t inside at h q = leaf-other t inside at (code "[") h (λ z. omega arith) (λ z. omega arith) refl ∙ ap (jumped inside at) q
 
-plain-tilde : (t : List ℕ) (inside : Bool) (at : ℕ) → getD t at 0 ≡ code "~" → (x : Seen Hex) (r : Refusal) (p : ℕ) → hexAt t (at + 1) ≡ x → negated at x ≡ refused r p → plainAt t inside at ≡ refused r p
+leaf-tilde : (t : List ℕ) (inside : Bool) (at : ℕ) → getD t at 0 ≡ code "~" → (x : Seen Hex) (r : Refusal) (p : ℕ) → hexAt t (at + 1) ≡ x → negated at x ≡ refused r p → leafAt t inside at ≡ refused r p
 unfolding _else_
-plain-tilde t inside at h x r p q w = plain-not t at inside (not-hex t at h q ∙ w)
+leaf-tilde t inside at h x r p q w = leaf-not t at inside (not-hex t at h q ∙ w)
 
 -- a jump with its bounds is read so
 from-lower : (t : List ℕ) (at from x : ℕ) → getD t at 0 ≡ code "[" → given.From t (skip t (at + 1)) from x → getD t x 0 ≡ code "-" → rangeAt t at ≡ dashAt t at from x
@@ -63,18 +63,18 @@ not-both from to h = go (eqb from 0) (eqb to 0) refl refl
     go true false i j = refl
     go false b i j = refl
 
-pub in-token-refuses : {t : List ℕ} {inside : Bool} {at p : ℕ} {r : Refusal} → given.InToken t inside at r p → plainAt t inside at ≡ refused r p
+pub in-token-refuses : {t : List ℕ} {inside : Bool} {at p : ℕ} {r : Refusal} → given.InToken t inside at r p → leafAt t inside at ≡ refused r p
 unfolding negated jumped upperAt lowerAt checked digit within
-in-token-refuses {t} {inside} {at} (given.after-tilde h q) = plain-tilde t inside at h absent Unexpected (at + 1) q refl
+in-token-refuses {t} {inside} {at} (given.after-tilde h q) = leaf-tilde t inside at h absent Unexpected (at + 1) q refl
 in-token-refuses {t} {inside} {at} (given.tilde-all h k l) =
     let e : at + 1 + 1 ≡ at + 2 = omega arith in
-    plain-tilde t inside at h _ CannotNegateMaskAll at (hex-masked t (at + 1) (byte-none t (at + 1) (ap digit k)) ∙ masked-all t (at + 1) k (ap (λ (i : ℕ). getD t i 0) e ∙ l)) refl
-in-token-refuses {t} {inside} {at} (given.big-from h b) = plain-jump t inside at h (range-at t at (skip t (at + 1)) h refl (number-big t (skip t (at + 1)) (b .0) (b .1)))
-in-token-refuses {t} {inside} {at} (given.big-to {from = from} {x = x} h f d b) = plain-jump t inside at h (from-lower t at from x h f d ∙ dash-at t at from x (skip t (x + 1)) d refl (number-big t (skip t (x + 1)) (b .0) (b .1)))
-in-token-refuses {t} {inside} {at} (given.empty {stop = stop} j) = plain-jump t inside at (opens j) (jumps-range j ∙ checked-empty t at 0 0 stop both-zero)
-in-token-refuses {t} {inside} {at} (given.backwards {from = from} {to = to} {stop = stop} j h) = plain-jump t inside at (opens j) (jumps-range j ∙ checked-wrong t at from to stop (not-both from to (omega arith)) h)
-in-token-refuses {t} {inside} {at} (given.open-inside {from = from} {stop = stop} i j) = plain-jump t inside at (opens j) (jumps-range j) ∙ jumped-unbounded at from stop (skip t stop) inside i
-in-token-refuses {t} {inside} {at} (given.long-inside {from = from} {to = to} {stop = stop} i j h k) = plain-jump t inside at (opens j) (jumps-range j ∙ checked-both t at from to stop (not-both from to (omega arith)) h) ∙ jumped-big at from stop (skip t stop) inside to (rw (i, lt-ltb innerJumpLimit to k))
+    leaf-tilde t inside at h _ CannotNegateMaskAll at (hex-masked t (at + 1) (byte-none t (at + 1) (ap digit k)) ∙ masked-all t (at + 1) k (ap (λ (i : ℕ). getD t i 0) e ∙ l)) refl
+in-token-refuses {t} {inside} {at} (given.big-from h b) = leaf-jump t inside at h (range-at t at (skip t (at + 1)) h refl (number-big t (skip t (at + 1)) (b .0) (b .1)))
+in-token-refuses {t} {inside} {at} (given.big-to {from = from} {x = x} h f d b) = leaf-jump t inside at h (from-lower t at from x h f d ∙ dash-at t at from x (skip t (x + 1)) d refl (number-big t (skip t (x + 1)) (b .0) (b .1)))
+in-token-refuses {t} {inside} {at} (given.empty {stop = stop} j) = leaf-jump t inside at (opens j) (jumps-range j ∙ checked-empty t at 0 0 stop both-zero)
+in-token-refuses {t} {inside} {at} (given.backwards {from = from} {to = to} {stop = stop} j h) = leaf-jump t inside at (opens j) (jumps-range j ∙ checked-wrong t at from to stop (not-both from to (omega arith)) h)
+in-token-refuses {t} {inside} {at} (given.open-inside {from = from} {stop = stop} i j) = leaf-jump t inside at (opens j) (jumps-range j) ∙ jumped-unbounded at from stop (skip t stop) inside i
+in-token-refuses {t} {inside} {at} (given.long-inside {from = from} {to = to} {stop = stop} i j h k) = leaf-jump t inside at (opens j) (jumps-range j ∙ checked-both t at from to stop (not-both from to (omega arith)) h) ∙ jumped-big at from stop (skip t stop) inside to (rw (i, lt-ltb innerJumpLimit to k))
 
 -- `??` is two question marks, and no byte is refused
 unfoldable Hexed : List ℕ → ℕ → Seen Hex → Type 0
@@ -221,26 +221,26 @@ module _ (t : List ℕ) (at : ℕ) where
   jump-case inside r p absent h q = never (cc)
   jump-case inside r p (refused s y) h q = move (cc) (cc) (h inside)
 
-  tilde-case : (inside : Bool) (r : Refusal) (p : ℕ) → getD t at 0 ≡ code "~" → (x : Seen Hex) → hexAt t (at + 1) ≡ x → Hexed t (at + 1) x → plainAt t inside at ≡ refused r p → given.InToken t inside at r p
+  tilde-case : (inside : Bool) (r : Refusal) (p : ℕ) → getD t at 0 ≡ code "~" → (x : Seen Hex) → hexAt t (at + 1) ≡ x → Hexed t (at + 1) x → leafAt t inside at ≡ refused r p → given.InToken t inside at r p
   unfolding negated _else_ Hexed
-  tilde-case inside r p o (found (whole v) s e) j h q = let z = plain-not t at inside (not-hex t at o j) in never (cc)
-  tilde-case inside r p o (found (masked v left) s e) j h q = let z = plain-not t at inside (not-hex t at o j) in never (cc)
-  tilde-case inside r p o (found (masked v right) s e) j h q = let z = plain-not t at inside (not-hex t at o j) in never (cc)
+  tilde-case inside r p o (found (whole v) s e) j h q = let z = leaf-not t at inside (not-hex t at o j) in never (cc)
+  tilde-case inside r p o (found (masked v left) s e) j h q = let z = leaf-not t at inside (not-hex t at o j) in never (cc)
+  tilde-case inside r p o (found (masked v right) s e) j h q = let z = leaf-not t at inside (not-hex t at o j) in never (cc)
   tilde-case inside r p o (found (masked v all) s e) j h q =
-      let z = plain-not t at inside (not-hex t at o j) in
+      let z = leaf-not t at inside (not-hex t at o j) in
       let i : at + 2 ≡ at + 1 + 1 = omega arith in
       move (cc) (cc) (given.tilde-all o (h .0) (ap (λ (x : ℕ). getD t x 0) i ∙ h .1))
-  tilde-case inside r p o absent j h q = let z = plain-not t at inside (not-hex t at o j) in move (cc) (cc) (given.after-tilde o j)
+  tilde-case inside r p o absent j h q = let z = leaf-not t at inside (not-hex t at o j) in move (cc) (cc) (given.after-tilde o j)
   tilde-case inside r p o (refused s y) j h q = absurd h
 
-  other-case : (inside : Bool) (r : Refusal) (p : ℕ) → (getD t at 0 ≡ code "~" → ⊥) → (x : Seen Hex) → hexAt t at ≡ x → Hexed t at x → plainAt t inside at ≡ refused r p → given.InToken t inside at r p
-  unfolding plainly _else_ Hexed
-  other-case inside r p o (found (whole v) s e) j h q = let z = plain-not t at inside (not-else t at o) ∙ byte-else t at j _ in never (cc)
-  other-case inside r p o (found (masked v m) s e) j h q = let z = plain-not t at inside (not-else t at o) ∙ byte-else t at j _ in never (cc)
-  other-case inside r p o absent j h q = jump-case inside r p (rangeAt t at) ranged (sym (plain-not t at inside (not-else t at o) ∙ byte-else t at j _) ∙ q)
+  other-case : (inside : Bool) (r : Refusal) (p : ℕ) → (getD t at 0 ≡ code "~" → ⊥) → (x : Seen Hex) → hexAt t at ≡ x → Hexed t at x → leafAt t inside at ≡ refused r p → given.InToken t inside at r p
+  unfolding hexToken _else_ Hexed
+  other-case inside r p o (found (whole v) s e) j h q = let z = leaf-not t at inside (not-else t at o) ∙ byte-else t at j _ in never (cc)
+  other-case inside r p o (found (masked v m) s e) j h q = let z = leaf-not t at inside (not-else t at o) ∙ byte-else t at j _ in never (cc)
+  other-case inside r p o absent j h q = jump-case inside r p (rangeAt t at) ranged (sym (leaf-not t at inside (not-else t at o) ∙ byte-else t at j _) ∙ q)
   other-case inside r p o (refused s y) j h q = absurd h
 
-  pub refused-in-token : (inside : Bool) (r : Refusal) (p : ℕ) → plainAt t inside at ≡ refused r p → given.InToken t inside at r p
+  pub refused-in-token : (inside : Bool) (r : Refusal) (p : ℕ) → leafAt t inside at ≡ refused r p → given.InToken t inside at r p
   refused-in-token inside r p q = go (eqb (getD t at 0) (code "~")) refl
     where
       go : (b : Bool) → eqb (getD t at 0) (code "~") ≡ b → given.InToken t inside at r p

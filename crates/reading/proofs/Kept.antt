@@ -13,7 +13,7 @@ use lib.ListN.{getD}
 use Rattle.meaning.specs.Limits.{tokenLimit, levelLimit, innerJumpLimit}
 use Rattle.meaning.specs.Tokens.{Mask, left, right, all, Token, Tokens, Lists, Byte, NotByte, MaskedByte, NotMaskedByte, Jump, Alternatives, nothing, _then_, neither, _or_}
 use Rattle.reading.specs.Blanks.{skip}
-use Rattle.reading.specs.Pieces.{Seen, found, absent, refused, Hex, whole, masked, Range, between, digit, twoDigits, byteAt, oneDigit, maskedAt, hexAt, negated, notAt, numberAt, checked, closedAt, upperAt, dashAt, lowerAt, rangeAt, jumpToken, jumped, plainly, plainAt, _else_}
+use Rattle.reading.specs.Pieces.{Seen, found, absent, refused, Hex, whole, masked, Range, between, digit, twoDigits, byteAt, oneDigit, maskedAt, hexAt, negated, notAt, numberAt, checked, closedAt, upperAt, dashAt, lowerAt, rangeAt, jumpToken, jumped, hexToken, leafAt, _else_}
 use Rattle.reading.specs.Lists.{Parsed, read, missing, stopped, tokenOr, asToken, bracketed, before, thenMore, atBound, listOf, beside, thenLists, tokenF, moreF, listF, listsF, accepted, reading, enough}
 use Rattle.reading.proofs.PieceLaws.{digit-small}
 use Rattle.reading.proofs.TextLaws.{accepted-is}
@@ -145,12 +145,12 @@ module _ (One : Token → Type 0) (All : Tokens → Type 0) (Any : Lists → Typ
   piece-by true x y h k = h
   piece-by false x y h k = k
 
-  piece-plainly : (x : Seen Hex) → Small x → Piece (plainly x)
-  unfolding plainly Piece Small
-  piece-plainly (found (whole v) s e) h = keeps .byte v h
-  piece-plainly (found (masked v m) s e) h = keeps .masked-byte v m h
-  piece-plainly absent h = tt
-  piece-plainly (refused r p) h = tt
+  piece-hex-token : (x : Seen Hex) → Small x → Piece (hexToken x)
+  unfolding hexToken Piece Small
+  piece-hex-token (found (whole v) s e) h = keeps .byte v h
+  piece-hex-token (found (masked v m) s e) h = keeps .masked-byte v m h
+  piece-hex-token absent h = tt
+  piece-hex-token (refused r p) h = tt
 
   piece-negated : (at : ℕ) (x : Seen Hex) → Small x → Piece (negated at x)
   unfolding negated Piece Small
@@ -172,11 +172,11 @@ module _ (One : Token → Type 0) (All : Tokens → Type 0) (Any : Lists → Typ
   piece-jumped inside at absent h = tt
   piece-jumped inside at (refused r p) h = tt
 
-  piece-plain : (t : List ℕ) (inside : Bool) (at : ℕ) → Piece (plainAt t inside at)
-  unfolding plainAt notAt Piece
-  piece-plain t inside at =
+  piece-leaf : (t : List ℕ) (inside : Bool) (at : ℕ) → Piece (leafAt t inside at)
+  unfolding leafAt notAt Piece
+  piece-leaf t inside at =
       piece-else _ _ (piece-by (eqb (getD t at 0) (code "~")) _ _ (piece-negated at (hexAt t (at + 1)) (small-hex t (at + 1))) tt)
-      (piece-else _ _ (piece-plainly (hexAt t at) (small-hex t at)) (piece-jumped inside at (rangeAt t at) (rising-range t at)))
+      (piece-else _ _ (piece-hex-token (hexAt t at) (small-hex t at)) (piece-jumped inside at (rangeAt t at) (rising-range t at)))
 
   is-by : (b : Bool) (x y : Parsed Token) → Is x → Is y → Is (cond b x y)
   is-by true x y h k = h
@@ -243,7 +243,7 @@ module _ (One : Token → Type 0) (All : Tokens → Type 0) (Any : Lists → Typ
 
     token-kept : (f : ℕ) (t : List ℕ) (l c at : ℕ) → Is (tokenF f t l c at)
     token-kept zero t l c at = tt
-    token-kept (suc f) t l c at = is-or at c (plainAt t (ltb 1 l) at) _ (piece-plain t (ltb 1 l) at) (is-bracketed t at c _ (lists-kept f t (l + 1) (c + 1) (skip t (at + 1)) (skip t (at + 1))))
+    token-kept (suc f) t l c at = is-or at c (leafAt t (ltb 1 l) at) _ (piece-leaf t (ltb 1 l) at) (is-bracketed t at c _ (lists-kept f t (l + 1) (c + 1) (skip t (at + 1)) (skip t (at + 1))))
 
     more-kept : (f : ℕ) (t : List ℕ) (l c at : ℕ) → Are (moreF f t l c at)
     more-kept zero t l c at = tt

@@ -13,10 +13,10 @@ use Rattle.meaning.specs.Limits.{tokenLimit, levelLimit}
 use Rattle.meaning.specs.Tokens.{Token, Tokens, Lists, nothing, _then_, neither, _or_}
 use Rattle.meaning.specs.Entries.{entriesOf, entries, listEntries}
 use Rattle.reading.specs.Blanks.{skip}
-use Rattle.reading.specs.Pieces.{Seen, found, absent, refused, plainAt}
+use Rattle.reading.specs.Pieces.{Seen, found, absent, refused, leafAt}
 use Rattle.reading.specs.Lists.{Parsed, read, missing, stopped, tokenOr, asToken, bracketed, before, thenMore, atBound, listOf, beside, thenLists, tokenF, moreF, listF, listsF}
 use Rattle.reading.proofs.PieceLaws.{here-at, skip-from, skip-in}
-use Rattle.reading.proofs.PieceBounds.{Inside, plain-in, Flat, plain-flat}
+use Rattle.reading.proofs.PieceBounds.{Inside, leaf-in, OneEntry, leaf-entry}
 
 -- From offset `at` and count c on, up to e and d, with n words: two entries for each token counted, less k words. Each token has an entry,
 -- each list in brackets a mark, and each of those lists has a token of its own.
@@ -50,12 +50,12 @@ ListsIn t at c (stopped r p) = Unit {0}
 
 module _ (t : List ℕ) (at c : ℕ) where
   -- a token read whole
-  counted-in : (tok : Token) (s e : ℕ) (b : Bool) → ltb c tokenLimit ≡ b → Inside t at (found tok s e) → Flat (found tok s e) → (y : Parsed Token) → TokenIn t at c y → TokenIn t at c (cond b (read tok e (c + 1)) y)
-  unfolding TokenIn Inside Flat
+  counted-in : (tok : Token) (s e : ℕ) (b : Bool) → ltb c tokenLimit ≡ b → Inside t at (found tok s e) → OneEntry (found tok s e) → (y : Parsed Token) → TokenIn t at c y → TokenIn t at c (cond b (read tok e (c + 1)) y)
+  unfolding TokenIn Inside OneEntry
   counted-in tok s e true q h l y k = let u = ltb-true c tokenLimit q in record { moved = omega arith; inside = h .2; counted = omega arith; within = omega arith; room = omega arith }
   counted-in tok s e false q h l y k = k
 
-  or-in : (x : Seen Token) (y : Parsed Token) → Inside t at x → Flat x → TokenIn t at c y → TokenIn t at c (tokenOr at c x y)
+  or-in : (x : Seen Token) (y : Parsed Token) → Inside t at x → OneEntry x → TokenIn t at c y → TokenIn t at c (tokenOr at c x y)
   unfolding tokenOr TokenIn
   or-in (found tok s e) y h l k = counted-in tok s e (ltb c tokenLimit) refl h l _ tt
   or-in absent y h l k = k
@@ -136,7 +136,7 @@ mutual
 
   pub token-in : (f : ℕ) (t : List ℕ) (l c at : ℕ) → TokenIn t at c (tokenF f t l c at)
   token-in zero t l c at = tt
-  token-in (suc f) t l c at = or-in t at c (plainAt t (ltb 1 l) at) _ (plain-in t at (ltb 1 l)) (plain-flat t (ltb 1 l) at) (bracketed-in t at c _ (lists-in f t (l + 1) (c + 1) (skip t (at + 1)) (skip t (at + 1))))
+  token-in (suc f) t l c at = or-in t at c (leafAt t (ltb 1 l) at) _ (leaf-in t at (ltb 1 l)) (leaf-entry t (ltb 1 l) at) (bracketed-in t at c _ (lists-in f t (l + 1) (c + 1) (skip t (at + 1)) (skip t (at + 1))))
 
   pub more-in : (f : ℕ) (t : List ℕ) (l c at : ℕ) → MoreIn t at c (moreF f t l c at)
   more-in zero t l c at = tt

@@ -14,7 +14,7 @@ use Rattle.meaning.specs.Limits.{tokenLimit, levelLimit}
 use Rattle.meaning.specs.Tokens.{Token, Tokens, Lists, nothing, _then_, neither, _or_}
 use Rattle.meaning.specs.Entries.{entriesOf, entries}
 use Rattle.reading.specs.Blanks.{skip}
-use Rattle.reading.specs.Pieces.{plainAt}
+use Rattle.reading.specs.Pieces.{leafAt}
 use Rattle.reading.specs.Lists.{Parsed, read, missing, stopped, tokenOr, asToken, bracketed, before, thenMore, listOf, beside, thenLists, tokenF, moreF, listF, listsF, token, more, list, lists, enough}
 use Rattle.reading.proofs.PieceLaws.{here-at, skip-from}
 use Rattle.reading.proofs.ListBounds.{Gone, TokenIn, ListIn, token-in, list-in}
@@ -57,7 +57,7 @@ mutual
   same-token zero (suc g) t l c at h k = absurd (omega arith)
   same-token (suc f) zero t l c at h k = absurd (omega arith)
   same-token (suc f) (suc g) t l c at h k =
-      ap (tokenOr at c (plainAt t (ltb 1 l) at)) (bracketed-same t at c _ _ (λ q.
+      ap (tokenOr at c (leafAt t (ltb 1 l) at)) (bracketed-same t at c _ _ (λ q.
       let i = here-at t at (code "(") q (omega arith) in
       let s = skip-from t (at + 1) in
       same-lists f g t (l + 1) (c + 1) (skip t (at + 1)) (skip t (at + 1)) (omega arith) (omega arith)))
@@ -98,12 +98,12 @@ module _ (t : List ℕ) (l c at : ℕ) where
   list-gone q = gone-list (enough t at) t l c at q
 
   -- a token, by one step
-  pub token-step : token t l c at ≡ tokenOr at c (plainAt t (ltb 1 l) at) (bracketed t at c (lists t (l + 1) (c + 1) (skip t (at + 1)) (skip t (at + 1))))
+  pub token-step : token t l c at ≡ tokenOr at c (leafAt t (ltb 1 l) at) (bracketed t at c (lists t (l + 1) (c + 1) (skip t (at + 1)) (skip t (at + 1))))
   unfolding tokenF
   token-step =
       let n : enough t at ≡ suc (4 * (length t - at) + 3) = omega arith in
       ap (λ (f : ℕ). tokenF f t l c at) n
-      ∙ ap (tokenOr at c (plainAt t (ltb 1 l) at)) (bracketed-same t at c _ _ (λ q.
+      ∙ ap (tokenOr at c (leafAt t (ltb 1 l) at)) (bracketed-same t at c _ _ (λ q.
       let i = here-at t at (code "(") q (omega arith) in
       let s = skip-from t (at + 1) in
       same-lists (4 * (length t - at) + 3) (enough t (skip t (at + 1))) t (l + 1) (c + 1) (skip t (at + 1)) (skip t (at + 1)) (omega arith) (omega arith)))

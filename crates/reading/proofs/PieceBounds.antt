@@ -13,7 +13,7 @@ use Rattle.meaning.specs.Limits.{numberLimit, innerJumpLimit}
 use Rattle.meaning.specs.Tokens.{Mask, left, right, all, Token, MaskedByte, Jump}
 use Rattle.meaning.specs.Entries.{entriesOf}
 use Rattle.reading.specs.Blanks.{skip}
-use Rattle.reading.specs.Pieces.{Seen, found, absent, refused, upTo, Hex, whole, masked, Range, between, digit, twoDigits, byteAt, oneDigit, maskedAt, hexAt, negated, notAt, decimals, numeral, numberAt, checked, closedAt, upperAt, dashAt, lowerAt, rangeAt, jumpToken, jumped, plainly, plainAt, _else_, decimal}
+use Rattle.reading.specs.Pieces.{Seen, found, absent, refused, upTo, Hex, whole, masked, Range, between, digit, twoDigits, byteAt, oneDigit, maskedAt, hexAt, negated, notAt, decimals, numeral, numberAt, checked, closedAt, upperAt, dashAt, lowerAt, rangeAt, jumpToken, jumped, hexToken, leafAt, _else_, decimal}
 use Rattle.reading.proofs.PieceLaws.{here-at, here-in, within-true, skip-from, skip-in, decimals-le, number-next, digit-small}
 
 -- what is found begins at `at`, is not empty, and ends inside the text
@@ -74,12 +74,12 @@ module _ (t : List ℕ) (at : ℕ) where
   unfolding hexAt
   hex-in = in-else t at (byteAt t at) (maskedAt t at) byte-in masked-in
 
-  plainly-in : (x : Seen Hex) → Inside t at x → Inside t at (plainly x)
-  unfolding plainly Inside
-  plainly-in (found (whole v) s e) h = h
-  plainly-in (found (masked v m) s e) h = h
-  plainly-in absent h = tt
-  plainly-in (refused r p) h = tt
+  hex-token-in : (x : Seen Hex) → Inside t at x → Inside t at (hexToken x)
+  unfolding hexToken Inside
+  hex-token-in (found (whole v) s e) h = h
+  hex-token-in (found (masked v m) s e) h = h
+  hex-token-in absent h = tt
+  hex-token-in (refused r p) h = tt
 
   negated-in : (x : Seen Hex) → Inside t (at + 1) x → Inside t at (negated at x)
   unfolding negated Inside
@@ -149,63 +149,63 @@ module _ (t : List ℕ) (at : ℕ) where
   jumped-in inside absent h = tt
   jumped-in inside (refused r p) h = tt
 
-  pub plain-in : (inside : Bool) → Inside t at (plainAt t inside at)
-  unfolding plainAt
-  plain-in inside =
+  pub leaf-in : (inside : Bool) → Inside t at (leafAt t inside at)
+  unfolding leafAt
+  leaf-in inside =
       in-else t at (notAt t at) _ (not-in t at)
-      (in-else t at (plainly (hexAt t at)) _ (plainly-in t at (hexAt t at) (hex-in t at)) (jumped-in inside (rangeAt t at) range-in))
+      (in-else t at (hexToken (hexAt t at)) _ (hex-token-in t at (hexAt t at) (hex-in t at)) (jumped-in inside (rangeAt t at) range-in))
 
 -- what is found is one entry
-unfoldable pub Flat : Seen Token → Type 0
-Flat (found tok s e) = length (entriesOf tok) ≡ 4
-Flat absent = Unit {0}
-Flat (refused r p) = Unit {0}
+unfoldable pub OneEntry : Seen Token → Type 0
+OneEntry (found tok s e) = length (entriesOf tok) ≡ 4
+OneEntry absent = Unit {0}
+OneEntry (refused r p) = Unit {0}
 
-flat-else : (x y : Seen Token) → Flat x → Flat y → Flat (x else y)
-unfolding _else_ Flat
-flat-else (found v s e) y h k = h
-flat-else absent y h k = k
-flat-else (refused r p) y h k = tt
+entry-else : (x y : Seen Token) → OneEntry x → OneEntry y → OneEntry (x else y)
+unfolding _else_ OneEntry
+entry-else (found v s e) y h k = h
+entry-else absent y h k = k
+entry-else (refused r p) y h k = tt
 
-flat-by : (b : Bool) (x y : Seen Token) → Flat x → Flat y → Flat (cond b x y)
-flat-by true x y h k = h
-flat-by false x y h k = k
+entry-by : (b : Bool) (x y : Seen Token) → OneEntry x → OneEntry y → OneEntry (cond b x y)
+entry-by true x y h k = h
+entry-by false x y h k = k
 
-flat-plainly : (x : Seen Hex) → Flat (plainly x)
-unfolding plainly Flat entriesOf
-flat-plainly (found (whole v) s e) = refl
-flat-plainly (found (masked v m) s e) = refl
-flat-plainly absent = tt
-flat-plainly (refused r p) = tt
+entry-hex-token : (x : Seen Hex) → OneEntry (hexToken x)
+unfolding hexToken OneEntry entriesOf
+entry-hex-token (found (whole v) s e) = refl
+entry-hex-token (found (masked v m) s e) = refl
+entry-hex-token absent = tt
+entry-hex-token (refused r p) = tt
 
-flat-negated : (at : ℕ) (x : Seen Hex) → Flat (negated at x)
-unfolding negated Flat entriesOf
-flat-negated at (found (whole v) s e) = refl
-flat-negated at (found (masked v left) s e) = refl
-flat-negated at (found (masked v right) s e) = refl
-flat-negated at (found (masked v all) s e) = tt
-flat-negated at absent = tt
-flat-negated at (refused r p) = tt
+entry-negated : (at : ℕ) (x : Seen Hex) → OneEntry (negated at x)
+unfolding negated OneEntry entriesOf
+entry-negated at (found (whole v) s e) = refl
+entry-negated at (found (masked v left) s e) = refl
+entry-negated at (found (masked v right) s e) = refl
+entry-negated at (found (masked v all) s e) = tt
+entry-negated at absent = tt
+entry-negated at (refused r p) = tt
 
-flat-not : (t : List ℕ) (at : ℕ) → Flat (notAt t at)
-unfolding notAt Flat
-flat-not t at = flat-by (eqb (getD t at 0) (code "~")) _ _ (flat-negated at (hexAt t (at + 1))) tt
+entry-not : (t : List ℕ) (at : ℕ) → OneEntry (notAt t at)
+unfolding notAt OneEntry
+entry-not t at = entry-by (eqb (getD t at 0) (code "~")) _ _ (entry-negated at (hexAt t (at + 1))) tt
 
-flat-token : (from to s e : ℕ) → Flat (found (jumpToken from to) s e)
-unfolding jumpToken Flat entriesOf
-flat-token from to s e = go (eqb from 1 && eqb to 1)
+entry-jump : (from to s e : ℕ) → OneEntry (found (jumpToken from to) s e)
+unfolding jumpToken OneEntry entriesOf
+entry-jump from to s e = go (eqb from 1 && eqb to 1)
   where
     go : (b : Bool) → length (entriesOf (cond b (MaskedByte 0 all) (Jump from (some to)))) ≡ 4
     go true = refl
     go false = refl
 
-flat-jumped : (inside : Bool) (at : ℕ) (x : Seen Range) → Flat (jumped inside at x)
-unfolding jumped Flat entriesOf
-flat-jumped inside at (found (between from none) s e) = flat-by inside _ _ tt refl
-flat-jumped inside at (found (between from (some to)) s e) = flat-by (inside && ltb innerJumpLimit to) _ _ tt (flat-token from to s e)
-flat-jumped inside at absent = tt
-flat-jumped inside at (refused r p) = tt
+entry-jumped : (inside : Bool) (at : ℕ) (x : Seen Range) → OneEntry (jumped inside at x)
+unfolding jumped OneEntry entriesOf
+entry-jumped inside at (found (between from none) s e) = entry-by inside _ _ tt refl
+entry-jumped inside at (found (between from (some to)) s e) = entry-by (inside && ltb innerJumpLimit to) _ _ tt (entry-jump from to s e)
+entry-jumped inside at absent = tt
+entry-jumped inside at (refused r p) = tt
 
-pub plain-flat : (t : List ℕ) (inside : Bool) (at : ℕ) → Flat (plainAt t inside at)
-unfolding plainAt
-plain-flat t inside at = flat-else (notAt t at) _ (flat-not t at) (flat-else (plainly (hexAt t at)) _ (flat-plainly (hexAt t at)) (flat-jumped inside at (rangeAt t at)))
+pub leaf-entry : (t : List ℕ) (inside : Bool) (at : ℕ) → OneEntry (leafAt t inside at)
+unfolding leafAt
+leaf-entry t inside at = entry-else (notAt t at) _ (entry-not t at) (entry-else (hexToken (hexAt t at)) _ (entry-hex-token (hexAt t at)) (entry-jumped inside at (rangeAt t at)))

@@ -12,7 +12,7 @@ use Rattle.base.specs.declared.Refusal.the-variants.{NumberTooBig, JumpEmpty, J
 use Rattle.meaning.specs.Limits.{numberLimit, innerJumpLimit}
 use Rattle.meaning.specs.Tokens.{left, right, all, Token, Jump}
 use Rattle.reading.specs.Blanks.{skip}
-use Rattle.reading.specs.Pieces.{Seen, found, absent, refused, Hex, whole, masked, between, digit, twoDigits, byteAt, oneDigit, maskedAt, hexAt, negated, notAt, decimals, numeral, numberAt, checked, closedAt, upperAt, dashAt, lowerAt, rangeAt, jumpToken, jumped, plainly, plainAt, _else_, decimal}
+use Rattle.reading.specs.Pieces.{Seen, found, absent, refused, Hex, whole, masked, between, digit, twoDigits, byteAt, oneDigit, maskedAt, hexAt, negated, notAt, decimals, numeral, numberAt, checked, closedAt, upperAt, dashAt, lowerAt, rangeAt, jumpToken, jumped, hexToken, leafAt, _else_, decimal}
 
 module _ (t : List ℕ) (at : ℕ) where
   pub byte-none : digit (getD t at 0) ≡ none → byteAt t at ≡ absent
@@ -131,11 +131,11 @@ module _ (t : List ℕ) (at : ℕ) where
   unfolding lowerAt
   lower-dash x n s e d = simp (ne-eqb (getD t e 0) (code "]") d)
 
-  pub plain-not : (inside : Bool) {x : Seen Token} → notAt t at ≡ x → plainAt t inside at ≡ (x else (plainly (hexAt t at) else jumped inside at (rangeAt t at)))
-  unfolding plainAt
-  plain-not inside e = rw e
+  pub leaf-not : (inside : Bool) {x : Seen Token} → notAt t at ≡ x → leafAt t inside at ≡ (x else (hexToken (hexAt t at) else jumped inside at (rangeAt t at)))
+  unfolding leafAt
+  leaf-not inside e = rw e
 
-  pub byte-else : {x : Seen Hex} → hexAt t at ≡ x → (y : Seen Token) → (plainly (hexAt t at) else y) ≡ (plainly x else y)
+  pub byte-else : {x : Seen Hex} → hexAt t at ≡ x → (y : Seen Token) → (hexToken (hexAt t at) else y) ≡ (hexToken x else y)
   byte-else e y = rw e
 
 module _ (at from s e : ℕ) where

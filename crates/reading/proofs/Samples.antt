@@ -7,15 +7,15 @@ use lib.Dec.{eqb}
 use Rattle.base.specs.Refusals.{numberOf}
 use Rattle.base.specs.Text.{ascii}
 use Rattle.reading.specs.Blanks.{blank, blanks, skip}
-use Rattle.reading.specs.Pieces.{within, digit, twoDigits, byteAt, oneDigit, maskedAt, hexAt, plainly, negated, notAt, decimals, numeral, numberAt, checked, closedAt, upperAt, dashAt, lowerAt, rangeAt, jumpToken, jumped, plainAt, _else_}
-use Rattle.reading.specs.Lists.{tokenOr, asToken, bracketed, before, thenMore, isJump, begins, endsIn, ends, atBound, listOf, beside, thenLists, tokenF, moreF, listF, listsF, closing, reading, Outcome, accepted, rejected}
+use Rattle.reading.specs.Pieces.{within, digit, twoDigits, byteAt, oneDigit, maskedAt, hexAt, hexToken, negated, notAt, decimals, numeral, numberAt, checked, closedAt, upperAt, dashAt, lowerAt, rangeAt, jumpToken, jumped, leafAt, _else_}
+use Rattle.reading.specs.Lists.{tokenOr, asToken, bracketed, before, thenMore, isJump, jumpFirst, jumpLastIn, jumpLast, atBound, listOf, beside, thenLists, tokenF, moreF, listF, listsF, closing, reading, Verdict, accepted, rejected}
 use Rattle.meaning.specs.Entries.{tokenCount}
 
 -- a text, and the refusal's number and place; or 0 and the offset reached
 pub data Sample : Type 0 where
   gives : List ℕ → ℕ → ℕ → Sample
 
-pub answered : Outcome → ℕ → ℕ → Bool
+pub answered : Verdict → ℕ → ℕ → Bool
 answered (accepted e ts) n p = eqb 0 n && eqb e p
 answered (rejected r x) n p = eqb (numberOf r) n && eqb x p
 
@@ -42,5 +42,5 @@ samples =
     gives (ascii "{ AB [4294967295] CD }") 0 22 ∷ []
 
 pub samples-hold : every samples ≡ true
-unfolding samples every right answered blank blanks skip within digit twoDigits byteAt oneDigit maskedAt hexAt plainly negated notAt decimals numeral numberAt checked closedAt upperAt dashAt lowerAt rangeAt jumpToken jumped plainAt _else_ tokenOr asToken bracketed before thenMore isJump begins endsIn ends atBound listOf beside thenLists tokenF moreF listF listsF closing reading tokenCount
+unfolding samples every right answered blank blanks skip within digit twoDigits byteAt oneDigit maskedAt hexAt hexToken negated notAt decimals numeral numberAt checked closedAt upperAt dashAt lowerAt rangeAt jumpToken jumped leafAt _else_ tokenOr asToken bracketed before thenMore isJump jumpFirst jumpLastIn jumpLast atBound listOf beside thenLists tokenF moreF listF listsF closing reading tokenCount
 samples-hold = refl

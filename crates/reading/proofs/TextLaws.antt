@@ -13,7 +13,7 @@ use Rattle.meaning.specs.Limits.{textLimit}
 use Rattle.meaning.specs.Tokens.{Tokens}
 use Rattle.meaning.specs.Entries.{entries}
 use Rattle.reading.specs.Blanks.{skip}
-use Rattle.reading.specs.Lists.{Parsed, read, missing, stopped, list, Outcome, accepted, rejected, closing, reading}
+use Rattle.reading.specs.Lists.{Parsed, read, missing, stopped, list, Verdict, accepted, rejected, closing, reading}
 use Rattle.reading.proofs.PieceLaws.{never, here-at, skip-in}
 use Rattle.reading.proofs.ListSteps.{list-gone}
 
@@ -50,7 +50,7 @@ pub record Accepted (t : List ℕ) (e : ℕ) (ts : Tokens) : Type 0 where
   pub reached : e ≡ skip t (stop + 1)
 
 closes : (t : List ℕ) (e : ℕ) (ts us : Tokens) (s c : ℕ) (d : Bool) → length t ≤ textLimit → getD t 0 0 ≡ code "{" → list t 1 0 (skip t 1) ≡ read us s c → eqb (getD t s 0) (code "}") ≡ d
-    → _≡_ {A = Outcome} (cond d (accepted (skip t (s + 1)) us) (rejected Unexpected s)) (accepted e ts) → Accepted t e ts
+    → _≡_ {A = Verdict} (cond d (accepted (skip t (s + 1)) us) (rejected Unexpected s)) (accepted e ts) → Accepted t e ts
 closes t e ts us s c true a b i w h =
     let q : us ≡ ts = cc in
     let r : skip t (s + 1) ≡ e = cc in

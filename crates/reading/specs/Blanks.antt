@@ -1,4 +1,5 @@
 -- Blanks. Assumes nothing: these are definitions.
+-- To be believed: nothing.
 use mathlib.Core.Bool.{Bool, cond, _||_}
 use mathlib.Core.List.{List, [], _∷_}
 use Prim.Native.Char.{code}

@@ -1,5 +1,6 @@
 -- When each refusal is given, by what the readers read and the places to which they come: a tool for the proofs. 01's table is said over the
 -- grammar, in crate grammar, and is the same. Assumes nothing: these are definitions.
+-- To be believed: nothing.
 use mathlib.Core.Path.{_≡_}
 use mathlib.Core.Bool.{Bool, true}
 use mathlib.Core.Option.{Option, none, some}
@@ -13,7 +14,7 @@ use Rattle.base.specs.declared.Refusal.the-variants.{TextTooLong, Unexpected, N
 use Rattle.meaning.specs.Limits.{textLimit, tokenLimit, levelLimit, numberLimit, innerJumpLimit}
 use Rattle.meaning.specs.Tokens.{Token, Tokens}
 use Rattle.reading.specs.Blanks.{here, skip}
-use Rattle.reading.specs.Pieces.{found, absent, hexAt, decimal, numeral, numberAt, plainAt}
+use Rattle.reading.specs.Pieces.{found, absent, hexAt, decimal, numeral, numberAt, leafAt}
 use Rattle.reading.specs.Lists.{read, missing, token, more, list, atBound}
 
 -- before a jump's dash: a number that ends before x with its blanks; or none, for 0
@@ -80,5 +81,5 @@ pub data Given (t : List ℕ) : Refusal → ℕ → Type 0 where
   -- 10: a ninth level
   too-deep : {level count at miss : ℕ} → InBrackets t level count at miss → levelLimit < level → Given t HexStringTooDeep at
   -- 11: a token read whole, or a `(`, after 512 tokens
-  too-many : {level count at s e : ℕ} {tok : Token} → Looked t level count at → tokenLimit ≤ count → plainAt t (ltb 1 level) at ≡ found tok s e → Given t TooManyTokens at
+  too-many : {level count at s e : ℕ} {tok : Token} → Looked t level count at → tokenLimit ≤ count → leafAt t (ltb 1 level) at ≡ found tok s e → Given t TooManyTokens at
   too-many-brackets : {level count at : ℕ} → Looked t level count at → tokenLimit ≤ count → here t at ≡ code "(" → Given t TooManyTokens at

@@ -1,4 +1,5 @@
 -- Tokens, lists, alternatives, and the whole text. Assumes nothing: these are definitions.
+-- To be believed: `Verdict`.
 use mathlib.Core.Bool.{Bool, true, false, cond, _&&_, _||_}
 use mathlib.Core.List.{List}
 use Prim.Native.Char.{code}
@@ -11,7 +12,7 @@ use Rattle.meaning.specs.Limits.{textLimit, tokenLimit, levelLimit}
 use Rattle.meaning.specs.Tokens.{Token, Tokens, Lists, Byte, NotByte, MaskedByte, NotMaskedByte, Jump, Alternatives, nothing, _then_, neither, _or_}
 use Rattle.meaning.specs.Entries.{tokenCount}
 use Rattle.reading.specs.Blanks.{here, skip}
-use Rattle.reading.specs.Pieces.{Seen, found, absent, refused, plainAt}
+use Rattle.reading.specs.Pieces.{Seen, found, absent, refused, leafAt}
 
 -- what was read, the offset after it and its blanks, and the tokens counted by then; nothing there; or a refusal and its place
 pub data Parsed (A : Type 0) : Type 0 where
@@ -54,21 +55,21 @@ isJump (NotMaskedByte v m) = false
 isJump (Jump from to) = true
 isJump (Alternatives ls) = false
 
-unfoldable pub begins : Tokens → Bool
-begins nothing = false
-begins (tok then ts) = isJump tok
+unfoldable pub jumpFirst : Tokens → Bool
+jumpFirst nothing = false
+jumpFirst (tok then ts) = isJump tok
 
-unfoldable pub endsIn : Token → Tokens → Bool
-endsIn tok nothing = isJump tok
-endsIn tok (next then ts) = endsIn next ts
+unfoldable pub jumpLastIn : Token → Tokens → Bool
+jumpLastIn tok nothing = isJump tok
+jumpLastIn tok (next then ts) = jumpLastIn next ts
 
-unfoldable pub ends : Tokens → Bool
-ends nothing = false
-ends (tok then ts) = endsIn tok ts
+unfoldable pub jumpLast : Tokens → Bool
+jumpLast nothing = false
+jumpLast (tok then ts) = jumpLastIn tok ts
 
 -- a list begins with a jump, or has two or more tokens and ends with one
 unfoldable pub atBound : Tokens → Bool
-atBound ts = begins ts || (leb 2 (tokenCount ts) && ends ts)
+atBound ts = jumpFirst ts || (leb 2 (tokenCount ts) && jumpLast ts)
 
 -- a list without a token is missing, and who needs it says where; one with a jump at its bounds is refused at its first byte
 unfoldable pub listOf : ℕ → Parsed Tokens → Parsed Tokens
@@ -98,7 +99,7 @@ unfoldable mutual
   pub tokenF : ℕ → List ℕ → ℕ → ℕ → ℕ → Parsed Token
   tokenF zero t level count at = missing
   tokenF (suc f) t level count at =
-      tokenOr at count (plainAt t (ltb 1 level) at) (bracketed t at count (listsF f t (level + 1) (count + 1) (skip t (at + 1)) (skip t (at + 1))))
+      tokenOr at count (leafAt t (ltb 1 level) at) (bracketed t at count (listsF f t (level + 1) (count + 1) (skip t (at + 1)) (skip t (at + 1))))
 
   pub moreF : ℕ → List ℕ → ℕ → ℕ → ℕ → Parsed Tokens
   moreF zero t level count at = missing
@@ -129,18 +130,18 @@ abbrev pub lists : List ℕ → ℕ → ℕ → ℕ → ℕ → Parsed Lists
 lists t level count at miss = listsF (enough t at) t level count at miss
 
 -- the offset reached and the tokens, or a refusal and its place
-pub data Outcome : Type 0 where
-  accepted : ℕ → Tokens → Outcome
-  rejected : Refusal → ℕ → Outcome
+pub data Verdict : Type 0 where
+  accepted : ℕ → Tokens → Verdict
+  rejected : Refusal → ℕ → Verdict
 
 -- after the outer list that begins at `at`: `}` and blanks, and the rest is ignored
-unfoldable pub closing : List ℕ → ℕ → Parsed Tokens → Outcome
+unfoldable pub closing : List ℕ → ℕ → Parsed Tokens → Verdict
 closing t at (read ts e count) = cond (eqb (here t e) (code "}")) (accepted (skip t (e + 1)) ts) (rejected Unexpected e)
 closing t at missing = rejected Unexpected at
 closing t at (stopped r p) = rejected r p
 
 -- a whole text, of at most 4,096 bytes: `{` with nothing before it, and the outer list
-unfoldable pub reading : List ℕ → Outcome
+unfoldable pub reading : List ℕ → Verdict
 reading t =
     cond (leb (length t) textLimit)
     (cond (eqb (here t 0) (code "{")) (closing t (skip t 1) (list t 1 0 (skip t 1))) (rejected Unexpected 0))

@@ -1,4 +1,5 @@
 -- The small readers: bytes, masked bytes, numbers, jumps. Assumes nothing: these are definitions.
+-- To be believed: nothing.
 use mathlib.Core.Bool.{Bool, cond, _&&_}
 use mathlib.Core.Option.{Option, none, some}
 use mathlib.Core.List.{List, [], _∷_}
@@ -66,11 +67,11 @@ maskedAt t at =
 unfoldable pub hexAt : List ℕ → ℕ → Seen Hex
 hexAt t at = byteAt t at else maskedAt t at
 
-unfoldable pub plainly : Seen Hex → Seen Token
-plainly (found (whole v) s e) = found (Byte v) s e
-plainly (found (masked v m) s e) = found (MaskedByte v m) s e
-plainly absent = absent
-plainly (refused r p) = refused r p
+unfoldable pub hexToken : Seen Hex → Seen Token
+hexToken (found (whole v) s e) = found (Byte v) s e
+hexToken (found (masked v m) s e) = found (MaskedByte v m) s e
+hexToken absent = absent
+hexToken (refused r p) = refused r p
 
 -- after a `~` at `at`: `~??` is refused at the `~`; what else goes wrong is missed at the next byte
 unfoldable pub negated : ℕ → Seen Hex → Seen Token
@@ -148,6 +149,6 @@ jumped inside at (found (between from (some to)) s e) = cond (inside && ltb inne
 jumped inside at absent = absent
 jumped inside at (refused r p) = refused r p
 
--- a token other than alternatives: `~` token, byte, masked byte, jump
-unfoldable pub plainAt : List ℕ → Bool → ℕ → Seen Token
-plainAt t inside at = notAt t at else (plainly (hexAt t at) else jumped inside at (rangeAt t at))
+-- a leaf, that is a token other than alternatives: `~` token, byte, masked byte, jump
+unfoldable pub leafAt : List ℕ → Bool → ℕ → Seen Token
+leafAt t inside at = notAt t at else (hexToken (hexAt t at) else jumped inside at (rangeAt t at))

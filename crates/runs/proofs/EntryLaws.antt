@@ -1,4 +1,4 @@
--- The entries of tokens are whole, and are taken for those tokens as far as the choice asks: of a jump only that it closes a run.
+-- The entries of tokens are whole, and are taken for those tokens as far as picking asks: of a jump only that it closes a run.
 -- Assumes nothing.
 use mathlib.Core.Path.{_≡_, refl, sym, ap, ap₂, _∙_, subst}
 use mathlib.Core.Bool.{Bool, true, _&&_}
@@ -17,10 +17,10 @@ use Rattle.meaning.proofs.SoundLaws.{and-left, and-right}
 use Rattle.meaning.proofs.TokenLaws.{fours, fours-in}
 use Rattle.meaning.proofs.ValueLaws.{any-spelled}
 use Rattle.picking.specs.Literals.{isPlain, plainList, plainLists}
-use Rattle.picking.specs.Runs.{closes, isAlternatives, plainInside, plain, segmented, segments}
+use Rattle.picking.specs.Runs.{closes, isAlternatives, plainInside, plainAlternatives, segmented, segments}
 use Rattle.classes.specs.Entry.{maskIn, entryToken}
-use Rattle.entries.specs.Words.{flatIn, ends, inside, listsIn, width, tokensIn}
-use Rattle.entries.proofs.StepLaws.{flat-end, flat-step, lists-end, lists-step, tokens-end, tokens-step, width-inside}
+use Rattle.entries.specs.Words.{branchIn, ends, inside, listsIn, width, tokensIn}
+use Rattle.entries.proofs.StepLaws.{branch-end, branch-step, lists-end, lists-step, tokens-end, tokens-step, width-inside}
 use Rattle.entries.proofs.PlainLaws.{token-alternatives, token-entry}
 use Rattle.classes.proofs.KindLaws.{entry-inside}
 use Rattle.runs.specs.Whole.{Whole, none, more}
@@ -41,8 +41,8 @@ module _ (k n b : ℕ) (E L : List ℕ) (h : 4 * b ≡ length E) where
 
 -- ---- one entry at the front
 
-flat-cons : (k v m c : ℕ) (W : List ℕ) → flatIn (k ∷ v ∷ m ∷ c ∷ W) ≡ entryToken k v m then flatIn W
-flat-cons k v m c W = flat-step (k ∷ v ∷ m ∷ c ∷ W) (omega arith)
+branch-cons : (k v m c : ℕ) (W : List ℕ) → branchIn (k ∷ v ∷ m ∷ c ∷ W) ≡ entryToken k v m then branchIn W
+branch-cons k v m c W = branch-step (k ∷ v ∷ m ∷ c ∷ W) (omega arith)
 
 width-cons : (k v m c : ℕ) (W : List ℕ) → (k ≡ 5 → ⊥) → width (k ∷ v ∷ m ∷ c ∷ W) ≡ 4
 unfolding width
@@ -60,9 +60,9 @@ tokens-box n b E L h =
     (token-alternatives (5 ∷ n ∷ b ∷ 0 ∷ (E ++ L)) refl ∙ ap (λ (x : List ℕ). Alternatives (listsIn x)) (box-inside 5 n b E L h))
     (ap (λ (x : ℕ). drop x (5 ∷ n ∷ b ∷ 0 ∷ (E ++ L))) (width-inside (5 ∷ n ∷ b ∷ 0 ∷ (E ++ L)) refl) ∙ box-rest 5 n b E L h)
 
-lists-box : (k n b : ℕ) (E L : List ℕ) → 4 * b ≡ length E → listsIn (k ∷ n ∷ b ∷ 0 ∷ (E ++ L)) ≡ flatIn E or listsIn L
+lists-box : (k n b : ℕ) (E L : List ℕ) → 4 * b ≡ length E → listsIn (k ∷ n ∷ b ∷ 0 ∷ (E ++ L)) ≡ branchIn E or listsIn L
 lists-box k n b E L h =
-    lists-step (k ∷ n ∷ b ∷ 0 ∷ (E ++ L)) (omega arith) ∙ ap₂ (λ (x y : List ℕ). flatIn x or listsIn y) (box-inside k n b E L h) (box-rest k n b E L h)
+    lists-step (k ∷ n ∷ b ∷ 0 ∷ (E ++ L)) (omega arith) ∙ ap₂ (λ (x y : List ℕ). branchIn x or listsIn y) (box-inside k n b E L h) (box-rest k n b E L h)
 
 -- ---- whole
 
@@ -103,37 +103,37 @@ other-number v left = refl
 other-number v right = refl
 other-number v all = refl
 
-flat-plain : (ts : Tokens) → plainList (flatIn (entries ts)) ≡ plainList ts
+branch-plain : (ts : Tokens) → plainList (branchIn (entries ts)) ≡ plainList ts
 unfolding entries plainList isPlain entryToken
-flat-plain nothing = ap plainList (flat-end [] (omega arith))
-flat-plain (Byte v then ts) = ap plainList (flat-cons 0 v 0 0 (entries ts)) ∙ flat-plain ts
-flat-plain (NotByte v then ts) = ap plainList (flat-cons 1 v 0 0 (entries ts)) ∙ flat-plain ts
-flat-plain (MaskedByte v m then ts) = ap plainList (flat-cons 2 v (maskNumber m) 0 (entries ts)) ∙ ap₂ (λ (a b : Bool). a && b) (half-number v m) (flat-plain ts)
-flat-plain (NotMaskedByte v m then ts) = ap plainList (flat-cons 3 v (maskNumber m) 0 (entries ts)) ∙ ap₂ (λ (a b : Bool). a && b) (other-number v m) (flat-plain ts)
-flat-plain (Jump from nowhere then ts) = ap plainList (flat-cons 4 from 0 0 (entries ts))
-flat-plain (Jump from (some to) then ts) = ap plainList (flat-cons 4 from to 1 (entries ts))
-flat-plain (Alternatives ls then ts) = ap plainList (flat-cons 5 (listCount ls) (length (listEntries ls) / 4) 0 (listEntries ls ++ entries ts))
+branch-plain nothing = ap plainList (branch-end [] (omega arith))
+branch-plain (Byte v then ts) = ap plainList (branch-cons 0 v 0 0 (entries ts)) ∙ branch-plain ts
+branch-plain (NotByte v then ts) = ap plainList (branch-cons 1 v 0 0 (entries ts)) ∙ branch-plain ts
+branch-plain (MaskedByte v m then ts) = ap plainList (branch-cons 2 v (maskNumber m) 0 (entries ts)) ∙ ap₂ (λ (a b : Bool). a && b) (half-number v m) (branch-plain ts)
+branch-plain (NotMaskedByte v m then ts) = ap plainList (branch-cons 3 v (maskNumber m) 0 (entries ts)) ∙ ap₂ (λ (a b : Bool). a && b) (other-number v m) (branch-plain ts)
+branch-plain (Jump from nowhere then ts) = ap plainList (branch-cons 4 from 0 0 (entries ts))
+branch-plain (Jump from (some to) then ts) = ap plainList (branch-cons 4 from to 1 (entries ts))
+branch-plain (Alternatives ls then ts) = ap plainList (branch-cons 5 (listCount ls) (length (listEntries ls) / 4) 0 (listEntries ls ++ entries ts))
 
 lists-plain : (ls : Lists) → plainLists (listsIn (listEntries ls)) ≡ plainLists ls
 unfolding entries plainLists
 lists-plain neither = ap plainLists (lists-end [] (omega arith))
 lists-plain (ts or ls) =
-    ap plainLists (lists-box 6 (tokenCount ts) (length (entries ts) / 4) (entries ts) (listEntries ls) (fours ts)) ∙ ap₂ (λ (a b : Bool). a && b) (flat-plain ts) (lists-plain ls)
+    ap plainLists (lists-box 6 (tokenCount ts) (length (entries ts) / 4) (entries ts) (listEntries ls) (fours ts)) ∙ ap₂ (λ (a b : Bool). a && b) (branch-plain ts) (lists-plain ls)
 
 -- 19 is decided on the entries as on the tokens
-pub plain-entries : (ts : Tokens) → plain (tokensIn (entries ts)) ≡ plain ts
-unfolding entries plain plainInside
-plain-entries nothing = ap plain (tokens-end [] (omega arith))
-plain-entries (Byte v then ts) = ap plain (tokens-cons 0 v 0 0 (entries ts) (not-5 0 (omega arith))) ∙ ap₂ (λ (a b : Bool). a && b) (entry-inside 0 v 0) (plain-entries ts)
-plain-entries (NotByte v then ts) = ap plain (tokens-cons 1 v 0 0 (entries ts) (not-5 1 (omega arith))) ∙ ap₂ (λ (a b : Bool). a && b) (entry-inside 1 v 0) (plain-entries ts)
+pub plain-entries : (ts : Tokens) → plainAlternatives (tokensIn (entries ts)) ≡ plainAlternatives ts
+unfolding entries plainAlternatives plainInside
+plain-entries nothing = ap plainAlternatives (tokens-end [] (omega arith))
+plain-entries (Byte v then ts) = ap plainAlternatives (tokens-cons 0 v 0 0 (entries ts) (not-5 0 (omega arith))) ∙ ap₂ (λ (a b : Bool). a && b) (entry-inside 0 v 0) (plain-entries ts)
+plain-entries (NotByte v then ts) = ap plainAlternatives (tokens-cons 1 v 0 0 (entries ts) (not-5 1 (omega arith))) ∙ ap₂ (λ (a b : Bool). a && b) (entry-inside 1 v 0) (plain-entries ts)
 plain-entries (MaskedByte v m then ts) =
-    ap plain (tokens-cons 2 v (maskNumber m) 0 (entries ts) (not-5 2 (omega arith))) ∙ ap₂ (λ (a b : Bool). a && b) (entry-inside 2 v (maskNumber m)) (plain-entries ts)
+    ap plainAlternatives (tokens-cons 2 v (maskNumber m) 0 (entries ts) (not-5 2 (omega arith))) ∙ ap₂ (λ (a b : Bool). a && b) (entry-inside 2 v (maskNumber m)) (plain-entries ts)
 plain-entries (NotMaskedByte v m then ts) =
-    ap plain (tokens-cons 3 v (maskNumber m) 0 (entries ts) (not-5 3 (omega arith))) ∙ ap₂ (λ (a b : Bool). a && b) (entry-inside 3 v (maskNumber m)) (plain-entries ts)
-plain-entries (Jump from nowhere then ts) = ap plain (tokens-cons 4 from 0 0 (entries ts) (not-5 4 (omega arith))) ∙ ap₂ (λ (a b : Bool). a && b) (entry-inside 4 from 0) (plain-entries ts)
-plain-entries (Jump from (some to) then ts) = ap plain (tokens-cons 4 from to 1 (entries ts) (not-5 4 (omega arith))) ∙ ap₂ (λ (a b : Bool). a && b) (entry-inside 4 from to) (plain-entries ts)
+    ap plainAlternatives (tokens-cons 3 v (maskNumber m) 0 (entries ts) (not-5 3 (omega arith))) ∙ ap₂ (λ (a b : Bool). a && b) (entry-inside 3 v (maskNumber m)) (plain-entries ts)
+plain-entries (Jump from nowhere then ts) = ap plainAlternatives (tokens-cons 4 from 0 0 (entries ts) (not-5 4 (omega arith))) ∙ ap₂ (λ (a b : Bool). a && b) (entry-inside 4 from 0) (plain-entries ts)
+plain-entries (Jump from (some to) then ts) = ap plainAlternatives (tokens-cons 4 from to 1 (entries ts) (not-5 4 (omega arith))) ∙ ap₂ (λ (a b : Bool). a && b) (entry-inside 4 from to) (plain-entries ts)
 plain-entries (Alternatives ls then ts) =
-    ap plain (tokens-box (listCount ls) (length (listEntries ls) / 4) (listEntries ls) (entries ts) (fours-in ls)) ∙ ap₂ (λ (a b : Bool). a && b) (lists-plain ls) (plain-entries ts)
+    ap plainAlternatives (tokens-box (listCount ls) (length (listEntries ls) / 4) (listEntries ls) (entries ts) (fours-in ls)) ∙ ap₂ (λ (a b : Bool). a && b) (lists-plain ls) (plain-entries ts)
 
 -- ---- the tokens again, where values are as they are read
 
@@ -159,22 +159,22 @@ not-masked-back : (v : ℕ) (m : Mask) → v < 16 → entryToken 3 v (maskNumber
 unfolding entryToken
 not-masked-back v m h = ap₂ NotMaskedByte (mod-eq-of-lt h) (mask-back m)
 
-flat-back : (ts : Tokens) → plainList ts ≡ true → Spelled ts → flatIn (entries ts) ≡ ts
+branch-back : (ts : Tokens) → plainList ts ≡ true → Spelled ts → branchIn (entries ts) ≡ ts
 unfolding entries plainList isPlain Spelled
-flat-back nothing p h = flat-end [] (omega arith)
-flat-back (Byte v then ts) p h = flat-cons 0 v 0 0 (entries ts) ∙ ap₂ _then_ (byte-back v (h .0)) (flat-back ts p (h .1))
-flat-back (NotByte v then ts) p h = flat-cons 1 v 0 0 (entries ts) ∙ ap₂ _then_ (not-back v (h .0)) (flat-back ts p (h .1))
-flat-back (MaskedByte v m then ts) p h = flat-cons 2 v (maskNumber m) 0 (entries ts) ∙ ap₂ _then_ (masked-back v m (h .0)) (flat-back ts (and-right (isPlain (MaskedByte v m)) (plainList ts) p) (h .1))
-flat-back (NotMaskedByte v m then ts) p h = flat-cons 3 v (maskNumber m) 0 (entries ts) ∙ ap₂ _then_ (not-masked-back v m (h .0)) (flat-back ts (and-right (isPlain (NotMaskedByte v m)) (plainList ts) p) (h .1))
-flat-back (Jump from to then ts) p h = absurd (let z : _≡_ {A = ℕ} 0 1 = cc in omega arith)
-flat-back (Alternatives ls then ts) p h = absurd (let z : _≡_ {A = ℕ} 0 1 = cc in omega arith)
+branch-back nothing p h = branch-end [] (omega arith)
+branch-back (Byte v then ts) p h = branch-cons 0 v 0 0 (entries ts) ∙ ap₂ _then_ (byte-back v (h .0)) (branch-back ts p (h .1))
+branch-back (NotByte v then ts) p h = branch-cons 1 v 0 0 (entries ts) ∙ ap₂ _then_ (not-back v (h .0)) (branch-back ts p (h .1))
+branch-back (MaskedByte v m then ts) p h = branch-cons 2 v (maskNumber m) 0 (entries ts) ∙ ap₂ _then_ (masked-back v m (h .0)) (branch-back ts (and-right (isPlain (MaskedByte v m)) (plainList ts) p) (h .1))
+branch-back (NotMaskedByte v m then ts) p h = branch-cons 3 v (maskNumber m) 0 (entries ts) ∙ ap₂ _then_ (not-masked-back v m (h .0)) (branch-back ts (and-right (isPlain (NotMaskedByte v m)) (plainList ts) p) (h .1))
+branch-back (Jump from to then ts) p h = absurd (let z : _≡_ {A = ℕ} 0 1 = cc in omega arith)
+branch-back (Alternatives ls then ts) p h = absurd (let z : _≡_ {A = ℕ} 0 1 = cc in omega arith)
 
 lists-back : (ls : Lists) → plainLists ls ≡ true → SpelledMore ls → listsIn (listEntries ls) ≡ ls
 unfolding entries plainLists Spelled
 lists-back neither p h = lists-end [] (omega arith)
 lists-back (ts or ls) p h =
     lists-box 6 (tokenCount ts) (length (entries ts) / 4) (entries ts) (listEntries ls) (fours ts)
-    ∙ ap₂ _or_ (flat-back ts (and-left (plainList ts) (plainLists ls) p) (h .0)) (lists-back ls (and-right (plainList ts) (plainLists ls) p) (h .1))
+    ∙ ap₂ _or_ (branch-back ts (and-left (plainList ts) (plainLists ls) p) (h .0)) (lists-back ls (and-right (plainList ts) (plainLists ls) p) (h .1))
 
 joined : (t : Token) (ss rs : List Tokens) → ss ≡ rs → (s : Token) → s ≡ t → segmented (closes s) s ss ≡ segmented (closes t) t rs
 joined t ss rs e s f = ap₂ (λ (x : Token) (y : List Tokens). segmented (closes x) x y) f e
@@ -184,9 +184,9 @@ closed : (from : ℕ) (to : Option ℕ) (m : ℕ) (ss rs : List Tokens) → ss �
 unfolding entryToken segmented isPlain isAlternatives
 closed from to m ss rs e = ap (λ (x : List Tokens). nothing ∷ x) e
 
--- the segments, and so the runs and the choice, are those of the tokens
-pub segments-entries : (ts : Tokens) → plain ts ≡ true → Spelled ts → segments (tokensIn (entries ts)) ≡ segments ts
-unfolding entries plain plainInside Spelled segments
+-- the segments, and so the runs and what wins, are those of the tokens
+pub segments-entries : (ts : Tokens) → plainAlternatives ts ≡ true → Spelled ts → segments (tokensIn (entries ts)) ≡ segments ts
+unfolding entries plainAlternatives plainInside Spelled segments
 segments-entries nothing p h = ap segments (tokens-end [] (omega arith))
 segments-entries (Byte v then ts) p h =
     ap segments (tokens-cons 0 v 0 0 (entries ts) (not-5 0 (omega arith))) ∙ joined (Byte v) _ _ (segments-entries ts p (h .1)) (entryToken 0 v 0) (byte-back v (h .0))
@@ -202,4 +202,4 @@ segments-entries (Jump from (some to) then ts) p h =
     ap segments (tokens-cons 4 from to 1 (entries ts) (not-5 4 (omega arith))) ∙ closed from (some to) to _ _ (segments-entries ts p (h .1))
 segments-entries (Alternatives ls then ts) p h =
     ap segments (tokens-box (listCount ls) (length (listEntries ls) / 4) (listEntries ls) (entries ts) (fours-in ls))
-    ∙ joined (Alternatives ls) _ _ (segments-entries ts (and-right (plainLists ls) (plain ts) p) (h .1)) (Alternatives (listsIn (listEntries ls))) (ap Alternatives (lists-back ls (and-left (plainLists ls) (plain ts) p) (any-spelled ls (h .0))))
+    ∙ joined (Alternatives ls) _ _ (segments-entries ts (and-right (plainLists ls) (plainAlternatives ts) p) (h .1)) (Alternatives (listsIn (listEntries ls))) (ap Alternatives (lists-back ls (and-left (plainLists ls) (plainAlternatives ts) p) (any-spelled ls (h .0))))

@@ -12,7 +12,7 @@ use lib.Seq.{drop-drop, take-add}
 use borrow.Author.Tests.{eqb-true, eqb-false, eq-eqb, ne-eqb, ltb-true, ltb-false}
 use Rattle.meaning.specs.Tokens.{Token, Tokens, NotByte, MaskedByte, NotMaskedByte, Jump, nothing, _then_, _⊕_}
 use Rattle.picking.specs.Literals.{isByte}
-use Rattle.picking.specs.Runs.{isLiteral, joins, partBefore, parts}
+use Rattle.picking.specs.Runs.{isLiteral, joinsPart, partBefore, parts}
 use Rattle.classes.specs.Entry.{entryToken}
 use Rattle.entries.specs.Words.{tokenIn, width, tokensIn}
 use Rattle.entries.proofs.StepLaws.{tokens-end, tokens-step, width-le, width-long, walk-end, walk-step}
@@ -76,21 +76,21 @@ pub record Part (ws : List ℕ) (n : ℕ) (literal : Bool) : Type 0 where
   pub kind-is : isLiteral (tokensIn (take n ws)) ≡ literal
 
 alone-part : (t : Token) (ps : List Tokens) → isByte t ≡ false → partBefore t ps ≡ (t then nothing) ∷ ps
-unfolding partBefore joins
+unfolding partBefore joinsPart
 alone-part t [] e = refl
-alone-part t (p ∷ ps) e = ap (λ (b : Bool). joins (b && isLiteral p) t p ps) e
+alone-part t (p ∷ ps) e = ap (λ (b : Bool). joinsPart (b && isLiteral p) t p ps) e
 
 after-part : (t : Token) (p : Tokens) (ps : List Tokens) → isLiteral p ≡ false → partBefore t (p ∷ ps) ≡ (t then nothing) ∷ p ∷ ps
-unfolding partBefore joins
+unfolding partBefore joinsPart
 after-part t p ps e = go (isByte t) (isLiteral p) e
   where
-    go : (b c : Bool) → c ≡ false → joins (b && c) t p ps ≡ (t then nothing) ∷ p ∷ ps
+    go : (b c : Bool) → c ≡ false → joinsPart (b && c) t p ps ≡ (t then nothing) ∷ p ∷ ps
     go true true f = absurd (let z : _≡_ {A = ℕ} 0 1 = cc in omega arith)
     go true false f = refl
     go false c f = refl
 
 join-part : (t : Token) (p : Tokens) (ps : List Tokens) → isByte t ≡ true → isLiteral p ≡ true → partBefore t (p ∷ ps) ≡ (t then p) ∷ ps
-unfolding partBefore joins
+unfolding partBefore joinsPart
 join-part t p ps e f = rw (e, f)
 
 -- any other token is a part by itself

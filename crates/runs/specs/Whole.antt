@@ -1,4 +1,5 @@
 -- Words that are whole entries of tokens, and the parts of a run. Assumes nothing: these are definitions.
+-- To be believed: nothing.
 use mathlib.Core.Path.{_≡_}
 use mathlib.Core.Bool.{cond}
 use mathlib.Core.List.{List, []}

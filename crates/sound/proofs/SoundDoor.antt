@@ -3,7 +3,7 @@ use mathlib.Core.Path.{_≡_, refl, sym, _∙_}
 use mathlib.Core.Bool.{Bool, true, not, _&&_}
 use mathlib.Core.List.{List, [], _∷_}
 use Prim.Native.Nat.{ℕ}
-use Rattle.meaning.specs.Words.{word, sound, soundWords, soundBranches, plainWords, plain, proper, properBy, shape, shapeBy}
+use Rattle.meaning.specs.Words.{word, sound, soundWords, soundBranches, flatWords, isFlat, proper, properBy, shape, shapeBy}
 
 -- the promise leaves one outcome; the words lent are only read
 pub one-outcome : (ws : List ℕ) (r s : Bool) → r ≡ sound ws → s ≡ sound ws → r ≡ s
@@ -15,11 +15,11 @@ unfolding sound soundWords
 empty-program = refl
 
 pub empty-branch : sound (word 6 1 0 ∷ word 7 0 0 ∷ []) ≡ true
-unfolding sound soundWords soundBranches plainWords plain proper properBy shape shapeBy
+unfolding sound soundWords soundBranches flatWords isFlat proper properBy shape shapeBy
 empty-branch = refl
 
 pub value-outside-mask : sound (word 1 0xAB 0x0F ∷ []) ≡ true
-unfolding sound soundWords soundBranches plainWords plain proper properBy shape shapeBy
+unfolding sound soundWords soundBranches flatWords isFlat proper properBy shape shapeBy
 value-outside-mask = refl
 
 -- and these are not: a range whose min is above its max; a branch outside an alternation; an alternation without a branch;
@@ -44,5 +44,5 @@ noneSound [] = true
 noneSound (ws ∷ rest) = not (sound ws) && noneSound rest
 
 pub none-sound : noneSound unsound ≡ true
-unfolding unsound noneSound sound soundWords soundBranches plainWords plain proper properBy shape shapeBy
+unfolding unsound noneSound sound soundWords soundBranches flatWords isFlat proper properBy shape shapeBy
 none-sound = refl

@@ -10,15 +10,16 @@ use lib.Dec.{leb}
 use lib.ListN.{length, take, drop}
 use borrow.Author.Tests.{le-leb, lt-leb}
 use Rattle.meaning.specs.Programs.{Item}
-use Rattle.meaning.specs.Words.{Shape, item, opens, mark, wrong, shape, proper, plain, plainWords, soundBranches, soundWords}
+use Rattle.meaning.specs.Words.{Shape, item, opens, mark, wrong, shape, proper, isFlat, flatWords, soundBranches, soundWords}
 use Rattle.meaning.proofs.WordLaws.{take-le, drop-le}
 use Rattle.meaning.proofs.SoundLaws.{sb-fuel, sw-fuel}
+use Rattle.meaning.proofs.PartLaws.{from, to-end}
 use Rattle.nodes.specs.declared.NextWord.the-variants.{Word, NoWord}
 use Rattle.nodes.specs.Nodes.{firstWord}
-use Rattle.nodes.proofs.WordHeads.{word-cons, word-nil, from, to-end}
+use Rattle.nodes.proofs.WordHeads.{word-cons, word-nil}
 use Rattle.sound.specs.declared.Inside.{Inside}
 use Rattle.sound.specs.declared.Inside.the-variants.{Words, Unfit}
-use Rattle.sound.specs.Steps.{inItem, inBranch, itemInside, branchInside, plainShape, plainWord}
+use Rattle.sound.specs.Steps.{inItem, inBranch, itemInside, branchInside, flatShape, flatWord}
 
 -- the tests with the fuel that is enough
 abbrev pub sb : List ℕ → Bool
@@ -65,7 +66,7 @@ module _ (w : ℕ) (ws : List ℕ) where
   unfolding soundWords
   sw-opens k p e = rw (e, soundWords) (rw (p, sb-fuel (length ws) (length (take k ws)) (take k ws) (take-le k _ ws (le-refl _)) (le-refl _), sw-fuel (length ws) (length (drop k ws)) (drop k ws) (drop-le k _ ws (le-refl _)) (le-refl _)))
 
-  sb-mark : (k : ℕ) → proper w ≡ true → shape w ≡ mark k → sb (w ∷ ws) ≡ (leb k (length ws) && (plainWords (take k ws) && sb (drop k ws)))
+  sb-mark : (k : ℕ) → proper w ≡ true → shape w ≡ mark k → sb (w ∷ ws) ≡ (leb k (length ws) && (flatWords (take k ws) && sb (drop k ws)))
   unfolding soundBranches
   sb-mark k p e = rw (e, soundBranches) (rw (p, sb-fuel (length ws) (length (drop k ws)) (drop k ws) (drop-le k _ ws (le-refl _)) (le-refl _)))
 
@@ -93,14 +94,14 @@ item-steps = record { nil = refl; fit = fits; unfit = refuses }
         go true q (mark j) e f = rw (e, soundWords) (and-false (proper w))
         go true q wrong e f = rw (e, soundWords) (and-false (proper w))
 
-pub branch-steps : Steps sb plainWords branchInside
+pub branch-steps : Steps sb flatWords branchInside
 unfolding soundBranches
 branch-steps = record { nil = refl; fit = fits; unfit = refuses }
   where
-    fits : (w k : ℕ) (ws : List ℕ) → branchInside w ≡ Words k → sb (w ∷ ws) ≡ (leb k (length ws) && (plainWords (take k ws) && sb (drop k ws)))
+    fits : (w k : ℕ) (ws : List ℕ) → branchInside w ≡ Words k → sb (w ∷ ws) ≡ (leb k (length ws) && (flatWords (take k ws) && sb (drop k ws)))
     fits w k ws h = go (proper w) refl (shape w) refl h
       where
-        go : (p : Bool) → proper w ≡ p → (s : Shape) → shape w ≡ s → cond p (inBranch s) Unfit ≡ Words k → sb (w ∷ ws) ≡ (leb k (length ws) && (plainWords (take k ws) && sb (drop k ws)))
+        go : (p : Bool) → proper w ≡ p → (s : Shape) → shape w ≡ s → cond p (inBranch s) Unfit ≡ Words k → sb (w ∷ ws) ≡ (leb k (length ws) && (flatWords (take k ws) && sb (drop k ws)))
         go false q s e f = let z : _≡_ {A = ℕ} 0 1 = cc in absurd (omega arith)
         go true q (item i) e f = let z : _≡_ {A = ℕ} 0 1 = cc in absurd (omega arith)
         go true q (opens j) e f = let z : _≡_ {A = ℕ} 0 1 = cc in absurd (omega arith)
@@ -118,30 +119,30 @@ branch-steps = record { nil = refl; fit = fits; unfit = refuses }
         go true q wrong e f = rw (e, soundBranches) (and-false (proper w))
 
 -- a branch's words
-plain-cons : (w : ℕ) (ws : List ℕ) → plainWords (w ∷ ws) ≡ (plainWord w && plainWords ws)
-unfolding plainWords
-plain-cons w ws = go (proper w) (shape w)
+flat-cons : (w : ℕ) (ws : List ℕ) → flatWords (w ∷ ws) ≡ (flatWord w && flatWords ws)
+unfolding flatWords
+flat-cons w ws = go (proper w) (shape w)
   where
-    go : (p : Bool) (s : Shape) → (p && elim s [ item i ↦ plain i && plainWords ws | opens k ↦ false | mark k ↦ false | wrong ↦ false ]) ≡ ((p && plainShape s) && plainWords ws)
+    go : (p : Bool) (s : Shape) → (p && elim s [ item i ↦ isFlat i && flatWords ws | opens k ↦ false | mark k ↦ false | wrong ↦ false ]) ≡ ((p && flatShape s) && flatWords ws)
     go true (item i) = refl
     go true (opens k) = refl
     go true (mark k) = refl
     go true wrong = refl
     go false s = refl
 
-pub plain-done : (L : List ℕ) → firstWord L ≡ NoWord → true ≡ plainWords L
-unfolding plainWords
-plain-done L e = rw (word-nil L e)
+pub flat-done : (L : List ℕ) → firstWord L ≡ NoWord → true ≡ flatWords L
+unfolding flatWords
+flat-done L e = rw (word-nil L e)
 
 module _ (L : List ℕ) (w : ℕ) (e : firstWord L ≡ Word w) where
-  plain-first : plainWords L ≡ (plainWord w && plainWords (from 1 L))
-  plain-first = ap plainWords (word-cons L w e) ∙ plain-cons w (drop 1 L) ∙ ap (λ (l : List ℕ). plainWord w && plainWords l) (sym (to-end 1 L))
+  flat-first : flatWords L ≡ (flatWord w && flatWords (from 1 L))
+  flat-first = ap flatWords (word-cons L w e) ∙ flat-cons w (drop 1 L) ∙ ap (λ (l : List ℕ). flatWord w && flatWords l) (sym (to-end 1 L))
 
-  pub plain-other : plainWord w ≡ false → false ≡ plainWords L
-  plain-other h = sym (plain-first ∙ ap (λ (b : Bool). b && plainWords (from 1 L)) h)
+  pub flat-other : flatWord w ≡ false → false ≡ flatWords L
+  flat-other h = sym (flat-first ∙ ap (λ (b : Bool). b && flatWords (from 1 L)) h)
 
-  pub plain-next : plainWord w ≡ true → plainWords (from 1 L) ≡ plainWords L
-  plain-next h = sym (plain-first ∙ ap (λ (b : Bool). b && plainWords (from 1 L)) h)
+  pub flat-next : flatWord w ≡ true → flatWords (from 1 L) ≡ flatWords L
+  flat-next h = sym (flat-first ∙ ap (λ (b : Bool). b && flatWords (from 1 L)) h)
 
 -- what the words inside tell of a word
 pub branch-mark : (w k : ℕ) → branchInside w ≡ Words k → shape w ≡ mark k

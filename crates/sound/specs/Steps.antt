@@ -1,7 +1,8 @@
 -- What the soundness test asks of one word. Assumes nothing: these are definitions.
+-- To be believed: nothing.
 use mathlib.Core.Bool.{Bool, false, cond, _&&_}
 use Prim.Native.Nat.{ℕ}
-use Rattle.meaning.specs.Words.{Shape, item, opens, mark, wrong, shape, proper, plain}
+use Rattle.meaning.specs.Words.{Shape, item, opens, mark, wrong, shape, proper, isFlat}
 use Rattle.sound.specs.declared.Inside.{Inside}
 use Rattle.sound.specs.declared.Inside.the-variants.{Words, Unfit}
 
@@ -27,11 +28,11 @@ abbrev pub branchInside : ℕ → Inside
 branchInside w = cond (proper w) (inBranch (shape w)) Unfit
 
 -- what may stand in a branch
-abbrev pub plainShape : Shape → Bool
-plainShape (item i) = plain i
-plainShape (opens k) = false
-plainShape (mark k) = false
-plainShape wrong = false
+abbrev pub flatShape : Shape → Bool
+flatShape (item i) = isFlat i
+flatShape (opens k) = false
+flatShape (mark k) = false
+flatShape wrong = false
 
-abbrev pub plainWord : ℕ → Bool
-plainWord w = proper w && plainShape (shape w)
+abbrev pub flatWord : ℕ → Bool
+flatWord w = proper w && flatShape (shape w)

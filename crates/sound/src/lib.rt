@@ -9,9 +9,9 @@ use nodes::node_of;
 use nodes::proper_word;
 ghost use mathlib.Core.Path.{_≡_};
 ghost use lib.ListN.{length};
-ghost use Rattle.meaning.specs.Words.{plainWords, soundBranches, soundWords, sound};
+ghost use Rattle.meaning.specs.Words.{flatWords, soundBranches, soundWords, sound};
 ghost use Rattle.nodes.specs.Nodes.{shapeOf};
-ghost use Rattle.sound.specs.Steps.{inItem, inBranch, itemInside, branchInside, plainShape, plainWord};
+ghost use Rattle.sound.specs.Steps.{inItem, inBranch, itemInside, branchInside, flatShape, flatWord};
 
 // How many of the words after a word belong to it.
 pub enum Inside {
@@ -67,8 +67,8 @@ pub fn branch_inside(w: NodeWord) -> Inside
     }
 }
 
-fn plain_node(n: Node) -> bool
-    ensures { λ r. ⌜ r ≡ plainShape (shapeOf n) ⌝ }
+fn flat_node(n: Node) -> bool
+    ensures { λ r. ⌜ r ≡ flatShape (shapeOf n) ⌝ }
 {
     match n {
         Node::One(_) => true,
@@ -81,25 +81,25 @@ fn plain_node(n: Node) -> bool
 }
 
 // Whether a word may stand in a branch.
-fn plain_word(w: NodeWord) -> bool
-    ensures { λ r. ⌜ r ≡ plainWord w ⌝ }
+fn flat_word(w: NodeWord) -> bool
+    ensures { λ r. ⌜ r ≡ flatWord w ⌝ }
 {
     if proper_word(w) {
-        plain_node(node_of(w))
+        flat_node(node_of(w))
     } else {
         false
     }
 }
 
-fn plain_words(words: &[NodeWord]) -> bool
-    ensures { λ r. ⌜ r ≡ plainWords (now (words .entry)) ⌝ }
+fn flat_words(words: &[NodeWord]) -> bool
+    ensures { λ r. ⌜ r ≡ flatWords (now (words .entry)) ⌝ }
 {
     let mut ws = words;
     loop {
         let NextWord::Word(w) = first_word(ws) else {
             return true;
         };
-        if !plain_word(w) {
+        if !flat_word(w) {
             return false;
         }
         ws = &ws[1..];
@@ -123,7 +123,7 @@ fn sound_branches(words: &[NodeWord]) -> bool
         if rest.len() < size {
             return false;
         }
-        if !plain_words(&rest[..size]) {
+        if !flat_words(&rest[..size]) {
             return false;
         }
         ws = &rest[size..];

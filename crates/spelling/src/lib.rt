@@ -3,14 +3,14 @@
 ghost use Prim.Native.Nat.{_≤_, _<_};
 ghost use lib.ListN.{length};
 ghost use Rattle.meaning.specs.Limits.{literalLimit};
-ghost use Rattle.picking.specs.Numbers.{count, countIn, pieceOf, pieceIn, literalAt};
-ghost use Rattle.entries.specs.Words.{flatIn, listsIn, tokenIn, tokensIn};
-ghost use Rattle.spelling.specs.Writing.{Written, Pieced};
+ghost use Rattle.picking.specs.Numbers.{count, countIn, endingOf, endingIn, literalAt};
+ghost use Rattle.entries.specs.Words.{branchIn, listsIn, tokenIn, tokensIn};
+ghost use Rattle.spelling.specs.Writing.{Written, Writable};
 
 // Writes literal number k of a list without alternatives.
 fn write_list(ws: &[u32], k: usize, dst: &mut [u8]) -> usize
-    requires { ⌜ (k < count (flatIn (now ws))) × (count (flatIn (now ws)) ≤ literalLimit) × (length (literalAt (flatIn (now ws)) k) ≤ length (now dst)) ⌝ }
-    ensures { λ r. ⌜ Written r (literalAt (flatIn (now (ws .entry))) k) (now (dst .entry)) (now (dst .exit)) ⌝ }
+    requires { ⌜ (k < count (branchIn (now ws))) × (count (branchIn (now ws)) ≤ literalLimit) × (length (literalAt (branchIn (now ws)) k) ≤ length (now dst)) ⌝ }
+    ensures { λ r. ⌜ Written r (literalAt (branchIn (now (ws .entry))) k) (now (dst .entry)) (now (dst .exit)) ⌝ }
 {
     let mut rest = ws;
     let mut n = tallies::count_list(ws);
@@ -28,8 +28,8 @@ fn write_list(ws: &[u32], k: usize, dst: &mut [u8]) -> usize
 
 // Writes what literal number q of some lists has after its prefix.
 fn write_branch(ls: &[u32], p: usize, q: usize, dst: &mut [u8]) -> usize
-    requires { ⌜ (p ≤ literalLimit) × (countIn (listsIn (now ls)) ≤ literalLimit) × (length (pieceIn (listsIn (now ls)) p q) ≤ length (now dst)) ⌝ }
-    ensures { λ r. ⌜ Written r (pieceIn (listsIn (now (ls .entry))) p q) (now (dst .entry)) (now (dst .exit)) ⌝ }
+    requires { ⌜ (p ≤ literalLimit) × (countIn (listsIn (now ls)) ≤ literalLimit) × (length (endingIn (listsIn (now ls)) p q) ≤ length (now dst)) ⌝ }
+    ensures { λ r. ⌜ Written r (endingIn (listsIn (now (ls .entry))) p q) (now (dst .entry)) (now (dst .exit)) ⌝ }
 {
     let mut rest = ls;
     let mut left = q;
@@ -47,9 +47,9 @@ fn write_branch(ls: &[u32], p: usize, q: usize, dst: &mut [u8]) -> usize
 }
 
 // The same of the token at the front. Most are bytes, which need no division.
-fn write_piece(ws: &[u32], p: usize, q: usize, dst: &mut [u8]) -> usize
-    requires { ⌜ Pieced p (tokenIn (now ws)) q (length (now ws)) (length (now dst)) ⌝ }
-    ensures { λ r. ⌜ Written r (pieceOf (tokenIn (now (ws .entry))) p q) (now (dst .entry)) (now (dst .exit)) ⌝ }
+fn write_token(ws: &[u32], p: usize, q: usize, dst: &mut [u8]) -> usize
+    requires { ⌜ Writable p (tokenIn (now ws)) q (length (now ws)) (length (now dst)) ⌝ }
+    ensures { λ r. ⌜ Written r (endingOf (tokenIn (now (ws .entry))) p q) (now (dst .entry)) (now (dst .exit)) ⌝ }
 {
     if ws[0] == 5 {
         let e = entries::end_of(ws);
@@ -76,7 +76,7 @@ pub fn write_literal(ws: &[u32], k: usize, dst: &mut [u8]) -> usize
     while 4 <= rest.len() {
         let t = tallies::tally_token(rest);
         let q = prefixes::number_of(rest, p, t.literals, k);
-        let n = write_piece(rest, p, q, &mut dst[i..]);
+        let n = write_token(rest, p, q, &mut dst[i..]);
         i += n;
         p = p * t.literals;
         let e = entries::width_of(rest);

@@ -9,24 +9,25 @@ use lib.ListN.{length, take, drop}
 use Rattle.meaning.specs.Programs.{Prog, Branches, alt, _▹_, _⧺_}
 use Rattle.meaning.specs.Choices.{Order}
 use Rattle.meaning.specs.Rows.{Row, orElse, andThen, rest, found, rows, run}
-use Rattle.meaning.specs.Words.{kindOf, firstOf, mark, shape, prog, branches, branchesOf, SoundBranches, plainWords}
+use Rattle.meaning.specs.Words.{kindOf, firstOf, mark, shape, prog, branches, branchesOf, SoundBranches, flatWords}
 use Rattle.meaning.proofs.KindLaws.{Seen, seen, kind-mark}
 use Rattle.meaning.proofs.ProgLaws.{rows-join}
 use Rattle.meaning.proofs.RunLaws.{run-alt, run-alt-stop, found-single, or-none}
 use Rattle.meaning.proofs.WordLaws.{branches-mark}
-use Rattle.meaning.proofs.SoundLaws.{Marked, sound-branch, branch-shape, plain-row}
+use Rattle.meaning.proofs.SoundLaws.{Marked, sound-branch, branch-shape, flat-row}
+use Rattle.meaning.proofs.PartLaws.{from, to-end}
 use Rattle.steps.specs.declared.Found.the-variants.{Left, Nothing}
 use Rattle.nodes.specs.declared.NextWord.the-variants.{Word, NoWord}
 use Rattle.nodes.specs.Nodes.{firstWord}
-use Rattle.nodes.proofs.WordHeads.{word-cons, word-nil, from, to-end}
+use Rattle.nodes.proofs.WordHeads.{word-cons, word-nil}
 use Rattle.steps.specs.Steps.{answer}
 use Rattle.steps.proofs.Answers.{answer-none, answer-some, left-part}
 
 -- a branch has one row, so it either fits in one way or not at all
-plain-then : (o : Order) (ws : List ℕ) (p : Prog) (M : List ℕ) → plainWords ws ≡ true → run o (prog ws ⧺ p) M ≡ andThen (run o (prog ws) M) (run o p)
+flat-then : (o : Order) (ws : List ℕ) (p : Prog) (M : List ℕ) → flatWords ws ≡ true → run o (prog ws ⧺ p) M ≡ andThen (run o (prog ws) M) (run o p)
 unfolding run
-plain-then o ws p M h =
-    let q = plain-row o ws h in
+flat-then o ws p M h =
+    let q = flat-row o ws h in
     rw (rows-join, q .1) (found-single (q .0) (rows o p) M ∙ sym (ap (λ (x : Option (List ℕ)). andThen x (found (rows o p))) (one-found (q .0) M)))
   where
     one-found : (r : Row) (N : List ℕ) → found (r ∷ []) N ≡ rest r N
@@ -53,7 +54,7 @@ module _ (B : List ℕ) (w : ℕ) (e : firstWord B ≡ Word w) {n : ℕ} (s : n 
         ∙ ap (λ (b : Branches). run o (alt b ▹ p) M) (branches-mark w (from 1 B) n head-mark)
         ∙ run-alt o p M (prog (take n (from 1 B))) (branchesOf (drop n (from 1 B)))
         ∙ ap₂ orElse
-        (plain-then o (take n (from 1 B)) p M (head-marked .inside))
+        (flat-then o (take n (from 1 B)) p M (head-marked .inside))
         (ap (λ (l : List ℕ). run o (alt (branchesOf l) ▹ p) M) (sym (to-end n (from 1 B))))
 
     -- it does not fit

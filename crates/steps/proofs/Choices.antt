@@ -11,9 +11,10 @@ use Rattle.meaning.specs.Words.{kindOf, firstOf, secondOf, countOf, prog, branc
 use Rattle.meaning.proofs.KindLaws.{kind-opens, kind-range}
 use Rattle.meaning.proofs.WordLaws.{prog-item, prog-opens}
 use Rattle.meaning.proofs.SoundLaws.{Opened, sound-item, sound-opens}
+use Rattle.meaning.proofs.PartLaws.{from, to-end}
 use Rattle.nodes.specs.declared.NextWord.the-variants.{Word}
 use Rattle.nodes.specs.Nodes.{firstWord}
-use Rattle.nodes.proofs.WordHeads.{word-cons, from, to-end}
+use Rattle.nodes.proofs.WordHeads.{word-cons}
 use Rattle.steps.proofs.Heads.{whole}
 use Rattle.steps.proofs.Ranges.{no-range}
 

@@ -10,14 +10,15 @@ use lib.ListN.{length, drop}
 use Rattle.meaning.specs.Programs.{Test, pass, Item, Prog, one, jump, range, alt, _▹_}
 use Rattle.meaning.specs.Choices.{Order}
 use Rattle.meaning.specs.Rows.{run}
-use Rattle.meaning.specs.Words.{kindOf, Shape, item, opens, mark, wrong, shape, prog, Sound, plain, plainWords}
+use Rattle.meaning.specs.Words.{kindOf, Shape, item, opens, mark, wrong, shape, prog, Sound, isFlat, flatWords}
 use Rattle.meaning.proofs.KindLaws.{Seen, seen}
 use Rattle.meaning.proofs.RunLaws.{run-end, run-one, run-one-none, run-jump, run-jump-none}
 use Rattle.meaning.proofs.WordLaws.{prog-nil, prog-item}
-use Rattle.meaning.proofs.SoundLaws.{sound-item, sound-mark, sound-wrong, plain-item, false-true}
+use Rattle.meaning.proofs.SoundLaws.{sound-item, sound-mark, sound-wrong, flat-item, false-true}
+use Rattle.meaning.proofs.PartLaws.{from, to-end}
 use Rattle.nodes.specs.declared.NextWord.the-variants.{Word, NoWord}
 use Rattle.nodes.specs.Nodes.{firstWord}
-use Rattle.nodes.proofs.WordHeads.{word-cons, word-nil, from, to-end}
+use Rattle.nodes.proofs.WordHeads.{word-cons, word-nil}
 use Rattle.steps.specs.declared.NextByte.the-variants.{Next, NoByte}
 use Rattle.steps.specs.Steps.{firstByte, isTest}
 use Rattle.steps.proofs.Heads.{byte-cons, byte-nil}
@@ -36,15 +37,15 @@ module _ (L : List ℕ) (w : ℕ) (e : firstWord L ≡ Word w) where
   pub tail-sound : {i : Item} → shape w ≡ item i → Sound L → Sound (from 1 L)
   tail-sound s h = rw (to-end 1 L) (sound-item w (drop 1 L) s (head-sound h))
 
-  pub plain-tail : plainWords L ≡ true → plainWords (from 1 L) ≡ true
-  plain-tail h = rw (to-end 1 L) (plain-item w (drop 1 L) (ap plainWords (sym (word-cons L w e)) ∙ h) .3)
+  pub flat-tail : flatWords L ≡ true → flatWords (from 1 L) ≡ true
+  flat-tail h = rw (to-end 1 L) (flat-item w (drop 1 L) (ap flatWords (sym (word-cons L w e)) ∙ h) .3)
 
   -- a word that is neither a test nor a jump: in a branch there is none, and in a sound program it is a range or an alternation
-  pub plain-test : plainWords L ≡ true → (kindOf w ≡ 3 → ⊥) → IsTest w
-  unfolding plain
-  plain-test h n3 = let q = plain-item w (drop 1 L) (ap plainWords (sym (word-cons L w e)) ∙ h) in go (q .0) (q .1) (q .2) (subst (Seen (kindOf w)) (q .1) (seen w))
+  pub flat-test : flatWords L ≡ true → (kindOf w ≡ 3 → ⊥) → IsTest w
+  unfolding isFlat
+  flat-test h n3 = let q = flat-item w (drop 1 L) (ap flatWords (sym (word-cons L w e)) ∙ h) in go (q .0) (q .1) (q .2) (subst (Seen (kindOf w)) (q .1) (seen w))
     where
-      go : (i : Item) → shape w ≡ item i → plain i ≡ true → Seen (kindOf w) (item i) → IsTest w
+      go : (i : Item) → shape w ≡ item i → isFlat i ≡ true → Seen (kindOf w) (item i) → IsTest w
       go (one t) f p g = (t, f)
       go (jump n) f p g = absurd (n3 g)
       go (range a b) f p g = false-true p

@@ -1,4 +1,5 @@
 -- What the steps of a check answer, in the terms of the definitions. Assumes nothing: these are definitions.
+-- To be believed: nothing.
 use mathlib.Core.Bool.{Bool, true, false}
 use mathlib.Core.Option.{Option, none, some}
 use mathlib.Core.List.{List, [], _∷_}

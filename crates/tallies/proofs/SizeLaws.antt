@@ -10,8 +10,8 @@ use lib.ListN.{length, getD, drop, length-drop}
 use borrow.Author.Tests.{eqb-true, eqb-false, ltb-true, ltb-false}
 use Rattle.meaning.specs.Tokens.{totalIn, total, totals}
 use Rattle.classes.specs.Entry.{entryToken}
-use Rattle.entries.specs.Words.{flatIn, ends, inside, listsIn, tokenIn, width, tokensIn}
-use Rattle.entries.proofs.StepLaws.{flat-end, flat-step, lists-end, lists-step, tokens-end, tokens-step, ends-le, ends-long, width-long, width-le, width-inside, by-entries}
+use Rattle.entries.specs.Words.{branchIn, ends, inside, listsIn, tokenIn, width, tokensIn}
+use Rattle.entries.proofs.StepLaws.{branch-end, branch-step, lists-end, lists-step, tokens-end, tokens-step, ends-le, ends-long, width-long, width-le, width-inside, by-entries}
 use Rattle.entries.proofs.PlainLaws.{token-alternatives, token-entry}
 use Rattle.classes.proofs.KindLaws.{entry-cases}
 use Rattle.tallies.proofs.TallyLaws.{length-inside}
@@ -24,11 +24,11 @@ entry-size : (k v m : ℕ) → totalIn (entryToken k v m) ≡ 1
 unfolding totalIn
 entry-size = entry-cases (λ t. totalIn t ≡ 1) (λ v. refl) (λ v. refl) (λ v m. refl) (λ v m. refl) refl
 
-flat-size : (ws : List ℕ) → 4 * total (flatIn ws) ≤ length ws
+branch-size : (ws : List ℕ) → 4 * total (branchIn ws) ≤ length ws
 unfolding total
-flat-size =
-    by-entries (λ ws. 4 * total (flatIn ws) ≤ length ws) (λ ws h. rw (flat-end ws h) (omega arith))
-    (λ ws h e. rw (flat-step ws h) (let l = entry-size (getD ws 0 0) (getD ws 1 0) (getD ws 2 0) in let d = length-drop 4 ws in omega arith))
+branch-size =
+    by-entries (λ ws. 4 * total (branchIn ws) ≤ length ws) (λ ws h. rw (branch-end ws h) (omega arith))
+    (λ ws h e. rw (branch-step ws h) (let l = entry-size (getD ws 0 0) (getD ws 1 0) (getD ws 2 0) in let d = length-drop 4 ws in omega arith))
 
 -- what holds of fewer than four words, and of more where it holds of what follows a step of at least four, holds of all
 pub by-steps : (step : List ℕ → ℕ) → ((ws : List ℕ) → 4 ≤ length ws → 4 ≤ step ws) → (P : List ℕ → Type 0) → ((ws : List ℕ) → length ws < 4 → P ws)
@@ -49,7 +49,7 @@ lists-size =
     by-steps ends ends-long (λ ws. 4 * totals (listsIn ws) ≤ length ws) (λ ws h. rw (lists-end ws h) (omega arith))
     (λ ws h e.
     rw (lists-step ws h)
-    (let a = flat-size (inside ws) in let b = length-inside ws h in let c = ends-le ws in let f = ends-long ws h in let d = length-drop (ends ws) ws in omega arith))
+    (let a = branch-size (inside ws) in let b = length-inside ws h in let c = ends-le ws in let f = ends-long ws h in let d = length-drop (ends ws) ws in omega arith))
 
 token-size : (ws : List ℕ) → 4 ≤ length ws → 4 * totalIn (tokenIn ws) ≤ width ws
 unfolding totalIn

@@ -12,10 +12,10 @@ use Rattle.tallies.specs.Tallies.{countTop}
 use Rattle.picking.specs.Literals.{taken, combinationsOf, combinations, combinationsIn, lengthOf, lengthIn, shortest, shorter}
 use Rattle.picking.specs.Numbers.{countOf, count, countIn}
 use Rattle.classes.specs.Entry.{entryToken}
-use Rattle.entries.specs.Words.{firstEntry, flatIn, ends, inside, listsIn, tokenIn, width, tokensIn}
+use Rattle.entries.specs.Words.{firstEntry, branchIn, ends, inside, listsIn, tokenIn, width, tokensIn}
 use Rattle.tallies.specs.declared.Tally.{Tally}
 use Rattle.tallies.specs.Tallies.{Tallied}
-use Rattle.entries.proofs.StepLaws.{flat-end, flat-step, lists-end, lists-step, tokens-end, tokens-step, by-entries, ends-le, ends-long, width-inside, width-long}
+use Rattle.entries.proofs.StepLaws.{branch-end, branch-step, lists-end, lists-step, tokens-end, tokens-step, by-entries, ends-le, ends-long, width-inside, width-long}
 use Rattle.entries.proofs.PlainLaws.{token-alternatives, token-entry}
 use Rattle.classes.proofs.KindLaws.{entry-cases}
 
@@ -73,46 +73,46 @@ entry-length = entry-cases (λ t. lengthOf t ≡ 1) (λ v. refl) (λ v. refl) (�
 
 -- ---- lists without alternatives
 
-pub flat-count-end : (n : ℕ) (ws : List ℕ) → n ≤ countTop → length ws < 4 → min countTop (n * count (flatIn ws)) ≡ n
+pub branch-count-end : (n : ℕ) (ws : List ℕ) → n ≤ countTop → length ws < 4 → min countTop (n * count (branchIn ws)) ≡ n
 unfolding count
-flat-count-end n ws h l = rw (flat-end ws l) (cap-small n h)
+branch-count-end n ws h l = rw (branch-end ws l) (cap-small n h)
 
-pub flat-count-more : (n : ℕ) (ws : List ℕ) → 4 ≤ length ws → min countTop (n * count (flatIn ws)) ≡ min countTop (min countTop (n * min countTop (countOf (firstEntry ws))) * count (flatIn (drop 4 ws)))
+pub branch-count-more : (n : ℕ) (ws : List ℕ) → 4 ≤ length ws → min countTop (n * count (branchIn ws)) ≡ min countTop (min countTop (n * min countTop (countOf (firstEntry ws))) * count (branchIn (drop 4 ws)))
 unfolding count
-flat-count-more n ws h = rw (flat-step ws h) (cap-more n (countOf (firstEntry ws)) (count (flatIn (drop 4 ws))))
+branch-count-more n ws h = rw (branch-step ws h) (cap-more n (countOf (firstEntry ws)) (count (branchIn (drop 4 ws))))
 
-pub flat-combinations : (ws : List ℕ) → combinations (flatIn ws) ≡ count (flatIn ws)
+pub branch-combinations : (ws : List ℕ) → combinations (branchIn ws) ≡ count (branchIn ws)
 unfolding count combinations
-flat-combinations =
-    by-entries (λ ws. combinations (flatIn ws) ≡ count (flatIn ws)) (λ ws h. rw (flat-end ws h) refl)
-    (λ ws h e. rw (flat-step ws h) (ap₂ _*_ (entry-combinations (getD ws 0 0) (getD ws 1 0) (getD ws 2 0)) e))
+branch-combinations =
+    by-entries (λ ws. combinations (branchIn ws) ≡ count (branchIn ws)) (λ ws h. rw (branch-end ws h) refl)
+    (λ ws h e. rw (branch-step ws h) (ap₂ _*_ (entry-combinations (getD ws 0 0) (getD ws 1 0) (getD ws 2 0)) e))
 
-pub flat-length : (ws : List ℕ) → lengthIn (flatIn ws) ≡ length ws / 4
+pub branch-length : (ws : List ℕ) → lengthIn (branchIn ws) ≡ length ws / 4
 unfolding lengthIn
-flat-length =
-    by-entries (λ ws. lengthIn (flatIn ws) ≡ length ws / 4) (λ ws h. rw (flat-end ws h) (omega arith))
-    (λ ws h e. rw (flat-step ws h) (let l = entry-length (getD ws 0 0) (getD ws 1 0) (getD ws 2 0) in omega (arith, length-drop 4 ws)))
+branch-length =
+    by-entries (λ ws. lengthIn (branchIn ws) ≡ length ws / 4) (λ ws h. rw (branch-end ws h) (omega arith))
+    (λ ws h e. rw (branch-step ws h) (let l = entry-length (getD ws 0 0) (getD ws 1 0) (getD ws 2 0) in omega (arith, length-drop 4 ws)))
 
 -- ---- lists after their marks
 
 module _ (ws : List ℕ) (h : 4 ≤ length ws) where
-  pub lists-count-more : (n : ℕ) → min countTop (n + countIn (listsIn ws)) ≡ min countTop (min countTop (n + min countTop (count (flatIn (inside ws)))) + countIn (listsIn (drop (ends ws) ws)))
+  pub lists-count-more : (n : ℕ) → min countTop (n + countIn (listsIn ws)) ≡ min countTop (min countTop (n + min countTop (count (branchIn (inside ws)))) + countIn (listsIn (drop (ends ws) ws)))
   unfolding count
-  lists-count-more n = rw (lists-step ws h) (cap-sum n (count (flatIn (inside ws))) (countIn (listsIn (drop (ends ws) ws))))
+  lists-count-more n = rw (lists-step ws h) (cap-sum n (count (branchIn (inside ws))) (countIn (listsIn (drop (ends ws) ws))))
 
-  pub lists-combinations-more : (n : ℕ) → min countTop (n * combinationsIn (listsIn ws)) ≡ min countTop (min countTop (n * min countTop (count (flatIn (inside ws)))) * combinationsIn (listsIn (drop (ends ws) ws)))
+  pub lists-combinations-more : (n : ℕ) → min countTop (n * combinationsIn (listsIn ws)) ≡ min countTop (min countTop (n * min countTop (count (branchIn (inside ws)))) * combinationsIn (listsIn (drop (ends ws) ws)))
   unfolding combinations
   lists-combinations-more n =
-      rw (lists-step ws h) (cap-more n (combinations (flatIn (inside ws))) (combinationsIn (listsIn (drop (ends ws) ws)))
-      ∙ ap (λ (x : ℕ). min countTop (min countTop (n * min countTop x) * combinationsIn (listsIn (drop (ends ws) ws)))) (flat-combinations (inside ws)))
+      rw (lists-step ws h) (cap-more n (combinations (branchIn (inside ws))) (combinationsIn (listsIn (drop (ends ws) ws)))
+      ∙ ap (λ (x : ℕ). min countTop (min countTop (n * min countTop x) * combinationsIn (listsIn (drop (ends ws) ws)))) (branch-combinations (inside ws)))
 
   pub lists-shorter : (n : ℕ) → shorter (listsIn ws) n ≡ shorter (listsIn (drop (ends ws) ws)) (min n (length (inside ws) / 4))
   unfolding shorter
-  lists-shorter n = rw (lists-step ws h) (ap (λ (x : ℕ). shorter (listsIn (drop (ends ws) ws)) (min n x)) (flat-length (inside ws)))
+  lists-shorter n = rw (lists-step ws h) (ap (λ (x : ℕ). shorter (listsIn (drop (ends ws) ws)) (min n x)) (branch-length (inside ws)))
 
   pub lists-shortest : shortest (listsIn ws) ≡ shorter (listsIn (drop (ends ws) ws)) (length (inside ws) / 4)
   unfolding shorter
-  lists-shortest = rw (lists-step ws h) (ap (shorter (listsIn (drop (ends ws) ws))) (flat-length (inside ws)))
+  lists-shortest = rw (lists-step ws h) (ap (shorter (listsIn (drop (ends ws) ws))) (branch-length (inside ws)))
 
   pub length-inside : length (inside ws) ≡ ends ws - 4
   length-inside = length-take (ends ws - 4) (drop 4 ws) ∙ (let a = length-drop 4 ws in let b = ends-le ws in omega arith)

@@ -1,4 +1,5 @@
 -- What a tally tells. Assumes nothing: this is a definition.
+-- To be believed: nothing.
 use mathlib.Core.Path.{_≡_}
 use Prim.Native.Nat.{ℕ, suc, min}
 use Rattle.meaning.specs.Limits.{literalLimit}

@@ -6,7 +6,7 @@ ghost use lib.ListN.{length};
 ghost use Rattle.tallies.specs.Tallies.{countTop};
 ghost use Rattle.picking.specs.Literals.{combinationsOf, combinations, combinationsIn, lengthOf, lengthIn, shortest};
 ghost use Rattle.picking.specs.Numbers.{countOf, count, countIn};
-ghost use Rattle.entries.specs.Words.{flatIn, listsIn, tokenIn, width, tokensIn};
+ghost use Rattle.entries.specs.Words.{branchIn, listsIn, tokenIn, width, tokensIn};
 ghost use Rattle.tallies.specs.Tallies.{Tallied};
 use base::LITERAL_LIMIT;
 
@@ -27,7 +27,7 @@ fn times(a: usize, b: usize) -> usize
 }
 
 pub fn count_list(ws: &[u32]) -> usize
-    ensures { λ r. ⌜ r ≡ min countTop (count (flatIn (now (ws .entry)))) ⌝ }
+    ensures { λ r. ⌜ r ≡ min countTop (count (branchIn (now (ws .entry)))) ⌝ }
 {
     let mut rest = ws;
     let mut n = 1;

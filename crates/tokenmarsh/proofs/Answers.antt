@@ -35,13 +35,13 @@ some-number {A} why e = absurd (apart (ap (λ (n : ℕ). eqb n 0) e ∙ number-s
     apart : true ≡ false → ⊥
     apart h = let z : _≡_ {A = ℕ} 0 1 = cc in omega arith
 
-pub read-tells : (a b : ReadAnswer) → readTold (readdoor.said a) ≡ readTold (readdoor.said b) → a ≡ b
+pub read-tells : (a b : ReadAnswer) → readTold (readdoor.readSaid a) ≡ readTold (readdoor.readSaid b) → a ≡ b
 read-tells (read.Read e u) (read.Read f v) h = ap₂ read.Read (ap (λ (r : ReadResult). r .reached) h) (ap (λ (r : ReadResult). r .words) h)
 read-tells (read.Read e u) (read.Refused c x) h = some-number c (ap (λ (r : ReadResult). r .refusal) h)
 read-tells (read.Refused c x) (read.Read f v) h = some-number c (sym (ap (λ (r : ReadResult). r .refusal) h))
 read-tells (read.Refused c x) (read.Refused d y) h = ap₂ read.Refused (number-one c d (ap (λ (r : ReadResult). r .refusal) h)) (ap (λ (r : ReadResult). r .place) h)
 
-pub compile-tells : (a b : CompileAnswer) → compileTold (compiledoor.said a) ≡ compileTold (compiledoor.said b) → a ≡ b
+pub compile-tells : (a b : CompileAnswer) → compileTold (compiledoor.compileSaid a) ≡ compileTold (compiledoor.compileSaid b) → a ≡ b
 compile-tells (compile.Compiled k e u) (compile.Compiled l f v) h =
     let reached : k ≡ l = ap (λ (r : CompileResult). r .reached) h in
     let forward : e ≡ f = ap (λ (r : CompileResult). r .forward) h in
@@ -51,7 +51,7 @@ compile-tells (compile.Compiled k e u) (compile.Refused c x) h = some-number c (
 compile-tells (compile.Refused c x) (compile.Compiled l f v) h = some-number c (sym (ap (λ (r : CompileResult). r .refusal) h))
 compile-tells (compile.Refused c x) (compile.Refused d y) h = ap₂ compile.Refused (number-one c d (ap (λ (r : CompileResult). r .refusal) h)) (ap (λ (r : CompileResult). r .place) h)
 
-pub literals-tells : (a b : LiteralsAnswer) → literalsTold (literaldoor.said a) ≡ literalsTold (literaldoor.said b) → a ≡ b
+pub literals-tells : (a b : LiteralsAnswer) → literalsTold (literaldoor.literalsSaid a) ≡ literalsTold (literaldoor.literalsSaid b) → a ≡ b
 literals-tells (literals.Picked e n k) (literals.Picked f m l) h =
     let reached : e ≡ f = ap (λ (r : LiteralsResult). r .reached) h in
     let count : n ≡ m = ap (λ (r : LiteralsResult). r .count) h in
@@ -61,13 +61,13 @@ literals-tells (literals.Picked e n k) (literals.Refused c x) h = some-number c 
 literals-tells (literals.Refused c x) (literals.Picked f m l) h = some-number c (sym (ap (λ (r : LiteralsResult). r .refusal) h))
 literals-tells (literals.Refused c x) (literals.Refused d y) h = ap₂ literals.Refused (number-one c d (ap (λ (r : LiteralsResult). r .refusal) h)) (ap (λ (r : LiteralsResult). r .place) h)
 
-pub mirror-tells : (a b : MirrorAnswer) → mirrorTold (mirrordoor.said a) ≡ mirrorTold (mirrordoor.said b) → a ≡ b
+pub mirror-tells : (a b : MirrorAnswer) → mirrorTold (mirrordoor.mirrorSaid a) ≡ mirrorTold (mirrordoor.mirrorSaid b) → a ≡ b
 mirror-tells (mirror.Mirrored n) (mirror.Mirrored m) h = ap mirror.Mirrored (ap (λ (r : MirrorResult). r .words) h)
 mirror-tells (mirror.Mirrored n) (mirror.Refused c) h = some-number c (ap (λ (r : MirrorResult). r .refusal) h)
 mirror-tells (mirror.Refused c) (mirror.Mirrored m) h = some-number c (sym (ap (λ (r : MirrorResult). r .refusal) h))
 mirror-tells (mirror.Refused c) (mirror.Refused d) h = ap mirror.Refused (number-one c d (ap (λ (r : MirrorResult). r .refusal) h))
 
-pub check-tells : (a b : Answer) → checkTold (doors.said a) ≡ checkTold (doors.said b) → a ≡ b
+pub check-tells : (a b : Answer) → checkTold (doors.checkSaid a) ≡ checkTold (doors.checkSaid b) → a ≡ b
 check-tells (check.At n) (check.At m) h = ap check.At (ap (λ (r : CheckResult). r .offset) h)
 check-tells (check.At n) check.NoMatch h = absurd (let z : _≡_ {A = ℕ} 1 0 = ap (λ (r : CheckResult). r .found) h in omega arith)
 check-tells (check.At n) (check.Refused c) h = some-number c (ap (λ (r : CheckResult). r .refusal) h)

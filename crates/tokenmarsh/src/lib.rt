@@ -12,7 +12,7 @@ ghost use Rattle.meaning.specs.Values.{Bytes};
 ghost use Rattle.meaning.specs.Words.{sound};
 ghost use Rattle.mirror.specs.MirrorDoor.{mirrorSays, mirrorLeaves};
 ghost use Rattle.compiledoor.specs.Door.{compileSays, forwardLeaves, reverseLeaves};
-ghost use Rattle.checkdoors.specs.Doors.{said, forwardSays, reverseSays};
+ghost use Rattle.checkdoors.specs.Doors.{checkSaid, forwardSays, reverseSays};
 ghost use Rattle.literaldoor.specs.Door.{literalsSays, bytesLeft, lengthsLeft};
 ghost use Rattle.readdoor.specs.Door.{readSays, readLeaves};
 ghost use Rattle.tokenmarsh.specs.Results.{readTold, compileTold, literalsTold, mirrorTold, checkTold, tailTold};
@@ -173,7 +173,7 @@ pub struct CheckResult {
 
 // A check's answer as a struct: what has no meaning is 0.
 fn told(r: Answer) -> CheckResult
-    ensures { λ s. ⌜ s ≡ checkTold (said r) ⌝ }
+    ensures { λ s. ⌜ s ≡ checkTold (checkSaid r) ⌝ }
 {
     match r {
         Answer::At(n) => CheckResult {

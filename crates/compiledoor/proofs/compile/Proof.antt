@@ -1,6 +1,6 @@
 -- `compiledoor::compile` meets its contract. Assumes nothing.
 use Rattle.compiledoor.proofs.DoorLaws as law
-use Rattle.compiledoor.specs.Door.{said}
+use Rattle.compiledoor.specs.Door.{compileSaid}
 use borrow.Author.Needs.{needs}
 use Rattle.compiledoor.proofs.compile.Statement.{statement}
 use Rattle.compiledoor.proofs.compile.Tie as tie
@@ -32,7 +32,7 @@ returns-3 c =
     let at-if2 = c .before .before .before .before .before .before .before .if2 in
     let at-if1 = c .before .before .before .before .before .before .before .before .if1 in
     let at-start = c .before .before .before .before .before .before .before .before .before .before .before .before in
-    law.door-text (at-start .args .text .now) (said (at-compile-text .result))
+    law.door-text (at-start .args .text .now) (compileSaid (at-compile-text .result))
     (at-start .args .forward .now) (at-compile-text .last .1 .0)
     (at-start .args .reverse .now) (at-compile-text .last .1 .1 .0)
     (law.both-fit (at-start .args .forward .now)

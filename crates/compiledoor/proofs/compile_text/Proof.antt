@@ -1,7 +1,7 @@
 -- `compiledoor::compile_text` meets its contract. Assumes nothing.
 use Rattle.meaning.specs.Limits.{tokenPool}
 use Rattle.compiledoor.proofs.DoorLaws as law
-use Rattle.compiledoor.specs.Door.{said}
+use Rattle.compiledoor.specs.Door.{compileSaid}
 use lib.ListN.{length}
 use native.Mathlib.Nat.{le-refl}
 use mathlib.Core.Path.{_≡_}
@@ -80,11 +80,11 @@ returns c =
     (at-r .given .0 .1 .0)
     (at-r .given .1) in law.text-compiled
     (at-start .args .text .now) _ (g .tokens)
-    (at-compile-tokens .result) (said (at-answer-of .result))
+    (at-compile-tokens .result) (compileSaid (at-answer-of .result))
     (at-start .args .forward .now)
     (at-compile-tokens .last .1 .0)
     (at-start .args .reverse .now)
-    (at-compile-tokens .last .1 .1 .0) (g .outcome) (at-answer-of .ensures)
+    (at-compile-tokens .last .1 .1 .0) (g .verdict) (at-answer-of .ensures)
     (at-compile-tokens .ensures (g .tokens) (g .words) (g .spelled))
 
 same-length-3 : tie.Need-same-length-3

@@ -1,7 +1,7 @@
 -- `compiler::compile_simple` meets its contract. Assumes nothing.
 use Rattle.meaning.specs.Limits.{entryLimit}
 use Rattle.compiler.proofs.ProgramLaws as law
-use Rattle.compiler.specs.Made.{Makes}
+use Rattle.compiler.specs.Made.{Fills}
 use Rattle.compiling.specs.Compile.{Compiled}
 use lib.ListN.{length}
 use mathlib.Core.Bool.{true, false}
@@ -109,7 +109,7 @@ returns c =
     let at-find-starts = c .before .before .before .before .before .before .before .before .before .before .before .before .before .before .before .before .before .before .before .before .before .find-starts in
     let at-start = c .before .before .before .before .before .before .before .before .before .before .before .before .before .before .before .before .before .before .before .before .before .before .before .before .before .before in
     λ ts e s. let q = at-find-starts .ensures ts e in subst
-    (λ (x : Compiled). Makes x (at-finish .result) (at-start .args .forward .now) (at-finish .last .1 .1 .1 .1 .1 .0) (at-start .args .reverse .now) (at-finish .last .1 .1 .1 .1 .1 .1 .0))
+    (λ (x : Compiled). Fills x (at-finish .result) (at-start .args .forward .now) (at-finish .last .1 .1 .1 .1 .1 .0) (at-start .args .reverse .now) (at-finish .last .1 .1 .1 .1 .1 .1 .0))
     (law.emitted (at-start .args .tokens .now) ts e s (at-start .pre .1 ts e) (at-find-starts .result) _ _ (q .0) (q .1) _ _ _ _ (at-add-tokens .result .count) (at-add-tokens2 .result .count)
     (at-add-tokens .result .long) (at-add-tokens2 .result .long) (at-either .result) (at-add-tokens .ensures .0) (at-add-tokens2 .ensures .0) (at-add-tokens .ensures .1)
     (at-add-tokens2 .ensures .1) (at-either .ensures) (at-add-tokens .ensures .2) (at-add-tokens2 .ensures .2)) (at-finish .ensures)

@@ -1,6 +1,6 @@
 -- `compiler::simple_at` meets its contract. Assumes nothing.
 use Rattle.compiling.specs.Compile.{simpleToken}
-use Rattle.compiler.specs.Walks.{toldBy, simpleAt, plainEntries}
+use Rattle.compiler.specs.Walks.{toldBy, simpleAt, flatEntries}
 use Rattle.emit.proofs.AltLaws as alts
 use borrow.Author.Tests.{eq-eqb, ne-eqb}
 use lib.ListN.{getD, take, drop}
@@ -59,42 +59,42 @@ add-to-2 c =
     let at-start = c .before .before .before .before in
     let s = alts.size-least (at-start .args .ws .now) (at-start .args .at) in let pre = at-start .pre in let e = alts.size-five (at-start .args .ws .now) (at-start .args .at) (at-if1 .taken) in omega arith
 
-mul-plain-entries : tie.Need-mul-plain-entries
-mul-plain-entries c =
+mul-flat-entries : tie.Need-mul-flat-entries
+mul-flat-entries c =
     let at-if1 = c .before .if1 in
     let at-start = c .before .before .before .before in
     let s = alts.size-least (at-start .args .ws .now) (at-start .args .at) in let pre = at-start .pre in let e = alts.size-five (at-start .args .ws .now) (at-start .args .at) (at-if1 .taken) in omega arith
 
-sub-plain-entries : tie.Need-sub-plain-entries
-sub-plain-entries c =
+sub-flat-entries : tie.Need-sub-flat-entries
+sub-flat-entries c =
     let at-if1 = c .before .if1 in
     let at-start = c .before .before .before .before in
     let s = alts.size-least (at-start .args .ws .now) (at-start .args .at) in let pre = at-start .pre in let e = alts.size-five (at-start .args .ws .now) (at-start .args .at) (at-if1 .taken) in omega arith
 
-part-plain-entries-start : tie.Need-part-plain-entries-start
-part-plain-entries-start c =
+part-flat-entries-start : tie.Need-part-flat-entries-start
+part-flat-entries-start c =
     let at-if1 = c .before .if1 in
     let at-start = c .before .before .before .before in
     let s = alts.size-least (at-start .args .ws .now) (at-start .args .at) in let pre = at-start .pre in let e = alts.size-five (at-start .args .ws .now) (at-start .args .at) (at-if1 .taken) in omega arith
 
-part-plain-entries-end : tie.Need-part-plain-entries-end
-part-plain-entries-end c =
+part-flat-entries-end : tie.Need-part-flat-entries-end
+part-flat-entries-end c =
     let at-if1 = c .before .if1 in
     let at-start = c .before .before .before .before in
     let s = alts.size-least (at-start .args .ws .now) (at-start .args .at) in let pre = at-start .pre in let e = alts.size-five (at-start .args .ws .now) (at-start .args .at) (at-if1 .taken) in omega arith
 
-plain-entries-requires : tie.Need-plain-entries-requires
-plain-entries-requires c κs = search needs
+flat-entries-requires : tie.Need-flat-entries-requires
+flat-entries-requires c κs = search needs
 
 returns : tie.Need-returns
 unfolding simpleAt
 returns c =
-    let at-plain-entries = c .plain-entries in
+    let at-flat-entries = c .flat-entries in
     let at-if1 = c .before .before .before .if1 in
     let at-start = c .before .before .before .before .before .before in
     let e : (at-start .args .at) + 4 + 4 * getD (at-start .args .ws .now) ((at-start .args .at) + 2) 0 - ((at-start .args .at) + 4) ≡ 4 * getD (at-start .args .ws .now)
     ((at-start .args .at) + 2) 0 = omega arith in rw (eq-eqb (getD (at-start .args .ws .now) (at-start .args .at) 0) 5 (at-if1 .taken))
-    (at-plain-entries .ensures ∙ ap (λ (n : ℕ). plainEntries (take n (drop ((at-start .args .at) + 4) (at-start .args .ws .now)))) e)
+    (at-flat-entries .ensures ∙ ap (λ (n : ℕ). flatEntries (take n (drop ((at-start .args .at) + 4) (at-start .args .ws .now)))) e)
 
 add-jump-near : tie.Need-add-jump-near
 add-jump-near c =
@@ -156,11 +156,11 @@ simple-at-spec =
     cast-to
     mul-to-2
     add-to-2
-    mul-plain-entries
-    sub-plain-entries
-    part-plain-entries-start
-    part-plain-entries-end
-    plain-entries-requires
+    mul-flat-entries
+    sub-flat-entries
+    part-flat-entries-start
+    part-flat-entries-end
+    flat-entries-requires
     returns
     add-jump-near
     mul-jump-near

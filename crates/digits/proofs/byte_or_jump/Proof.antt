@@ -1,6 +1,6 @@
 -- Each way out gives what the definition gives there. Assumes nothing.
 use mathlib.Core.Path.{sym, ap, _∙_}
-use Rattle.reading.specs.Pieces.{plainly, rangeAt, jumped, _else_}
+use Rattle.reading.specs.Pieces.{hexToken, rangeAt, jumped, _else_}
 use Rattle.digits.specs.Answers.{spelled}
 use Rattle.reading.proofs.PieceSteps.{hex-byte, byte-else}
 use borrow.Author.Needs.{needs}
@@ -23,7 +23,7 @@ jump-requires : tie.Need-jump-requires
 jump-requires c κs = search needs
 
 returns : tie.Need-returns
-unfolding plainly _else_
+unfolding hexToken _else_
 returns c =
     let at-h = c .before .h in
     let at-hex-byte = c .before .before .before .hex-byte in
@@ -31,7 +31,7 @@ returns c =
     sym (byte-else (at-start .args .text .now) (at-start .args .at) (sym (at-hex-byte .ensures) ∙ ap spelled (at-h .given .1)) (jumped (at-start .args .inside) (at-start .args .at) (rangeAt (at-start .args .text .now) (at-start .args .at))))
 
 returns-2 : tie.Need-returns-2
-unfolding plainly _else_
+unfolding hexToken _else_
 returns-2 c =
     let at-h2 = c .before .h2 in
     let at-hex-byte = c .before .before .before .hex-byte in
@@ -39,7 +39,7 @@ returns-2 c =
     sym (byte-else (at-start .args .text .now) (at-start .args .at) (sym (at-hex-byte .ensures) ∙ ap spelled (at-h2 .given .1)) (jumped (at-start .args .inside) (at-start .args .at) (rangeAt (at-start .args .text .now) (at-start .args .at))))
 
 returns-3 : tie.Need-returns-3
-unfolding plainly _else_
+unfolding hexToken _else_
 returns-3 c =
     let at-jump = c .jump in
     let at-enum-told = c .before .enum-told in

@@ -105,7 +105,7 @@ add-lists-requires c κs =
     let s = law.size-five (at-start .args .tokens .now) (at-start .args .at) (at-start .pre .1) in
     let pre = at-start .pre in
     let p = law.handed-long (at-start .args .tokens .now) (at-start .args .at) (at-start .pre .0) (at-start .pre .1) in
-    (law.handed-listed (at-start .args .tokens .now) (at-start .args .at) (at-start .pre .0) (at-start .pre .1), omega arith, simp (length-take, length-drop) (omega arith))
+    (law.handed-lists (at-start .args .tokens .now) (at-start .args .at) (at-start .pre .0) (at-start .pre .1), omega arith, simp (length-take, length-drop) (omega arith))
 
 cast-t23 : tie.Need-cast-t23
 cast-t23 c =

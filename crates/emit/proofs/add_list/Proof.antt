@@ -27,35 +27,35 @@ place-requires c κs = search needs
 mul-at : tie.Need-mul-at Inv-loop μ-loop
 mul-at c = search needs
 
-mul-entry-piece : tie.Need-mul-entry-piece Inv-loop μ-loop
-mul-entry-piece c = search needs
+mul-entry-addend : tie.Need-mul-entry-addend Inv-loop μ-loop
+mul-entry-addend c = search needs
 
-shared-slice-read-entry-piece : tie.Need-shared-slice-read-entry-piece Inv-loop μ-loop
-shared-slice-read-entry-piece c = search needs
+shared-slice-read-entry-addend : tie.Need-shared-slice-read-entry-addend Inv-loop μ-loop
+shared-slice-read-entry-addend c = search needs
 
-add-entry-piece : tie.Need-add-entry-piece Inv-loop μ-loop
-add-entry-piece c = search needs
+add-entry-addend : tie.Need-add-entry-addend Inv-loop μ-loop
+add-entry-addend c = search needs
 
-mul-entry-piece-2 : tie.Need-mul-entry-piece-2 Inv-loop μ-loop
-mul-entry-piece-2 c = search needs
+mul-entry-addend-2 : tie.Need-mul-entry-addend-2 Inv-loop μ-loop
+mul-entry-addend-2 c = search needs
 
-shared-slice-read-entry-piece-2 : tie.Need-shared-slice-read-entry-piece-2 Inv-loop μ-loop
-shared-slice-read-entry-piece-2 c = search needs
+shared-slice-read-entry-addend-2 : tie.Need-shared-slice-read-entry-addend-2 Inv-loop μ-loop
+shared-slice-read-entry-addend-2 c = search needs
 
-add-entry-piece-2 : tie.Need-add-entry-piece-2 Inv-loop μ-loop
-add-entry-piece-2 c = search needs
+add-entry-addend-2 : tie.Need-add-entry-addend-2 Inv-loop μ-loop
+add-entry-addend-2 c = search needs
 
-mul-entry-piece-3 : tie.Need-mul-entry-piece-3 Inv-loop μ-loop
-mul-entry-piece-3 c = search needs
+mul-entry-addend-3 : tie.Need-mul-entry-addend-3 Inv-loop μ-loop
+mul-entry-addend-3 c = search needs
 
-shared-slice-read-entry-piece-3 : tie.Need-shared-slice-read-entry-piece-3 Inv-loop μ-loop
-shared-slice-read-entry-piece-3 c = search needs
+shared-slice-read-entry-addend-3 : tie.Need-shared-slice-read-entry-addend-3 Inv-loop μ-loop
+shared-slice-read-entry-addend-3 c = search needs
 
-entry-piece-requires : tie.Need-entry-piece-requires Inv-loop μ-loop
-entry-piece-requires c κs = search needs
+entry-addend-requires : tie.Need-entry-addend-requires Inv-loop μ-loop
+entry-addend-requires c κs = search needs
 
-add-piece-requires : tie.Need-add-piece-requires Inv-loop μ-loop
-add-piece-requires c κs =
+add-one-requires : tie.Need-add-one-requires Inv-loop μ-loop
+add-one-requires c κs =
     let at-loop = c .before .before .before .before .before .before .before .loop in
     let at-start = c .before .before .before .before .before .before .before .before .before .before in
     (omega (arith, at-start .pre), hold.holds-behind _ (at-start .args .out .now) (at-loop .out) (at-loop .n) (at-loop .last) (at-loop .inv .3))
@@ -68,16 +68,16 @@ loop-less c = search needs
 
 loop-again : tie.Need-loop-again Inv-loop μ-loop
 loop-again c =
-    let at-add-piece = c .before .before .add-piece in
-    let at-entry-piece = c .before .before .before .before .entry-piece in
+    let at-add-one = c .before .before .add-one in
+    let at-entry-addend = c .before .before .before .before .entry-addend in
     let at-place = c .before .before .before .before .before .before .before .before .place in
     let at-loop = c .before .before .before .before .before .before .before .before .before .before .loop in
     let at-start = c .before .before .before .before .before .before .before .before .before .before .before .before .before in
     let l = at-loop in
-    let p : at-entry-piece .result ≡ _ = law.list-piece (at-start .args .backwards) (at-start .args .entries .now) (l .k) (at-entry-piece .result) (4 * at-place .result) (at-place .result) refl (at-place .ensures .0) (at-entry-piece .ensures) in
+    let p : at-entry-addend .result ≡ _ = law.list-addend (at-start .args .backwards) (at-start .args .entries .now) (l .k) (at-entry-addend .result) (4 * at-place .result) (at-place .result) refl (at-place .ensures .0) (at-entry-addend .ensures) in
     let r : l .n < length (l .out) = omega (arith, at-start .pre) in
-    let h = law.added-more (listItem (at-start .args .backwards) (at-start .args .entries .now)) (l .k) (at-start .args .out .now) (l .out) (l .n) (l .last) (at-entry-piece .result) _ _ _ (law.list-single (at-start .args .backwards) (at-start .args .entries .now) (l .k)) p r (l .inv .3) (at-add-piece .ensures) in
-    (omega arith, omega (arith, hold.put-count-le (l .n) (l .last) (at-entry-piece .result), at-add-piece .ensures .0), (at-add-piece .kept .0) ∙ l .inv .2, h)
+    let h = law.added-more (listItem (at-start .args .backwards) (at-start .args .entries .now)) (l .k) (at-start .args .out .now) (l .out) (l .n) (l .last) (at-entry-addend .result) _ _ _ (law.list-single (at-start .args .backwards) (at-start .args .entries .now) (l .k)) p r (l .inv .3) (at-add-one .ensures) in
+    (omega arith, omega (arith, hold.put-count-le (l .n) (l .last) (at-entry-addend .result), at-add-one .ensures .0), (at-add-one .kept .0) ∙ l .inv .2, h)
 
 same-length : tie.Need-same-length Inv-loop μ-loop
 same-length c = search needs
@@ -99,16 +99,16 @@ add-list-spec =
     loop-holds
     place-requires
     mul-at
-    mul-entry-piece
-    shared-slice-read-entry-piece
-    add-entry-piece
-    mul-entry-piece-2
-    shared-slice-read-entry-piece-2
-    add-entry-piece-2
-    mul-entry-piece-3
-    shared-slice-read-entry-piece-3
-    entry-piece-requires
-    add-piece-requires
+    mul-entry-addend
+    shared-slice-read-entry-addend
+    add-entry-addend
+    mul-entry-addend-2
+    shared-slice-read-entry-addend-2
+    add-entry-addend-2
+    mul-entry-addend-3
+    shared-slice-read-entry-addend-3
+    entry-addend-requires
+    add-one-requires
     add-k
     loop-less
     loop-again

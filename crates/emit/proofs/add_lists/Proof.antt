@@ -157,7 +157,7 @@ branch-word-requires c κs =
     let s = at-loop .inv .same in
     let pre = at-start .pre in omega (
       arith,
-      law.listed-few (at-start .args .backwards) (at-start .args .lists) (at-start .args .entries .now) (at-start .args .out .now) (at-loop .out) (at-loop .x) (at-loop .n) (at-loop .l)
+      law.of-list-few (at-start .args .backwards) (at-start .args .lists) (at-start .args .entries .now) (at-start .args .out .now) (at-loop .out) (at-loop .x) (at-loop .n) (at-loop .l)
           (at-loop .long) (at-loop .inv) (at-loop-test .taken),
       at-add-list .ensures .0,
     )

@@ -71,41 +71,41 @@ returns c =
     (law.token-five (at-start .args .tokens .now) (at-start .args .at) (at-start .args .backwards) (at-if1 .taken)) (omega arith) (at-add-alternation .ensures .0) (at-add-alternation .ensures .1)
     (at-either .ensures) (at-add-alternation .ensures .2)
 
-add-entry-piece : tie.Need-add-entry-piece
-add-entry-piece c =
+add-entry-addend : tie.Need-add-entry-addend
+add-entry-addend c =
     let at-start = c .before .before .before .before in
     let s = law.size-least (at-start .args .tokens .now) (at-start .args .at) in let f = at-start .pre .0 .fits in let pre = at-start .pre in omega arith
 
-mul-entry-piece : tie.Need-mul-entry-piece
-mul-entry-piece c =
+mul-entry-addend : tie.Need-mul-entry-addend
+mul-entry-addend c =
     let at-start = c .before .before .before .before in
     let s = law.size-least (at-start .args .tokens .now) (at-start .args .at) in let f = at-start .pre .0 .fits in let pre = at-start .pre in omega arith
 
-shared-slice-read-entry-piece : tie.Need-shared-slice-read-entry-piece
-shared-slice-read-entry-piece c =
+shared-slice-read-entry-addend : tie.Need-shared-slice-read-entry-addend
+shared-slice-read-entry-addend c =
     let at-start = c .before .before .before .before .before in
     let s = law.size-least (at-start .args .tokens .now) (at-start .args .at) in let f = at-start .pre .0 .fits in let pre = at-start .pre in omega arith
 
-add-entry-piece-2 : tie.Need-add-entry-piece-2
-add-entry-piece-2 c =
+add-entry-addend-2 : tie.Need-add-entry-addend-2
+add-entry-addend-2 c =
     let at-start = c .before .before .before .before .before in
     let s = law.size-least (at-start .args .tokens .now) (at-start .args .at) in let f = at-start .pre .0 .fits in let pre = at-start .pre in omega arith
 
-mul-entry-piece-2 : tie.Need-mul-entry-piece-2
-mul-entry-piece-2 c =
+mul-entry-addend-2 : tie.Need-mul-entry-addend-2
+mul-entry-addend-2 c =
     let at-start = c .before .before .before .before .before in
     let s = law.size-least (at-start .args .tokens .now) (at-start .args .at) in let f = at-start .pre .0 .fits in let pre = at-start .pre in omega arith
 
-shared-slice-read-entry-piece-2 : tie.Need-shared-slice-read-entry-piece-2
-shared-slice-read-entry-piece-2 c =
+shared-slice-read-entry-addend-2 : tie.Need-shared-slice-read-entry-addend-2
+shared-slice-read-entry-addend-2 c =
     let at-start = c .before .before .before .before .before .before in
     let s = law.size-least (at-start .args .tokens .now) (at-start .args .at) in let f = at-start .pre .0 .fits in let pre = at-start .pre in omega arith
 
-entry-piece-requires : tie.Need-entry-piece-requires
-entry-piece-requires c κs = search needs
+entry-addend-requires : tie.Need-entry-addend-requires
+entry-addend-requires c κs = search needs
 
-add-piece-requires : tie.Need-add-piece-requires
-add-piece-requires c κs =
+add-one-requires : tie.Need-add-one-requires
+add-one-requires c κs =
     let at-start = c .before .before .before .before .before .before .before .before in
     let s = law.size-least (at-start .args .tokens .now) (at-start .args .at) in let f = at-start .pre .0 .fits in let pre = at-start .pre in (omega arith, at-start .pre .3)
 
@@ -114,14 +114,14 @@ same-length-2 c = search needs
 
 returns-2 : tie.Need-returns-2
 returns-2 c =
-    let at-add-piece = c .before .before .add-piece in
-    let at-entry-piece = c .before .before .before .before .entry-piece in
+    let at-add-one = c .before .before .add-one in
+    let at-entry-addend = c .before .before .before .before .entry-addend in
     let at-if1 = c .before .before .before .before .before .before .before .if1 in
     let at-start = c .before .before .before .before .before .before .before .before .before .before .before in
     law.step-single (at-start .args .out .now) (at-start .args .n) (at-start .args .last) (at-start .args .long)
-    (tokenAt (at-start .args .backwards) (at-start .args .tokens .now) (at-start .args .at)) (entryAt (at-start .args .tokens .now) (at-start .args .at)) (at-entry-piece .result) _ _ _
+    (tokenAt (at-start .args .backwards) (at-start .args .tokens .now) (at-start .args .at)) (entryAt (at-start .args .tokens .now) (at-start .args .at)) (at-entry-addend .result) _ _ _
     (law.token-other (at-start .args .tokens .now) (at-start .args .at) (at-start .args .backwards) (at-if1 .left)) (law.entry-at-single (at-start .args .tokens .now) (at-start .args .at))
-    (law.entry-piece-is (at-start .args .tokens .now) (at-start .args .at) (at-entry-piece .result) (at-entry-piece .ensures)) (at-add-piece .ensures)
+    (law.entry-addend-is (at-start .args .tokens .now) (at-start .args .at) (at-entry-addend .result) (at-entry-addend .ensures)) (at-add-one .ensures)
 
 pub add-token-spec : {M : Type 1} → statement M
 add-token-spec =
@@ -138,13 +138,13 @@ add-token-spec =
     either-requires
     same-length
     returns
-    add-entry-piece
-    mul-entry-piece
-    shared-slice-read-entry-piece
-    add-entry-piece-2
-    mul-entry-piece-2
-    shared-slice-read-entry-piece-2
-    entry-piece-requires
-    add-piece-requires
+    add-entry-addend
+    mul-entry-addend
+    shared-slice-read-entry-addend
+    add-entry-addend-2
+    mul-entry-addend-2
+    shared-slice-read-entry-addend-2
+    entry-addend-requires
+    add-one-requires
     same-length-2
     returns-2)

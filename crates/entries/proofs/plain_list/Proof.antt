@@ -2,7 +2,7 @@
 use Prim.Native.Nat.{ℕ}
 use mathlib.Core.List.{List}
 use Rattle.entries.proofs.PartLaws as part
-use Rattle.entries.specs.Words.{flatIn}
+use Rattle.entries.specs.Words.{branchIn}
 use Rattle.picking.specs.Literals.{plainList}
 use lib.ListN.{length}
 use mathlib.Core.Path.{_≡_, sym, ap, _∙_}
@@ -10,11 +10,12 @@ use Rattle.entries.proofs.PlainLaws as law
 use native.Mathlib.Omega.{arith}
 use borrow.Author.Needs.{needs}
 use borrow.Author.Tests.{not-true, not-false}
+use Rattle.meaning.proofs.PartLaws.{to-end}
 use Rattle.entries.proofs.plain_list.Statement.{statement}
 use Rattle.entries.proofs.plain_list.Tie as tie
 
 abbrev Inv-loop : tie.InvT-loop
-Inv-loop ws rest₀ rest = plainList (flatIn ws) ≡ plainList (flatIn rest)
+Inv-loop ws rest₀ rest = plainList (branchIn ws) ≡ plainList (branchIn rest)
 
 abbrev μ-loop : tie.MeasureT-loop
 μ-loop ws rest₀ rest = length rest
@@ -60,7 +61,7 @@ loop-again c =
     let at-plain-entry = c .before .before .plain-entry in
     let at-loop-test = c .before .before .before .before .before .loop-test in
     let at-loop = c .before .before .before .before .before .before .loop in
-    at-loop .inv ∙ law.list-more (at-loop .rest .now) (at-loop-test .taken) (sym (at-plain-entry .ensures) ∙ not-false _ (at-if1 .left)) ∙ ap (λ (l : List ℕ). plainList (flatIn l)) (sym (part.part-all 4 (at-loop .rest .now)))
+    at-loop .inv ∙ law.list-more (at-loop .rest .now) (at-loop-test .taken) (sym (at-plain-entry .ensures) ∙ not-false _ (at-if1 .left)) ∙ ap (λ (l : List ℕ). plainList (branchIn l)) (sym (to-end 4 (at-loop .rest .now)))
 
 returns-2 : tie.Need-returns-2 Inv-loop μ-loop
 returns-2 c =

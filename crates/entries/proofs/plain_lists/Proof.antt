@@ -1,7 +1,7 @@
 -- `entries::plain_lists` meets its contract. Assumes nothing.
 use Prim.Native.Nat.{ℕ, _-_, _≤_}
 use Rattle.picking.specs.Literals.{plainList, plainLists}
-use Rattle.entries.specs.Words.{flatIn, listsIn}
+use Rattle.entries.specs.Words.{branchIn, listsIn}
 use Rattle.entries.proofs.StepLaws as step
 use mathlib.Core.List.{List}
 use Rattle.entries.proofs.PartLaws as part
@@ -11,6 +11,7 @@ use Rattle.entries.proofs.PlainLaws as law
 use native.Mathlib.Omega.{arith}
 use borrow.Author.Needs.{needs}
 use borrow.Author.Tests.{not-true, not-false}
+use Rattle.meaning.proofs.PartLaws.{to-end}
 use Rattle.entries.proofs.plain_lists.Statement.{statement}
 use Rattle.entries.proofs.plain_lists.Tie as tie
 
@@ -56,7 +57,7 @@ returns c =
     let at-end-of = c .before .before .before .end-of in
     let at-loop-test = c .before .before .before .before .loop-test in
     let at-loop = c .before .before .before .before .before .loop in
-    sym (at-loop .inv .1 ∙ law.lists-stop (at-loop .rest .now) (at-loop-test .taken) (ap (λ (x : ℕ). plainList (flatIn (take (x - 4) (drop 4 (at-loop .rest .now))))) (sym (at-end-of .ensures)) ∙ sym (at-plain-list .ensures) ∙ not-true _ (at-if1 .taken)))
+    sym (at-loop .inv .1 ∙ law.lists-stop (at-loop .rest .now) (at-loop-test .taken) (ap (λ (x : ℕ). plainList (branchIn (take (x - 4) (drop 4 (at-loop .rest .now))))) (sym (at-end-of .ensures)) ∙ sym (at-plain-list .ensures) ∙ not-true _ (at-if1 .taken)))
 
 mul-rest : tie.Need-mul-rest Inv-loop μ-loop
 mul-rest c =
@@ -96,8 +97,8 @@ loop-again c =
       omega (arith, part.part-le (at-end-of .result) (at-loop .rest .now)),
       at-loop .inv .1
           ∙ law.lists-more (at-loop .rest .now) (at-loop-test .taken)
-          (ap (λ (x : ℕ). plainList (flatIn (take (x - 4) (drop 4 (at-loop .rest .now))))) (sym (at-end-of .ensures)) ∙ sym (at-plain-list .ensures) ∙ not-false _ (at-if1 .left))
-          ∙ ap (λ (l : List ℕ). plainLists (listsIn l)) (ap (λ (x : ℕ). drop x (at-loop .rest .now)) (sym (at-end-of .ensures)) ∙ sym (part.part-all (at-end-of .result) (at-loop .rest .now))),
+          (ap (λ (x : ℕ). plainList (branchIn (take (x - 4) (drop 4 (at-loop .rest .now))))) (sym (at-end-of .ensures)) ∙ sym (at-plain-list .ensures) ∙ not-false _ (at-if1 .left))
+          ∙ ap (λ (l : List ℕ). plainLists (listsIn l)) (ap (λ (x : ℕ). drop x (at-loop .rest .now)) (sym (at-end-of .ensures)) ∙ sym (to-end (at-end-of .result) (at-loop .rest .now))),
     )
 
 returns-2 : tie.Need-returns-2 Inv-loop μ-loop

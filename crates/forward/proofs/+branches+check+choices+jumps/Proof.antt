@@ -15,7 +15,7 @@ use Rattle.meaning.specs.Words.{prog, branchesOf, Sound, SoundBranches}
 use Rattle.meaning.proofs.KindLaws.{kind-jump}
 use Rattle.meaning.proofs.RunLaws.{run-range-empty}
 use Rattle.steps.specs.Steps.{answer}
-use Rattle.nodes.proofs.WordHeads.{word-pos, from, to-end, length-from}
+use Rattle.nodes.proofs.WordHeads.{word-pos}
 use Rattle.steps.proofs.Heads.{byte-pos, whole, word-whole}
 use Rattle.steps.proofs.Tests.{is-test, passes-as}
 use Rattle.steps.proofs.Answers.{left-fits}
@@ -26,6 +26,7 @@ use Rattle.steps.proofs.Choices as choice
 use Prim.Native.Nat.{ℕ, _<_}
 use borrow.Fn.Kinds.{In}
 use borrow.Fn.PlainCycle.{Measures, is, falls, and}
+use Rattle.meaning.proofs.PartLaws.{from, to-end, length-from}
 use Rattle.forward.proofs.branches.Reads as branches
 use Rattle.forward.proofs.branches.Kinds as branches-kinds
 use Rattle.forward.proofs.+branches+check+choices+jumps.Lts-branches as branches-lts

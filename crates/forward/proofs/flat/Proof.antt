@@ -4,20 +4,21 @@ use mathlib.Core.Bool.{true}
 use lib.ListN.{length}
 use Rattle.meaning.specs.Choices.{short}
 use Rattle.meaning.specs.Rows.{forward}
-use Rattle.meaning.specs.Words.{prog, plainWords}
+use Rattle.meaning.specs.Words.{prog, flatWords}
 use Rattle.meaning.proofs.KindLaws.{kind-jump}
 use Rattle.steps.specs.Steps.{answer}
-use Rattle.nodes.proofs.WordHeads.{word-pos, to-end, length-from}
+use Rattle.nodes.proofs.WordHeads.{word-pos}
 use Rattle.steps.proofs.Heads.{byte-pos}
 use Rattle.steps.proofs.Tests.{passes-as}
 use Rattle.steps.proofs.Turns as turns
 use native.Mathlib.Omega.{arith}
 use borrow.Author.Needs.{needs}
+use Rattle.meaning.proofs.PartLaws.{to-end, length-from}
 use Rattle.forward.proofs.flat.Statement.{statement}
 use Rattle.forward.proofs.flat.Tie as tie
 
 abbrev Inv-loop : tie.InvT-loop
-Inv-loop branch mem ns₀ m₀ ns m = (plainWords ns ≡ true) × (forward (prog branch) mem ≡ forward (prog ns) m)
+Inv-loop branch mem ns₀ m₀ ns m = (flatWords ns ≡ true) × (forward (prog branch) mem ≡ forward (prog ns) m)
 
 abbrev μ-loop : tie.MeasureT-loop
 μ-loop branch mem ns₀ m₀ ns m = length ns
@@ -124,11 +125,11 @@ loop-again c =
     let L = at-loop .ns .now in
     let W = at-w .given .0 .0 in
     let e = sym (at-first-word .ensures) ∙ at-w .given .1 in
-    let plain = at-loop .inv .0 in
+    let flat = at-loop .inv .0 in
     let inv = at-loop .inv .1 in
     let M = at-loop .m .now in
     let kind = kind-jump W (sym (at-kind .ensures) ∙ at-if1 .taken) (at-first .ensures) in
-    (turns.plain-tail L W e plain, inv ∙ turns.turn-jump L W e short M _ _ (to-end _ M) kind (at-if2 .left))
+    (turns.flat-tail L W e flat, inv ∙ turns.turn-jump L W e short M _ _ (to-end _ M) kind (at-if2 .left))
 
 first-byte-requires : tie.Need-first-byte-requires Inv-loop μ-loop
 first-byte-requires c κs = search needs
@@ -153,8 +154,8 @@ returns-3 c =
     let W = at-w .given .0 .0 in
     let e = sym (at-first-word .ensures) ∙ at-w .given .1 in
     let M = at-loop .m .now in
-    let plain = at-loop .inv .0 in
-    let test = turns.plain-test L W e plain (λ z. at-if1 .left (at-kind .ensures ∙ z)) in
+    let flat = at-loop .inv .0 in
+    let test = turns.flat-test L W e flat (λ z. at-if1 .left (at-kind .ensures ∙ z)) in
     ap answer (sym (inv ∙ turns.stop-short L W e short M (test .0) (test .1) (sym (at-first-byte .ensures) ∙ at-enum-told2 .given .1)))
 
 sub-m-2 : tie.Need-sub-m-2 Inv-loop μ-loop
@@ -207,13 +208,13 @@ loop-again-2 c =
     let L = at-loop .ns .now in
     let W = at-w .given .0 .0 in
     let e = sym (at-first-word .ensures) ∙ at-w .given .1 in
-    let plain = at-loop .inv .0 in
+    let flat = at-loop .inv .0 in
     let inv = at-loop .inv .1 in
     let M = at-loop .m .now in
-    let test = turns.plain-test L W e plain (λ z. at-if1 .left (at-kind .ensures ∙ z)) in
+    let test = turns.flat-test L W e flat (λ z. at-if1 .left (at-kind .ensures ∙ z)) in
     let B = at-b .given .0 .0 in
     let f = sym (at-first-byte .ensures) ∙ at-b .given .1 in
-    (turns.plain-tail L W e plain, inv ∙ turns.turn-one L W e short M _ (to-end 1 M) (test .0) B (test .1) f (passes-as W B (test .0) (test .1) (sym (at-if3 .taken) ∙ at-word-passes .ensures)))
+    (turns.flat-tail L W e flat, inv ∙ turns.turn-one L W e short M _ (to-end 1 M) (test .0) B (test .1) f (passes-as W B (test .0) (test .1) (sym (at-if3 .taken) ∙ at-word-passes .ensures)))
 
 returns-4 : tie.Need-returns-4 Inv-loop μ-loop
 returns-4 c =
@@ -231,8 +232,8 @@ returns-4 c =
     let W = at-w .given .0 .0 in
     let e = sym (at-first-word .ensures) ∙ at-w .given .1 in
     let M = at-loop .m .now in
-    let plain = at-loop .inv .0 in
-    let test = turns.plain-test L W e plain (λ z. at-if1 .left (at-kind .ensures ∙ z)) in
+    let flat = at-loop .inv .0 in
+    let test = turns.flat-test L W e flat (λ z. at-if1 .left (at-kind .ensures ∙ z)) in
     let B = at-b .given .0 .0 in
     let f = sym (at-first-byte .ensures) ∙ at-b .given .1 in
     ap answer (sym (inv ∙ turns.stop-one L W e short M (test .0) B (test .1) f (passes-as W B (test .0) (test .1) (sym (at-if3 .left) ∙ at-word-passes .ensures))))

@@ -6,12 +6,12 @@ use lib.ListN.{length}
 use Rattle.meaning.specs.Rows.{forward}
 use Rattle.meaning.specs.Words.{prog}
 use Rattle.meaning.proofs.WordSpans.{sound-words}
-use Rattle.nodes.proofs.WordHeads.{to-end}
 use Rattle.steps.specs.Steps.{answer}
 use Rattle.hits.specs.Hits.{startIn}
 use Rattle.hits.proofs.HitLaws as law
 use native.Mathlib.Omega.{arith}
 use borrow.Author.Needs.{needs}
+use Rattle.meaning.proofs.PartLaws.{to-end}
 use Rattle.hits.proofs.tm_hits.Statement.{statement}
 use Rattle.hits.proofs.tm_hits.Tie as tie
 

@@ -1,12 +1,12 @@
 -- What is written so far is what the elements before `i` give. Assumes nothing.
 use mathlib.Core.Path.{sym, ap}
-use mathlib.Core.List.{[]}
+use mathlib.Core.List.{[], flatMap}
 use Prim.Native.Nat.{_+_, _*_, _-_, _≤_}
 use lib.ListN.{length, take, getD}
 use lib.Seq.{take-all}
-use Rattle.printing.specs.Laid.{Put, each}
+use Rattle.printing.specs.Laid.{Put}
 use Rattle.lines.specs.Lines.{nodeLine}
-use Rattle.printing.proofs.LaidLaws.{put-none, put-same, put-each, put-length, each-none}
+use Rattle.printing.proofs.LaidLaws.{put-none, put-same, put-each, put-length, flatMap-none}
 use Rattle.lines.proofs.LineLaws.{length-node}
 use native.Mathlib.Omega.{arith}
 use borrow.Author.Needs.{needs}
@@ -14,7 +14,7 @@ use Rattle.lines.proofs.put_nodes.Statement.{statement}
 use Rattle.lines.proofs.put_nodes.Tie as tie
 
 abbrev Inv-loop : tie.InvT-loop
-Inv-loop out₀ at words k₀ i₀ out k i = (i ≤ length words) × (k ≤ at + 14 * i) × Put out₀ at (each nodeLine (take i words)) k out
+Inv-loop out₀ at words k₀ i₀ out k i = (i ≤ length words) × (k ≤ at + 14 * i) × Put out₀ at (flatMap nodeLine (take i words)) k out
 
 abbrev μ-loop : tie.MeasureT-loop
 μ-loop out₀ at words k₀ i₀ out k i = length words - i
@@ -23,7 +23,7 @@ loop-holds : tie.Need-loop-holds Inv-loop μ-loop
 loop-holds c =
     let at-start = c .before .before in
     let a = at-start .args in
-    (omega arith, omega arith, put-same (each nodeLine []) (put-none (a .out .now) (a .at)) (sym (each-none nodeLine)))
+    (omega arith, omega arith, put-same (flatMap nodeLine []) (put-none (a .out .now) (a .at)) (sym (flatMap-none nodeLine)))
 
 mul-put-node : tie.Need-mul-put-node Inv-loop μ-loop
 mul-put-node c = search needs
@@ -65,7 +65,7 @@ returns c =
     let at-start = c .before .before .before .before in
     let l = at-loop in
     let s = at-start .args .words .now in
-    put-same (each nodeLine s) (l .inv .2) (ap (each nodeLine) (take-all (l .i) s (at-loop-test .left)))
+    put-same (flatMap nodeLine s) (l .inv .2) (ap (flatMap nodeLine) (take-all (l .i) s (at-loop-test .left)))
 
 pub put-nodes-spec : {M : Type 1} → statement M
 put-nodes-spec =

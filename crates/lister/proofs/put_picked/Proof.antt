@@ -3,9 +3,9 @@ use mathlib.Core.Path.{_≡_, ap, _∙_}
 use lib.ListN.{length}
 use Rattle.base.specs.Refusals.{numberOf}
 use Rattle.reading.specs.Lists.{reading}
-use Rattle.lines.specs.Lines.{literalsRefusedLine, pickedLines}
+use Rattle.lines.specs.Lines.{literalsRefusedLine, gotLines}
 use Rattle.printing.proofs.LaidLaws.{put-same}
-use Rattle.lister.specs.Listings.{pickedOf, lentBytes, lentLengths}
+use Rattle.lister.specs.Listings.{gotOf, lentBytes, lentLengths}
 use Rattle.lister.proofs.DoorLaws.{Taken, taken-door, untaken-door, taken-lines, untaken-lines, taken-size, zeros, length-zeros}
 use native.Mathlib.Omega.{arith}
 use borrow.Author.Needs.{needs}
@@ -88,7 +88,7 @@ returns c =
     let at-put-literals = c .before .before .put-literals in
     let at-start = c .before .before .before .before .before .before .before .before .before .before .before .before .before .before .before .before .before in
     let t = at-start .args .text .now in
-    put-same (pickedLines (pickedOf (reading t))) (at-put-literals .ensures) (taken-lines (taken-here (c .before .before .before .before .before .before .before .before)))
+    put-same (gotLines (gotOf (reading t))) (at-put-literals .ensures) (taken-lines (taken-here (c .before .before .before .before .before .before .before .before)))
 
 same-length-2 : tie.Need-same-length-2
 same-length-2 c = search needs
@@ -104,7 +104,7 @@ returns-2 c =
     let k = at-literals in
     let g = at-got2 .given in
     let e = untaken-door (zeros lentBytes) (zeros lentLengths) (length-zeros lentBytes) (length-zeros lentLengths) (a .text .now) (g .0 .0) (g .0 .1 .0) (k .result) (g .1) (k .ensures .0) in
-    put-same (pickedLines (pickedOf (reading (a .text .now)))) (at-put-literals-refused .ensures) (ap literalsRefusedLine (at-number .ensures) ∙ untaken-lines (reading (a .text .now)) (numberOf (g .0 .0)) e)
+    put-same (gotLines (gotOf (reading (a .text .now)))) (at-put-literals-refused .ensures) (ap literalsRefusedLine (at-number .ensures) ∙ untaken-lines (reading (a .text .now)) (numberOf (g .0 .0)) e)
 
 pub put-picked-spec : {M : Type 1} → statement M
 put-picked-spec =

@@ -4,7 +4,7 @@ use borrow.Author.Needs.{needs}
 use Rattle.meaning.specs.Limits.{tokenPool}
 use Rattle.literaldoor.proofs.DoorLaws as law
 use Rattle.literaldoor.proofs.ToldLaws as told
-use Rattle.literaldoor.specs.Door.{said}
+use Rattle.literaldoor.specs.Door.{literalsSaid}
 use Rattle.readdoor.proofs.Got as into
 use lib.ListN.{length}
 use native.Mathlib.Nat.{le-refl}
@@ -40,7 +40,7 @@ pick-tokens-requires c κs =
     let at-r = c .before .before .before .before .before .r in
     let at-read = c .before .before .before .before .before .before .before .before .read in
     let at-start = c .before .before .before .before .before .before .before .before .before .before .before .before .before in
-    let g = into.got (at-start .args .text .now) _ (at-read .last .1 .0) (at-read .result) (at-read .ensures .0) (at-read .ensures .1) (le-refl tokenPool) (at-r .given .0 .0) (at-r .given .0 .1 .0) (at-r .given .1) in told.entries-asked (at-start .args .text .now) _ (g .tokens) (g .outcome) _ (g .words) (g .few)
+    let g = into.got (at-start .args .text .now) _ (at-read .last .1 .0) (at-read .result) (at-read .ensures .0) (at-read .ensures .1) (le-refl tokenPool) (at-r .given .0 .0) (at-r .given .0 .1 .0) (at-r .given .1) in told.entries-asked (at-start .args .text .now) _ (g .tokens) (g .verdict) _ (g .words) (g .few)
 
 enum-known-r-2 : tie.Need-enum-known-r-2
 enum-known-r-2 c = search needs
@@ -58,8 +58,8 @@ returns c =
     let at-read = c .before .before .before .before .before .before .before .before .before .before .before .before .before .read in
     let at-start = c .before .before .before .before .before .before .before .before .before .before .before .before .before .before .before .before .before .before in
     let g = into.got (at-start .args .text .now) _ (at-read .last .1 .0) (at-read .result) (at-read .ensures .0) (at-read .ensures .1) (le-refl tokenPool) (at-r .given .0 .0) (at-r .given .0 .1 .0)
-    (at-r .given .1) in law.text-picked (at-start .args .text .now) _ (g .tokens) _ (said (at-pick-tokens .result)) (at-start .args .bytes .now) (at-start .args .lengths .now)
-    (at-pick-tokens .last .1 .1 .0) (at-pick-tokens .last .1 .1 .1 .0) (g .outcome) (g .words) (at-pick-tokens .ensures)
+    (at-r .given .1) in law.text-picked (at-start .args .text .now) _ (g .tokens) _ (literalsSaid (at-pick-tokens .result)) (at-start .args .bytes .now) (at-start .args .lengths .now)
+    (at-pick-tokens .last .1 .1 .0) (at-pick-tokens .last .1 .1 .1 .0) (g .verdict) (g .words) (at-pick-tokens .ensures)
 
 returns-2 : tie.Need-returns-2
 returns-2 c =

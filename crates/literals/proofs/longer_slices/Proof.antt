@@ -1,7 +1,6 @@
 -- `literals::longer_slices` meets its contract. Assumes nothing.
-use Rattle.entries.proofs.PartLaws.{part-long}
 use lib.ListN.{length, drop, length-drop, length-take}
-use Rattle.picks.specs.Ranks.{choiceSays}
+use Rattle.picks.specs.Ranks.{winnerSays}
 use Rattle.literals.proofs.LongerLaws.{Going}
 use Rattle.literals.proofs.SliceLaws as slices
 use Rattle.literals.proofs.LongerLaws as law
@@ -9,11 +8,12 @@ use mathlib.Core.Path.{refl, sym, _∙_}
 use Prim.Native.Nat.{_+_, _-_}
 use native.Mathlib.Omega.{arith}
 use borrow.Author.Needs.{needs}
+use Rattle.meaning.proofs.PartLaws.{length-from}
 use Rattle.literals.proofs.longer_slices.Statement.{statement}
 use Rattle.literals.proofs.longer_slices.Tie as tie
 
 abbrev Inv-loop : tie.InvT-loop
-Inv-loop run prior at first to₀ len₀ top₀ to len top = Going run prior at to len (choiceSays run top₀) (choiceSays run top)
+Inv-loop run prior at first to₀ len₀ top₀ to len top = Going run prior at to len (winnerSays run top₀) (winnerSays run top)
 
 abbrev μ-loop : tie.MeasureT-loop
 μ-loop run prior at first to₀ len₀ top₀ to len top = length run - to
@@ -45,13 +45,13 @@ add-to : tie.Need-add-to Inv-loop μ-loop
 add-to c =
     let at-part-words = c .part-words in
     let at-start = c .before .before .before in
-    omega (arith, law.going-start (at-start .args .run .now) (at-start .args .prior) (at-start .args .at) (at-start .pre) (at-part-words .result) (choiceSays (at-start .args .run .now) (at-start .args .best)) (at-part-words .ensures) .inside)
+    omega (arith, law.going-start (at-start .args .run .now) (at-start .args .prior) (at-start .args .at) (at-start .pre) (at-part-words .result) (winnerSays (at-start .args .run .now) (at-start .args .best)) (at-part-words .ensures) .inside)
 
 loop-holds : tie.Need-loop-holds Inv-loop μ-loop
 loop-holds c =
     let at-part-words = c .part-words in
     let at-start = c .before .before .before in
-    law.going-start (at-start .args .run .now) (at-start .args .prior) (at-start .args .at) (at-start .pre) (at-part-words .result) (choiceSays (at-start .args .run .now) (at-start .args .best)) (at-part-words .ensures)
+    law.going-start (at-start .args .run .now) (at-start .args .prior) (at-start .args .at) (at-start .pre) (at-part-words .result) (winnerSays (at-start .args .run .now) (at-start .args .best)) (at-part-words .ensures)
 
 mul-rank-of : tie.Need-mul-rank-of Inv-loop μ-loop
 mul-rank-of c =
@@ -77,7 +77,7 @@ rank-of-requires : tie.Need-rank-of-requires Inv-loop μ-loop
 rank-of-requires c κs =
     let at-loop = c .before .loop in
     let at-start = c .before .before .before .before .before in
-    law.slice-few (at-start .args .run .now) (at-start .args .prior) (at-start .args .at) (at-loop .to) (at-loop .len) (choiceSays (at-start .args .run .now) (at-start .args .best)) (at-loop .top) (at-start .pre) (at-loop .inv)
+    law.slice-few (at-start .args .run .now) (at-start .args .prior) (at-start .args .at) (at-loop .to) (at-loop .len) (winnerSays (at-start .args .run .now) (at-start .args .best)) (at-loop .top) (at-start .pre) (at-loop .inv)
 
 mul-byte-words : tie.Need-mul-byte-words Inv-loop μ-loop
 mul-byte-words c =
@@ -105,7 +105,7 @@ add-ranked-against c =
     let at-byte-words = c .byte-words in
     let at-loop = c .before .before .before .before .loop in
     let at-start = c .before .before .before .before .before .before .before .before in
-    omega (arith, at-byte-words .ensures .1, part-long (at-loop .to) (at-start .args .run .now), (at-loop .inv) .inside)
+    omega (arith, at-byte-words .ensures .1, length-from (at-loop .to) (at-start .args .run .now), (at-loop .inv) .inside)
 
 ranked-against-requires : tie.Need-ranked-against-requires Inv-loop μ-loop
 ranked-against-requires c κs = search needs
@@ -119,7 +119,7 @@ returns c =
     let at-loop = c .before .before .before .before .before .before .loop in
     let at-start = c .before .before .before .before .before .before .before .before .before .before in
     λ own ps k. sym
-    ((law.weighed (at-start .args .run .now) (at-start .args .prior) (at-start .args .at) (at-loop .to) (at-loop .len) (choiceSays (at-start .args .run .now) (at-start .args .best))
+    ((law.weighed (at-start .args .run .now) (at-start .args .prior) (at-start .args .at) (at-loop .to) (at-loop .len) (winnerSays (at-start .args .run .now) (at-start .args .best))
     (at-loop .top) (at-start .pre) (at-loop .inv) (at-ranked-against .result) (at-byte-words .result) (at-rank-of .result) (at-byte-words .ensures .0) (at-rank-of .ensures)
     (at-ranked-against .ensures)) own ps k ∙ slices.further-long _ _ _ _ _ (at-if1 .taken))
 
@@ -137,7 +137,7 @@ returns-2 c =
     let at-loop = c .before .before .before .before .before .before .before .loop in
     let at-start = c .before .before .before .before .before .before .before .before .before .before .before in
     λ own ps k. sym
-    ((law.weighed (at-start .args .run .now) (at-start .args .prior) (at-start .args .at) (at-loop .to) (at-loop .len) (choiceSays (at-start .args .run .now) (at-start .args .best))
+    ((law.weighed (at-start .args .run .now) (at-start .args .prior) (at-start .args .at) (at-loop .to) (at-loop .len) (winnerSays (at-start .args .run .now) (at-start .args .best))
     (at-loop .top) (at-start .pre) (at-loop .inv) (at-ranked-against .result) (at-byte-words .result) (at-rank-of .result) (at-byte-words .ensures .0) (at-rank-of .ensures)
     (at-ranked-against .ensures)) own ps k
     ∙ slices.further-none _ (drop (at-loop .to) (at-start .args .run .now)) _ _ _ (omega (arith, length-drop (at-loop .to) (at-start .args .run .now), at-if2 .taken)))
@@ -165,7 +165,7 @@ part-words-requires-2 c κs =
     let at-if2 = c .before .if2 in
     let at-loop = c .before .before .before .before .before .before .before .before .loop in
     let at-start = c .before .before .before .before .before .before .before .before .before .before .before .before in
-    law.rest-there (at-start .args .run .now) (at-start .args .prior) (at-start .args .at) (at-loop .to) (at-loop .len) (choiceSays (at-start .args .run .now) (at-start .args .best)) (at-loop .top) (at-start .pre) (at-loop .inv) (at-if2 .left)
+    law.rest-there (at-start .args .run .now) (at-start .args .prior) (at-start .args .at) (at-loop .to) (at-loop .len) (winnerSays (at-start .args .run .now) (at-start .args .best)) (at-loop .top) (at-start .pre) (at-loop .inv) (at-if2 .left)
 
 add-e : tie.Need-add-e Inv-loop μ-loop
 add-e c =
@@ -173,7 +173,7 @@ add-e c =
     let at-if2 = c .before .before .if2 in
     let at-loop = c .before .before .before .before .before .before .before .before .before .loop in
     let at-start = c .before .before .before .before .before .before .before .before .before .before .before .before .before in
-    omega (arith, law.part-inside (at-start .args .run .now) (at-start .args .prior) (at-start .args .at) (at-loop .to) (at-loop .len) (choiceSays (at-start .args .run .now) (at-start .args .best)) (at-loop .top) (at-start .pre) (at-loop .inv) (at-part-words2 .result) (at-part-words2 .ensures) (at-if2 .left) .0)
+    omega (arith, law.part-inside (at-start .args .run .now) (at-start .args .prior) (at-start .args .at) (at-loop .to) (at-loop .len) (winnerSays (at-start .args .run .now) (at-start .args .best)) (at-loop .top) (at-start .pre) (at-loop .inv) (at-part-words2 .result) (at-part-words2 .ensures) (at-if2 .left) .0)
 
 mul-length-of : tie.Need-mul-length-of Inv-loop μ-loop
 mul-length-of c =
@@ -192,7 +192,7 @@ part-length-of-end c =
     let at-if2 = c .before .before .if2 in
     let at-loop = c .before .before .before .before .before .before .before .before .before .loop in
     let at-start = c .before .before .before .before .before .before .before .before .before .before .before .before .before in
-    law.part-inside (at-start .args .run .now) (at-start .args .prior) (at-start .args .at) (at-loop .to) (at-loop .len) (choiceSays (at-start .args .run .now) (at-start .args .best)) (at-loop .top) (at-start .pre) (at-loop .inv) (at-part-words2 .result) (at-part-words2 .ensures) (at-if2 .left) .0
+    law.part-inside (at-start .args .run .now) (at-start .args .prior) (at-start .args .at) (at-loop .to) (at-loop .len) (winnerSays (at-start .args .run .now) (at-start .args .best)) (at-loop .top) (at-start .pre) (at-loop .inv) (at-part-words2 .result) (at-part-words2 .ensures) (at-if2 .left) .0
 
 length-of-requires : tie.Need-length-of-requires Inv-loop μ-loop
 length-of-requires c κs = search needs
@@ -214,10 +214,10 @@ loop-less c =
     let at-start = c .before .before .before .before .before .before .before .before .before .before .before .before .before .before .before in
     omega (
       arith,
-      law.part-inside (at-start .args .run .now) (at-start .args .prior) (at-start .args .at) (at-loop .to) (at-loop .len) (choiceSays (at-start .args .run .now) (at-start .args .best))
+      law.part-inside (at-start .args .run .now) (at-start .args .prior) (at-start .args .at) (at-loop .to) (at-loop .len) (winnerSays (at-start .args .run .now) (at-start .args .best))
           (at-loop .top) (at-start .pre) (at-loop .inv) (at-part-words2 .result) (at-part-words2 .ensures) (at-if2 .left) .0,
       law.part-inside (at-start .args .run .now) (at-start .args .prior)
-          (at-start .args .at) (at-loop .to) (at-loop .len) (choiceSays (at-start .args .run .now) (at-start .args .best)) (at-loop .top) (at-start .pre) (at-loop .inv) (at-part-words2 .result)
+          (at-start .args .at) (at-loop .to) (at-loop .len) (winnerSays (at-start .args .run .now) (at-start .args .best)) (at-loop .top) (at-start .pre) (at-loop .inv) (at-part-words2 .result)
           (at-part-words2 .ensures) (at-if2 .left) .1,
     )
 
@@ -232,10 +232,10 @@ loop-again c =
     let at-rank-of = c .before .before .before .before .before .before .before .before .before .rank-of in
     let at-loop = c .before .before .before .before .before .before .before .before .before .before .before .loop in
     let at-start = c .before .before .before .before .before .before .before .before .before .before .before .before .before .before .before in
-    law.going-on (at-start .args .run .now) (at-start .args .prior) (at-start .args .at) (at-loop .to) (at-loop .len) (choiceSays (at-start .args .run .now) (at-start .args .best)) (at-loop .top)
+    law.going-on (at-start .args .run .now) (at-start .args .prior) (at-start .args .at) (at-loop .to) (at-loop .len) (winnerSays (at-start .args .run .now) (at-start .args .best)) (at-loop .top)
     (at-start .pre) (at-loop .inv) (at-ranked-against .result) (at-part-words2 .result) (at-length-of .result) (at-loop .to + at-part-words2 .result) (at-part-words2 .ensures) (at-if2 .left)
     (at-if1 .left) refl (at-length-of .ensures .0) (at-length-of .ensures .1)
-    (law.weighed (at-start .args .run .now) (at-start .args .prior) (at-start .args .at) (at-loop .to) (at-loop .len) (choiceSays (at-start .args .run .now) (at-start .args .best)) (at-loop .top)
+    (law.weighed (at-start .args .run .now) (at-start .args .prior) (at-start .args .at) (at-loop .to) (at-loop .len) (winnerSays (at-start .args .run .now) (at-start .args .best)) (at-loop .top)
     (at-start .pre) (at-loop .inv) (at-ranked-against .result) (at-byte-words .result) (at-rank-of .result) (at-byte-words .ensures .0) (at-rank-of .ensures) (at-ranked-against .ensures))
 
 pub longer-slices-spec : {M : Type 1} → statement M

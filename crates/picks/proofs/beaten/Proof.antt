@@ -1,6 +1,6 @@
 -- `picks::beaten` meets its contract. Assumes nothing.
 use Rattle.meaning.proofs.SoundLaws.{false-true}
-use Rattle.picks.proofs.PickLaws as pick
+use Rattle.picks.proofs.WinnerLaws as winner
 use borrow.Author.Needs.{needs}
 use Rattle.picks.proofs.beaten.Statement.{statement}
 use Rattle.picks.proofs.beaten.Tie as tie
@@ -21,13 +21,13 @@ returns-2 : tie.Need-returns-2
 returns-2 c =
     let at-best = c .before .best in
     let at-start = c .before .before .before in
-    pick.taken-beats (at-start .args .best) _ _ _ (at-start .args .rank) (at-best .given .1)
+    winner.taken-beats (at-start .args .best) _ _ _ (at-start .args .rank) (at-best .given .1)
 
 returns-3 : tie.Need-returns-3
 returns-3 c =
     let at-enum-told2 = c .enum-told2 in
     let at-start = c .before .before in
-    λ e. pick.full-beats (at-start .args .best) (at-start .args .rank) (at-enum-told2 .given .1)
+    λ e. winner.full-beats (at-start .args .best) (at-start .args .rank) (at-enum-told2 .given .1)
 
 pub beaten-spec : {M : Type 1} → statement M
 beaten-spec =

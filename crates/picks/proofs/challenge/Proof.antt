@@ -1,5 +1,5 @@
 -- `picks::challenge` meets its contract. Assumes nothing.
-use Rattle.picks.proofs.PickLaws as pick
+use Rattle.picks.proofs.WinnerLaws as winner
 use Prim.Native.Nat.{_-_}
 use borrow.Author.Needs.{needs}
 use Rattle.picks.proofs.challenge.Statement.{statement}
@@ -16,7 +16,7 @@ returns c =
     let at-if1 = c .if1 in
     let at-best = c .before .before .best in
     let at-start = c .before .before .before .before in
-    pick.higher-taken _ (at-start .args .from) (at-start .args .to) (at-start .args .rank) _ _ _ (at-best .given .1) (at-if1 .taken)
+    winner.higher-taken _ (at-start .args .from) (at-start .args .to) (at-start .args .rank) _ _ _ (at-best .given .1) (at-if1 .taken)
 
 enum-told-2 : tie.Need-enum-told-2
 enum-told-2 c = search needs
@@ -25,20 +25,20 @@ returns-2 : tie.Need-returns-2
 returns-2 c =
     let at-enum-told = c .enum-told in
     let at-start = c .before .before in
-    pick.first-taken _ (at-start .args .from) (at-start .args .to) (at-start .args .rank) (at-enum-told .given .1)
+    winner.first-taken _ (at-start .args .from) (at-start .args .to) (at-start .args .rank) (at-enum-told .given .1)
 
 returns-3 : tie.Need-returns-3
 returns-3 c =
     let at-if1 = c .if1 in
     let at-best = c .before .before .best in
     let at-start = c .before .before .before .before in
-    pick.earlier-kept _ (at-start .args .from) (at-start .args .to) (at-start .args .rank) _ _ _ (at-best .given .1) (at-if1 .left)
+    winner.earlier-kept _ (at-start .args .from) (at-start .args .to) (at-start .args .rank) _ _ _ (at-best .given .1) (at-if1 .left)
 
 returns-4 : tie.Need-returns-4
 returns-4 c =
     let at-enum-told2 = c .enum-told2 in
     let at-start = c .before .before in
-    pick.full-kept _ (at-start .args .from) (at-start .args .to) (at-start .args .rank) (at-enum-told2 .given .1)
+    winner.full-kept _ (at-start .args .from) (at-start .args .to) (at-start .args .rank) (at-enum-told2 .given .1)
 
 pub challenge-spec : {M : Type 1} → statement M
 challenge-spec =

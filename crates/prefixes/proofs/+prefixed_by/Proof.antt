@@ -15,6 +15,7 @@ use borrow.Author.Needs.{needs}
 use Prim.Native.Nat.{ℕ, _<_}
 use borrow.Fn.Kinds.{In}
 use borrow.Fn.PlainCycle.{Measures, is, falls, and}
+use Rattle.meaning.proofs.PartLaws.{to-end}
 use Rattle.prefixes.proofs.prefixed_by.Reads as prefixed-by
 use Rattle.prefixes.proofs.prefixed_by.Kinds as prefixed-by-kinds
 use Rattle.prefixes.proofs.+prefixed_by.Lts-prefixed_by as prefixed-by-lts
@@ -117,7 +118,7 @@ prefixed-by-prefixed-by-requires t c κs =
       ),
       subst
           (λ (l : List ℕ). Numerable (at-start .args .p * at-tally-token .result .literals) (count (tokensIn l)))
-          (ap (λ (x : ℕ). drop x (at-past-bytes .result .now)) (sym (at-width-of .ensures)) ∙ sym (part.part-all (at-width-of .result) (at-past-bytes .result .now)))
+          (ap (λ (x : ℕ). drop x (at-past-bytes .result .now)) (sym (at-width-of .ensures)) ∙ sym (to-end (at-width-of .result) (at-past-bytes .result .now)))
           (prefix.after-numerable (at-past-bytes .result .now) (at-if1 .left) (at-start .args .p) (numerable t (c .before .before .before .before .before)) (at-tally-token .result .literals)
           (at-tally-token .ensures .literals-are)),
     )
@@ -150,7 +151,7 @@ prefixed-by-returns-2 t c =
     ∙ ap₂ (λ (x : ℕ) (l : List ℕ). prefixed (tokensIn l) (at-start .args .p * x) (at-start .args .k))
     (prefix.token-exact (at-past-bytes .result .now) (at-if1 .left) (at-start .args .p) (numerable t (c .before .before .before .before .before .before .before)) (at-tally-token .result .literals)
     (at-tally-token .ensures .literals-are))
-    (sym (ap (λ (x : ℕ). drop x (at-past-bytes .result .now)) (sym (at-width-of .ensures)) ∙ sym (part.part-all (at-width-of .result) (at-past-bytes .result .now)))))
+    (sym (ap (λ (x : ℕ). drop x (at-past-bytes .result .now)) (sym (at-width-of .ensures)) ∙ sym (to-end (at-width-of .result) (at-past-bytes .result .now)))))
     ∙ sym (prefix.prefixed-step (at-past-bytes .result .now) (at-if1 .left) (at-start .args .p) (at-start .args .k)) ∙ sym (at-past-bytes .ensures .numbered (at-start .args .p) (at-start .args .k))
 
 pub +prefixed-by-spec : {M : Type 1} → statement M

@@ -1,17 +1,17 @@
 -- `prefixes::number_of` meets its contract. Assumes nothing.
 use Rattle.prefixes.specs.Numbers.{Numerable}
 use native.Mathlib.Nat.{mul-le-mul}
-use Rattle.picking.specs.Numbers.{count, prefixed, pieceOf}
+use Rattle.picking.specs.Numbers.{count, prefixed, endingOf}
 use Rattle.prefixes.proofs.PrefixLaws as prefix
 use Rattle.entries.proofs.StepLaws as step
 use Rattle.entries.specs.Words.{tokenIn, tokensIn}
 use lib.ListN.{drop}
 use mathlib.Core.Path.{sym, ap, ap₂, _∙_, subst}
-use Rattle.entries.proofs.PartLaws as part
 use mathlib.Core.List.{List}
 use Prim.Native.Nat.{ℕ, _*_}
 use native.Mathlib.Omega.{arith}
 use borrow.Author.Needs.{needs}
+use Rattle.meaning.proofs.PartLaws.{to-end}
 use Rattle.prefixes.proofs.number_of.Statement.{statement}
 use Rattle.prefixes.proofs.number_of.Tie as tie
 
@@ -54,18 +54,18 @@ prefixed-by-requires : tie.Need-prefixed-by-requires
 prefixed-by-requires c κs =
     let at-width-of = c .before .width-of in
     let at-start = c .before .before .before .before in
-    subst (λ (l : List ℕ). Numerable (at-start .args .p * at-start .args .n) (count (tokensIn l))) (ap (λ (x : ℕ). drop x (at-start .args .ws .now)) (sym (at-width-of .ensures)) ∙ sym (part.part-all (at-width-of .result) (at-start .args .ws .now))) (prefix.after-numerable (at-start .args .ws .now) (at-start .pre .0) (at-start .args .p) (at-start .pre .1) (at-start .args .n) (at-start .pre .2))
+    subst (λ (l : List ℕ). Numerable (at-start .args .p * at-start .args .n) (count (tokensIn l))) (ap (λ (x : ℕ). drop x (at-start .args .ws .now)) (sym (at-width-of .ensures)) ∙ sym (to-end (at-width-of .result) (at-start .args .ws .now))) (prefix.after-numerable (at-start .args .ws .now) (at-start .pre .0) (at-start .args .p) (at-start .pre .1) (at-start .args .n) (at-start .pre .2))
 
 returns-2 : tie.Need-returns-2
 returns-2 c =
     let at-prefixed-by = c .prefixed-by in
     let at-width-of = c .before .before .width-of in
     let at-start = c .before .before .before .before .before in
-    ap (pieceOf (tokenIn (at-start .args .ws .now)) (at-start .args .p))
+    ap (endingOf (tokenIn (at-start .args .ws .now)) (at-start .args .p))
     (at-prefixed-by .ensures
     ∙ ap₂ (λ (x : ℕ) (l : List ℕ). prefixed (tokensIn l) (at-start .args .p * x) (at-start .args .k))
     (prefix.token-exact (at-start .args .ws .now) (at-start .pre .0) (at-start .args .p) (at-start .pre .1) (at-start .args .n) (at-start .pre .2))
-    (sym (ap (λ (x : ℕ). drop x (at-start .args .ws .now)) (sym (at-width-of .ensures)) ∙ sym (part.part-all (at-width-of .result) (at-start .args .ws .now)))))
+    (sym (ap (λ (x : ℕ). drop x (at-start .args .ws .now)) (sym (at-width-of .ensures)) ∙ sym (to-end (at-width-of .result) (at-start .args .ws .now)))))
 
 pub number-of-spec : {M : Type 1} → statement M
 number-of-spec =

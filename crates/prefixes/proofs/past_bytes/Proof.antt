@@ -1,10 +1,10 @@
 -- `prefixes::past_bytes` meets its contract. Assumes nothing.
 use mathlib.Core.Path.{sym, subst}
-use Rattle.entries.proofs.PartLaws as part
 use Rattle.prefixes.proofs.PrefixLaws as prefix
 use Rattle.prefixes.specs.Numbers.{Past}
 use lib.ListN.{length}
 use borrow.Author.Needs.{needs}
+use Rattle.meaning.proofs.PartLaws.{to-end}
 use Rattle.prefixes.proofs.past_bytes.Statement.{statement}
 use Rattle.prefixes.proofs.past_bytes.Tie as tie
 
@@ -41,7 +41,7 @@ loop-again c =
     let at-loop-test = c .before .before .before .loop-test in
     let at-loop = c .before .before .before .before .loop in
     let at-start = c .before .before .before .before .before in
-    subst (Past (at-start .args .ws .now)) (sym (part.part-all 4 (at-loop .rest .now))) (prefix.past-more (at-start .args .ws .now) (at-loop .rest .now) (at-loop .inv) (at-loop-test .taken) (at-if1 .left))
+    subst (Past (at-start .args .ws .now)) (sym (to-end 4 (at-loop .rest .now))) (prefix.past-more (at-start .args .ws .now) (at-loop .rest .now) (at-loop .inv) (at-loop-test .taken) (at-if1 .left))
 
 returns-2 : tie.Need-returns-2 Inv-loop μ-loop
 returns-2 c = search needs

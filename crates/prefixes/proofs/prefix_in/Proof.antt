@@ -13,6 +13,7 @@ use mathlib.Core.List.{List}
 use Prim.Native.Nat.{ℕ, _-_, _*_, _≤_}
 use native.Mathlib.Omega.{arith}
 use borrow.Author.Needs.{needs}
+use Rattle.meaning.proofs.PartLaws.{to-end}
 use Rattle.prefixes.proofs.prefix_in.Statement.{statement}
 use Rattle.prefixes.proofs.prefix_in.Tie as tie
 
@@ -114,12 +115,12 @@ loop-again c =
     let at-start = c .before .before .before .before .before .before .before .before in (
       omega (arith, part.part-le (at-end-of .result) (at-loop .rest .now)),
       subst (λ (l : List ℕ). countIn (listsIn l) ≤ literalLimit)
-          (ap (λ (x : ℕ). drop x (at-loop .rest .now)) (sym (at-end-of .ensures)) ∙ sym (part.part-all (at-end-of .result) (at-loop .rest .now)))
+          (ap (λ (x : ℕ). drop x (at-loop .rest .now)) (sym (at-end-of .ensures)) ∙ sym (to-end (at-end-of .result) (at-loop .rest .now)))
           (prefix.lists-few (at-loop .rest .now) (at-loop-test .taken) _ _ (at-end-of .ensures) (at-count-list .ensures) (at-loop .inv .1)),
       at-loop .inv .2
           ∙ prefix.prefix-passed (at-loop .rest .now) (at-loop-test .taken) _ _ (at-end-of .ensures) (at-count-list .ensures) (at-loop .inv .1) (at-start .args .p) (at-loop .left) (at-if1 .left)
           ∙ ap (λ (l : List ℕ). prefixIn (listsIn l) (at-start .args .p) (at-loop .left - at-start .args .p * at-count-list .result))
-          (ap (λ (x : ℕ). drop x (at-loop .rest .now)) (sym (at-end-of .ensures)) ∙ sym (part.part-all (at-end-of .result) (at-loop .rest .now))),
+          (ap (λ (x : ℕ). drop x (at-loop .rest .now)) (sym (at-end-of .ensures)) ∙ sym (to-end (at-end-of .result) (at-loop .rest .now))),
     )
 
 returns-2 : tie.Need-returns-2 Inv-loop μ-loop

@@ -1,18 +1,18 @@
 -- What is written so far is what the elements before `i` give. Assumes nothing.
 use mathlib.Core.Path.{_≡_, sym, ap, _∙_}
-use mathlib.Core.List.{[], _∷_}
+use mathlib.Core.List.{[], _∷_, flatMap}
 use Prim.Native.Nat.{_+_, _-_, _≤_}
 use lib.ListN.{length, take}
 use lib.Seq.{take-all}
-use Rattle.printing.specs.Laid.{Put, each}
-use Rattle.printing.proofs.LaidLaws.{put-none, put-same, put-each, put-length, each-none, each-itself}
+use Rattle.printing.specs.Laid.{Put}
+use Rattle.printing.proofs.LaidLaws.{put-none, put-same, put-each, put-length, flatMap-none, flatMap-itself}
 use native.Mathlib.Omega.{arith}
 use borrow.Author.Needs.{needs}
 use Rattle.printing.proofs.put_bytes.Statement.{statement}
 use Rattle.printing.proofs.put_bytes.Tie as tie
 
 abbrev Inv-loop : tie.InvT-loop
-Inv-loop out₀ at s k₀ i₀ out k i = (i ≤ length s) × (k ≡ at + i) × Put out₀ at (each (λ b. b ∷ []) (take i s)) k out
+Inv-loop out₀ at s k₀ i₀ out k i = (i ≤ length s) × (k ≡ at + i) × Put out₀ at (flatMap (λ b. b ∷ []) (take i s)) k out
 
 abbrev μ-loop : tie.MeasureT-loop
 μ-loop out₀ at s k₀ i₀ out k i = length s - i
@@ -21,7 +21,7 @@ loop-holds : tie.Need-loop-holds Inv-loop μ-loop
 loop-holds c =
     let at-start = c .before .before in
     let a = at-start .args in
-    (omega arith, omega arith, put-same (each (λ b. b ∷ []) []) (put-none (a .out .now) (a .at)) (sym (each-none (λ b. b ∷ []))))
+    (omega arith, omega arith, put-same (flatMap (λ b. b ∷ []) []) (put-none (a .out .now) (a .at)) (sym (flatMap-none (λ b. b ∷ []))))
 
 shared-slice-read-put-byte : tie.Need-shared-slice-read-put-byte Inv-loop μ-loop
 shared-slice-read-put-byte c = search needs
@@ -60,7 +60,7 @@ returns c =
     let l = at-loop in
     let s = at-start .args .s .now in
     let e : take (l .i) s ≡ s = take-all (l .i) s (at-loop-test .left) in
-    put-same s (l .inv .2) (ap (each (λ b. b ∷ [])) e ∙ each-itself s)
+    put-same s (l .inv .2) (ap (flatMap (λ b. b ∷ [])) e ∙ flatMap-itself s)
 
 pub put-bytes-spec : {M : Type 1} → statement M
 put-bytes-spec =

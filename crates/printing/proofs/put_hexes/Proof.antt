@@ -1,19 +1,19 @@
 -- What is written so far is what the elements before `i` give. Assumes nothing.
 use mathlib.Core.Path.{_≡_, sym, ap}
-use mathlib.Core.List.{[]}
+use mathlib.Core.List.{[], flatMap}
 use Prim.Native.Nat.{_+_, _*_, _-_, _≤_}
 use lib.ListN.{length, take}
 use lib.Seq.{take-all}
-use Rattle.printing.specs.Laid.{Put, each}
+use Rattle.printing.specs.Laid.{Put}
 use Rattle.printing.specs.Numbers.{hexOf}
-use Rattle.printing.proofs.LaidLaws.{put-none, put-same, put-each, put-length, each-none}
+use Rattle.printing.proofs.LaidLaws.{put-none, put-same, put-each, put-length, flatMap-none}
 use native.Mathlib.Omega.{arith}
 use borrow.Author.Needs.{needs}
 use Rattle.printing.proofs.put_hexes.Statement.{statement}
 use Rattle.printing.proofs.put_hexes.Tie as tie
 
 abbrev Inv-loop : tie.InvT-loop
-Inv-loop out₀ at s k₀ i₀ out k i = (i ≤ length s) × (k ≡ at + 2 * i) × Put out₀ at (each hexOf (take i s)) k out
+Inv-loop out₀ at s k₀ i₀ out k i = (i ≤ length s) × (k ≡ at + 2 * i) × Put out₀ at (flatMap hexOf (take i s)) k out
 
 abbrev μ-loop : tie.MeasureT-loop
 μ-loop out₀ at s k₀ i₀ out k i = length s - i
@@ -22,7 +22,7 @@ loop-holds : tie.Need-loop-holds Inv-loop μ-loop
 loop-holds c =
     let at-start = c .before .before in
     let a = at-start .args in
-    (omega arith, omega arith, put-same (each hexOf []) (put-none (a .out .now) (a .at)) (sym (each-none hexOf)))
+    (omega arith, omega arith, put-same (flatMap hexOf []) (put-none (a .out .now) (a .at)) (sym (flatMap-none hexOf)))
 
 shared-slice-read-put-hex : tie.Need-shared-slice-read-put-hex Inv-loop μ-loop
 shared-slice-read-put-hex c = search needs
@@ -62,7 +62,7 @@ returns c =
     let l = at-loop in
     let s = at-start .args .s .now in
     let e : take (l .i) s ≡ s = take-all (l .i) s (at-loop-test .left) in
-    put-same (each hexOf s) (l .inv .2) (ap (each hexOf) e)
+    put-same (flatMap hexOf s) (l .inv .2) (ap (flatMap hexOf) e)
 
 pub put-hexes-spec : {M : Type 1} → statement M
 put-hexes-spec =

@@ -3,7 +3,7 @@ use Rattle.entries.specs.Words.{tokensIn}
 use mathlib.Core.Path.{refl}
 use Rattle.picks.specs.declared.Rank.the-variants.{Skipped, TooMany}
 use Rattle.ranking.proofs.RankLaws as law
-use Rattle.picks.proofs.PickLaws as pick
+use Rattle.picks.proofs.WinnerLaws as winner
 use borrow.Author.Needs.{needs}
 use Rattle.ranking.proofs.rank_of.Statement.{statement}
 use Rattle.ranking.proofs.rank_of.Tie as tie
@@ -16,7 +16,7 @@ returns c =
     let at-if1 = c .if1 in
     let at-tally-tokens = c .before .tally-tokens in
     let at-start = c .before .before .before in
-    pick.settled (at-start .args .best) Skipped _ (law.rank-skipped (tokensIn (at-start .args .ws .now)) _ _ (at-tally-tokens .ensures .literals-are) (at-tally-tokens .ensures .combinations-are) (at-if1 .taken))
+    winner.settled (at-start .args .best) Skipped _ (law.rank-skipped (tokensIn (at-start .args .ws .now)) _ _ (at-tally-tokens .ensures .literals-are) (at-tally-tokens .ensures .combinations-are) (at-if1 .taken))
 
 returns-2 : tie.Need-returns-2
 returns-2 c =
@@ -24,7 +24,7 @@ returns-2 c =
     let at-if1 = c .before .if1 in
     let at-tally-tokens = c .before .before .tally-tokens in
     let at-start = c .before .before .before .before in
-    pick.settled (at-start .args .best) TooMany _ (law.rank-excessive (tokensIn (at-start .args .ws .now)) _ _ (at-tally-tokens .ensures .literals-are) (at-tally-tokens .ensures .combinations-are) (at-if1 .left) (at-if2 .taken))
+    winner.settled (at-start .args .best) TooMany _ (law.rank-excessive (tokensIn (at-start .args .ws .now)) _ _ (at-tally-tokens .ensures .literals-are) (at-tally-tokens .ensures .combinations-are) (at-if1 .left) (at-if2 .taken))
 
 penalty-of-requires : tie.Need-penalty-of-requires
 penalty-of-requires c κs = search needs
@@ -44,7 +44,7 @@ returns-3 c =
     let at-if1 = c .before .before .before .if1 in
     let at-tally-tokens = c .before .before .before .before .tally-tokens in
     let at-start = c .before .before .before .before .before .before in
-    pick.settled-on (at-start .args .best) (at-worth .result) _ _ (at-worth .ensures) (law.rank-given (tokensIn (at-start .args .ws .now)) _ _ (at-tally-tokens .ensures .literals-are) (at-tally-tokens .ensures .combinations-are) (at-if1 .left) (at-if2 .left) _ _ refl (at-penalty-of .ensures))
+    winner.settled-on (at-start .args .best) (at-worth .result) _ _ (at-worth .ensures) (law.rank-given (tokensIn (at-start .args .ws .now)) _ _ (at-tally-tokens .ensures .literals-are) (at-tally-tokens .ensures .combinations-are) (at-if1 .left) (at-if2 .left) _ _ refl (at-penalty-of .ensures))
 
 pub rank-of-spec : {M : Type 1} → statement M
 rank-of-spec =

@@ -1,6 +1,6 @@
 -- `ranking::worth` meets its contract. Assumes nothing.
 use Rattle.entries.specs.Words.{tokensIn}
-use Rattle.picking.specs.Choice.{lowest, least}
+use Rattle.picking.specs.Candidates.{lowest, least}
 use Rattle.picking.specs.Literals.{literals}
 use Rattle.atoms.specs.Score.{literalScore}
 use lib.ListN.{drop}

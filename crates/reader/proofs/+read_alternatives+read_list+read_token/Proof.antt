@@ -12,12 +12,12 @@ use Rattle.meaning.specs.Entries.{entriesOf}
 use Rattle.reading.specs.Lists.{token, list}
 use Rattle.reading.proofs.PieceLaws.{here-at, skip-from}
 use Rattle.reading.proofs.ListSteps.{list-deep}
-use Rattle.digits.specs.Answers.{pieceOf, tokenOf}
+use Rattle.digits.specs.Answers.{leafSeen, tokenOf}
 use Rattle.reader.specs.declared.ListGot.{ListGot}
 use Rattle.reader.specs.Says.{ListSays, alternatives}
 use Rattle.reader.proofs.SaysLaws.{says-same, says-read, says-absent, says-refused, list-says-refused, token-full, token-found, token-other, token-refuses, one-entry, no-bracket, bracket-full}
 use Rattle.reader.proofs.ListLoop.{Tokened, stepped, tokened-start, tokened-next, tokened-end, tokened-stop}
-use Rattle.reader.proofs.AlternativesLoop.{Listed, turned, listed-start, listed-next, listed-done, listed-else, listed-missing, listed-stop}
+use Rattle.reader.proofs.AlternativesLoop.{ListsRead, turned, lists-read-start, lists-read-next, lists-read-done, lists-read-else, lists-read-missing, lists-read-stop}
 use Prim.Native.Nat.{ℕ, _<_}
 use borrow.Fn.Kinds.{In}
 use borrow.Fn.PlainCycle.{Measures, is, falls, and}
@@ -31,12 +31,12 @@ use Rattle.reader.proofs.read_token.Reads as read-token
 use Rattle.reader.proofs.read_token.Kinds as read-token-kinds
 use Rattle.reader.proofs.+read_alternatives+read_list+read_token.Lts-read_token as read-token-lts
 use Rattle.digits.proofs.peek.Reads as peek-reads
-use Rattle.digits.proofs.plain_token.Reads as plain-token-reads
+use Rattle.digits.proofs.leaf_token.Reads as leaf-token-reads
 use Rattle.digits.proofs.skip_blanks.Reads as skip-blanks-reads
 use Rattle.reader.proofs.first_jump.Reads as first-jump-reads
 use Rattle.reader.proofs.list_end.Reads as list-end-reads
 use Rattle.reader.proofs.put_head.Reads as put-head-reads
-use Rattle.reader.proofs.put_plain.Reads as put-plain-reads
+use Rattle.reader.proofs.put_leaf.Reads as put-leaf-reads
 use Rattle.reader.proofs.+read_alternatives+read_list+read_token.{statement}
 use Rattle.reader.proofs.+read_alternatives+read_list+read_token.Tie.{close}
 
@@ -74,10 +74,10 @@ abbrev read-list-claims : ℕ → read-list-lts.Claims
 read-list-claims t = (read-token-below t, read-token.Post, first-jump-reads.Asked, first-jump-reads.Learnt, list-end-reads.Asked, list-end-reads.Learnt)
 
 abbrev read-token-claims : ℕ → read-token-lts.Claims
-read-token-claims t = (plain-token-reads.Asked, plain-token-reads.Learnt, put-plain-reads.Asked, put-plain-reads.Learnt, read-alternatives-below t, read-alternatives.Post)
+read-token-claims t = (leaf-token-reads.Asked, leaf-token-reads.Learnt, put-leaf-reads.Asked, put-leaf-reads.Learnt, read-alternatives-below t, read-alternatives.Post)
 
 abbrev read-alternatives-Inv-loop : read-alternatives-lts.InvT-loop
-read-alternatives-Inv-loop text at level count pool₀ n x₀ miss₀ m₀ c₀ k₀ pool x miss m c k = Listed text level count at n pool₀ pool x miss m c k
+read-alternatives-Inv-loop text at level count pool₀ n x₀ miss₀ m₀ c₀ k₀ pool x miss m c k = ListsRead text level count at n pool₀ pool x miss m c k
 
 abbrev read-alternatives-μ-loop : read-alternatives-lts.MeasureT-loop
 read-alternatives-μ-loop text at level count pool₀ n x₀ miss₀ m₀ c₀ k₀ pool x miss m c k = length text - x
@@ -138,9 +138,9 @@ module _ (t : ℕ) where
       let at-if1 = c .before .before .if1 in
       let at-peek = c .before .before .before .peek in
       let at-start = c .before .before .before .before .before .before in
-      subst (λ (x : ℕ). Listed (at-start .args .text .now) (at-start .args .level) (at-start .args .count) (at-start .args .at) (at-start .args .n) (at-start .args .pool .now)
+      subst (λ (x : ℕ). ListsRead (at-start .args .text .now) (at-start .args .level) (at-start .args .count) (at-start .args .at) (at-start .args .n) (at-start .args .pool .now)
       (at-start .args .pool .now) x x ((at-start .args .n) + 4) ((at-start .args .count) + 1) 0) (sym (at-skip-blanks .ensures))
-      (listed-start (at-start .args .text .now) (at-start .args .level) (at-start .args .count) (at-start .args .at) (at-start .args .n) (at-start .args .pool .now)
+      (lists-read-start (at-start .args .text .now) (at-start .args .level) (at-start .args .count) (at-start .args .at) (at-start .args .n) (at-start .args .pool .now)
       (here-at (at-start .args .text .now) (at-start .args .at) (code "(") (sym (at-peek .ensures) ∙ at-if1 .left) (omega arith)) (at-start .pre .1 .0 .used) (at-if2 .left))
 
   read-alternatives-add-read-list : read-alternatives-lts.Need-add-read-list (read-alternatives-claims t) (read-alternatives-at t) read-alternatives.Post read-alternatives-Inv-loop read-alternatives-μ-loop
@@ -248,7 +248,7 @@ module _ (t : ℕ) where
       let f = at-if2 .left in
       let v = at-loop .inv in
       let r : (at-start .args .n) + 4 ≤ length (at-start .args .pool .now) = omega arith in
-      let r′ : at-loop .m + 4 ≤ length (at-start .args .pool .now) = omega arith in listed-done (at-start .args .text .now) (at-start .args .level) (at-start .args .count) (at-start .args .at)
+      let r′ : at-loop .m + 4 ≤ length (at-start .args .pool .now) = omega arith in lists-read-done (at-start .args .text .now) (at-start .args .level) (at-start .args .count) (at-start .args .at)
       (at-start .args .n) (at-start .args .pool .now) (at-loop .pool) (at-loop .x) (at-loop .miss) (at-loop .m) (at-loop .c) (at-loop .k) (at-loop .inv) (at-read-list .result)
       (at-read-list .last .1 .1 .1 .1 .0) (at-read-list .ensures) (at-got .given .0 .0) (at-got .given .0 .1 .0) (at-got .given .0 .1 .1 .0) (at-got .given .0 .1 .1 .1 .0)
       (at-skip-blanks2 .result) (at-put-head .last .0) (at-put-head2 .last .0) r r′ (sym (at-peek .ensures) ∙ at-if1 .left) f (at-got .given .1) (at-put-head .ensures) (at-put-head2 .ensures)
@@ -274,7 +274,7 @@ module _ (t : ℕ) where
       let at-if1 = c .before .before .before .before .before .before .before .before .before .before .before .before .before .before .before .before .before .if1 in
       let at-peek = c .before .before .before .before .before .before .before .before .before .before .before .before .before .before .before .before .before .before .peek in
       let at-start = c .before .before .before .before .before .before .before .before .before .before .before .before .before .before .before .before .before .before .before .before .before in
-      listed-else (at-start .args .text .now) (at-start .args .level) (at-start .args .count) (at-start .args .at) (at-start .args .n) (at-start .args .pool .now) (at-loop .pool) (at-loop .x)
+      lists-read-else (at-start .args .text .now) (at-start .args .level) (at-start .args .count) (at-start .args .at) (at-start .args .n) (at-start .args .pool .now) (at-loop .pool) (at-loop .x)
       (at-loop .miss) (at-loop .m) (at-loop .c) (at-loop .k) (at-loop .inv) (at-read-list .result) (at-read-list .last .1 .1 .1 .1 .0) (at-read-list .ensures) (at-got .given .0 .0)
       (at-got .given .0 .1 .0) (at-got .given .0 .1 .1 .0) (at-got .given .0 .1 .1 .1 .0) (at-put-head .last .0) (sym (at-peek .ensures) ∙ at-if1 .left) (at-if2 .left) (at-got .given .1)
       (λ z. at-if3 .left (at-peek2 .ensures ∙ z)) (λ z. at-if4 .taken (at-peek2 .ensures ∙ z))
@@ -322,7 +322,7 @@ module _ (t : ℕ) where
       let f = at-if2 .left in
       let v = at-loop .inv in
       let r : (at-start .args .n) + 4 ≤ length (at-start .args .pool .now) = omega arith in
-      let r′ : at-loop .m + 4 ≤ length (at-start .args .pool .now) = omega arith in listed-next (at-start .args .text .now) (at-start .args .level) (at-start .args .count) (at-start .args .at)
+      let r′ : at-loop .m + 4 ≤ length (at-start .args .pool .now) = omega arith in lists-read-next (at-start .args .text .now) (at-start .args .level) (at-start .args .count) (at-start .args .at)
       (at-start .args .n) (at-start .args .pool .now) (at-loop .pool) (at-loop .x) (at-loop .miss) (at-loop .m) (at-loop .c) (at-loop .k) (at-loop .inv) (at-read-list .result)
       (at-read-list .last .1 .1 .1 .1 .0) (at-read-list .ensures) (at-got .given .0 .0) (at-got .given .0 .1 .0) (at-got .given .0 .1 .1 .0) (at-got .given .0 .1 .1 .1 .0)
       (at-skip-blanks3 .result) (at-put-head .last .0) r r′ (at-got .given .1) (at-put-head .ensures) (at-put-head .kept .0 ∙ (at-read-list .kept .1 .1 .1 .1 .0 ∙ at-loop .inv .kept))
@@ -346,7 +346,7 @@ module _ (t : ℕ) where
       let at-if1 = c .before .before .before .before .before .before .before .before .before .if1 in
       let at-peek = c .before .before .before .before .before .before .before .before .before .before .peek in
       let at-start = c .before .before .before .before .before .before .before .before .before .before .before .before .before in
-      listed-missing (at-start .args .text .now) (at-start .args .level) (at-start .args .count) (at-start .args .at) (at-start .args .n) (at-start .args .pool .now) (at-loop .pool) (at-loop .x)
+      lists-read-missing (at-start .args .text .now) (at-start .args .level) (at-start .args .count) (at-start .args .at) (at-start .args .n) (at-start .args .pool .now) (at-loop .pool) (at-loop .x)
       (at-loop .miss) (at-loop .m) (at-loop .c) (at-loop .k) (at-loop .inv) (at-read-list .result) (at-read-list .last .1 .1 .1 .1 .0) (at-read-list .ensures)
       (sym (at-peek .ensures) ∙ at-if1 .left) (at-if2 .left) (at-enum-told .given .1) (at-read-list .last .1 .1 .1 .1 .0)
 
@@ -368,7 +368,7 @@ module _ (t : ℕ) where
       let at-if1 = c .before .before .before .before .before .before .before .before .before .before .if1 in
       let at-peek = c .before .before .before .before .before .before .before .before .before .before .before .peek in
       let at-start = c .before .before .before .before .before .before .before .before .before .before .before .before .before .before in
-      listed-stop (at-start .args .text .now) (at-start .args .level) (at-start .args .count) (at-start .args .at) (at-start .args .n) (at-start .args .pool .now) (at-loop .pool) (at-loop .x)
+      lists-read-stop (at-start .args .text .now) (at-start .args .level) (at-start .args .count) (at-start .args .at) (at-start .args .n) (at-start .args .pool .now) (at-loop .pool) (at-loop .x)
       (at-loop .miss) (at-loop .m) (at-loop .c) (at-loop .k) (at-loop .inv) (at-read-list .result) (at-read-list .last .1 .1 .1 .1 .0) (at-read-list .ensures)
       (sym (at-peek .ensures) ∙ at-if1 .left) (at-if2 .left) (at-got2 .given .0 .0) (at-got2 .given .0 .1 .0) (at-got2 .given .1) (at-read-list .last .1 .1 .1 .1 .0)
 
@@ -475,25 +475,25 @@ module _ (t : ℕ) where
       (at-loop .m) (at-loop .c) (at-loop .k) (at-loop .first) (at-loop .last) (at-loop .inv) (at-read-token .result) (at-read-token .last .1 .1 .1 .1 .0) (at-read-token .ensures) (at-if1 .left)
       (at-got2 .given .0 .0) (at-got2 .given .0 .1 .0) (at-got2 .given .1)
 
-  read-token-plain-token-requires : read-token-lts.Need-plain-token-requires (read-token-claims t) (read-token-at t) read-token.Post
-  read-token-plain-token-requires c κs = search needs
+  read-token-leaf-token-requires : read-token-lts.Need-leaf-token-requires (read-token-claims t) (read-token-at t) read-token.Post
+  read-token-leaf-token-requires c κs = search needs
 
-  read-token-enum-known-piece : read-token-lts.Need-enum-known-piece (read-token-claims t) (read-token-at t) read-token.Post
-  read-token-enum-known-piece c = search needs
+  read-token-enum-known-leaf : read-token-lts.Need-enum-known-leaf (read-token-claims t) (read-token-at t) read-token.Post
+  read-token-enum-known-leaf c = search needs
 
   read-token-returns : read-token-lts.Need-returns (read-token-claims t) (read-token-at t) read-token.Post
   read-token-returns c =
       let at-if1 = c .if1 in
-      let at-piece = c .before .before .piece in
-      let at-plain-token = c .before .before .before .before .plain-token in
+      let at-leaf = c .before .before .leaf in
+      let at-leaf-token = c .before .before .before .before .leaf-token in
       let at-start = c .before .before .before .before .before .before .before in
       says-refused (token (at-start .args .text .now) (at-start .args .level) (at-start .args .count) (at-start .args .at)) (at-start .args .n) (at-start .args .pool .now)
       (at-start .args .pool .now) TooManyTokens (at-start .args .at)
-      (token-full (at-start .args .text .now) (at-start .args .level) (at-start .args .count) (at-start .args .at) (sym (at-plain-token .ensures) ∙ ap pieceOf (at-piece .given .1))
+      (token-full (at-start .args .text .now) (at-start .args .level) (at-start .args .count) (at-start .args .at) (sym (at-leaf-token .ensures) ∙ ap leafSeen (at-leaf .given .1))
       (at-if1 .taken))
 
-  read-token-put-plain-requires : read-token-lts.Need-put-plain-requires (read-token-claims t) (read-token-at t) read-token.Post
-  read-token-put-plain-requires c κs =
+  read-token-put-leaf-requires : read-token-lts.Need-put-leaf-requires (read-token-claims t) (read-token-at t) read-token.Post
+  read-token-put-leaf-requires c κs =
       let at-if1 = c .before .if1 in
       let at-start = c .before .before .before .before .before .before .before .before in
       let o = at-start .pre .1 .0 in let e = at-start .pre .0 in let f = at-if1 .left in omega arith
@@ -518,25 +518,25 @@ module _ (t : ℕ) where
       let at-start = c .before .before .before .before .before .before in
       let o = at-start .pre .1 .0 in let e = at-start .pre .0 in (omega arith, at-start .pre .1)
 
-  read-token-enum-known-piece-2 : read-token-lts.Need-enum-known-piece-2 (read-token-claims t) (read-token-at t) read-token.Post
-  read-token-enum-known-piece-2 c = search needs
+  read-token-enum-known-leaf-2 : read-token-lts.Need-enum-known-leaf-2 (read-token-claims t) (read-token-at t) read-token.Post
+  read-token-enum-known-leaf-2 c = search needs
 
   read-token-same-length : read-token-lts.Need-same-length (read-token-claims t) (read-token-at t) read-token.Post
   read-token-same-length c = search needs
 
   read-token-returns-2 : read-token-lts.Need-returns-2 (read-token-claims t) (read-token-at t) read-token.Post
   read-token-returns-2 c =
-      let at-put-plain = c .before .before .put-plain in
+      let at-put-leaf = c .before .before .put-leaf in
       let at-if1 = c .before .before .before .before .if1 in
-      let at-piece = c .before .before .before .before .before .before .piece in
-      let at-plain-token = c .before .before .before .before .before .before .before .before .plain-token in
+      let at-leaf = c .before .before .before .before .before .before .leaf in
+      let at-leaf-token = c .before .before .before .before .before .before .before .before .leaf-token in
       let at-start = c .before .before .before .before .before .before .before .before .before .before .before in
-      let w : length (entriesOf (tokenOf (at-piece .given .0 .0))) ≡ 4 = one-entry (at-start .args .text .now) (at-start .args .level) (at-start .args .count) (at-start .args .at)
-      (sym (at-plain-token .ensures) ∙ ap pieceOf (at-piece .given .1)) in says-read (token (at-start .args .text .now) (at-start .args .level) (at-start .args .count) (at-start .args .at))
-      (at-start .args .n) (at-start .args .pool .now) (at-put-plain .last .0) (tokenOf (at-piece .given .0 .0)) (at-piece .given .0 .1 .1 .0) ((at-start .args .count) + 1)
-      ((at-start .args .n) + 4) (at-put-plain .result)
-      (token-found (at-start .args .text .now) (at-start .args .level) (at-start .args .count) (at-start .args .at) (sym (at-plain-token .ensures) ∙ ap pieceOf (at-piece .given .1))
-      (at-if1 .left)) (omega arith) (at-put-plain .ensures .0) (at-put-plain .ensures .1)
+      let w : length (entriesOf (tokenOf (at-leaf .given .0 .0))) ≡ 4 = one-entry (at-start .args .text .now) (at-start .args .level) (at-start .args .count) (at-start .args .at)
+      (sym (at-leaf-token .ensures) ∙ ap leafSeen (at-leaf .given .1)) in says-read (token (at-start .args .text .now) (at-start .args .level) (at-start .args .count) (at-start .args .at))
+      (at-start .args .n) (at-start .args .pool .now) (at-put-leaf .last .0) (tokenOf (at-leaf .given .0 .0)) (at-leaf .given .0 .1 .1 .0) ((at-start .args .count) + 1)
+      ((at-start .args .n) + 4) (at-put-leaf .result)
+      (token-found (at-start .args .text .now) (at-start .args .level) (at-start .args .count) (at-start .args .at) (sym (at-leaf-token .ensures) ∙ ap leafSeen (at-leaf .given .1))
+      (at-if1 .left)) (omega arith) (at-put-leaf .ensures .0) (at-put-leaf .ensures .1)
 
   read-token-same-length-2 : read-token-lts.Need-same-length-2 (read-token-claims t) (read-token-at t) read-token.Post
   read-token-same-length-2 c = search needs
@@ -545,19 +545,19 @@ module _ (t : ℕ) where
   read-token-returns-3 c =
       let at-read-alternatives = c .before .before .read-alternatives in
       let at-enum-told = c .before .before .before .before .enum-told in
-      let at-plain-token = c .before .before .before .before .before .before .plain-token in
+      let at-leaf-token = c .before .before .before .before .before .before .leaf-token in
       let at-start = c .before .before .before .before .before .before .before .before .before in
       says-same (token (at-start .args .text .now) (at-start .args .level) (at-start .args .count) (at-start .args .at))
       (alternatives (at-start .args .text .now) (at-start .args .level) (at-start .args .count) (at-start .args .at)) _ _ _ _
-      (token-other (at-start .args .text .now) (at-start .args .level) (at-start .args .count) (at-start .args .at) (sym (at-plain-token .ensures) ∙ ap pieceOf (at-enum-told .given .1)))
+      (token-other (at-start .args .text .now) (at-start .args .level) (at-start .args .count) (at-start .args .at) (sym (at-leaf-token .ensures) ∙ ap leafSeen (at-enum-told .given .1)))
       (at-read-alternatives .ensures)
 
   read-token-returns-4 : read-token-lts.Need-returns-4 (read-token-claims t) (read-token-at t) read-token.Post
   read-token-returns-4 c =
-      let at-piece2 = c .before .piece2 in
-      let at-plain-token = c .before .before .before .plain-token in
+      let at-leaf2 = c .before .leaf2 in
+      let at-leaf-token = c .before .before .before .leaf-token in
       let at-start = c .before .before .before .before .before .before in
-      says-refused (token (at-start .args .text .now) (at-start .args .level) (at-start .args .count) (at-start .args .at)) (at-start .args .n) (at-start .args .pool .now) (at-start .args .pool .now) _ _ (token-refuses (at-start .args .text .now) (at-start .args .level) (at-start .args .count) (at-start .args .at) (sym (at-plain-token .ensures) ∙ ap pieceOf (at-piece2 .given .1)))
+      says-refused (token (at-start .args .text .now) (at-start .args .level) (at-start .args .count) (at-start .args .at)) (at-start .args .n) (at-start .args .pool .now) (at-start .args .pool .now) _ _ (token-refuses (at-start .args .text .now) (at-start .args .level) (at-start .args .count) (at-start .args .at) (sym (at-leaf-token .ensures) ∙ ap leafSeen (at-leaf2 .given .1)))
 
 pub +read-alternatives+read-list+read-token-spec : {M : Type 1} → statement M
 +read-alternatives+read-list+read-token-spec =
@@ -577,7 +577,7 @@ pub +read-alternatives+read-list+read-token-spec : {M : Type 1} → statement M
     (read-list-enum-told t) (read-list-list-end-requires t) (read-list-same-length t) (read-list-returns-2 t)
     (read-list-enum-known-got-2 t) (read-list-same-length-2 t) (read-list-returns-3 t))
     (λ t. read-token-lts.spec (read-token-claims t) (read-token-at t) read-token.Post
-    (read-token-plain-token-requires t) (read-token-enum-known-piece t) (read-token-returns t) (read-token-put-plain-requires t)
+    (read-token-leaf-token-requires t) (read-token-enum-known-leaf t) (read-token-returns t) (read-token-put-leaf-requires t)
     (read-token-add-t19 t) (read-token-add-t20 t) (read-token-enum-told t) (read-token-read-alternatives-requires t)
-    (read-token-enum-known-piece-2 t) (read-token-same-length t) (read-token-returns-2 t) (read-token-same-length-2 t)
+    (read-token-enum-known-leaf-2 t) (read-token-same-length t) (read-token-returns-2 t) (read-token-same-length-2 t)
     (read-token-returns-3 t) (read-token-returns-4 t))

@@ -16,7 +16,7 @@ use Rattle.meaning.proofs.KindLaws.{kind-jump}
 use Rattle.meaning.proofs.RunLaws.{below, range-below, below-none}
 use Rattle.steps.specs.declared.Found.the-variants.{Left}
 use Rattle.steps.specs.Steps.{answer}
-use Rattle.nodes.proofs.WordHeads.{word-pos, from, length-from}
+use Rattle.nodes.proofs.WordHeads.{word-pos}
 use Rattle.steps.proofs.Heads.{last-pos, whole, word-whole, back-left, back-part}
 use Rattle.steps.proofs.Tests.{is-test, passes-as}
 use Rattle.steps.proofs.Answers.{left-fits}
@@ -27,6 +27,7 @@ use Rattle.steps.proofs.Choices as choice
 use Prim.Native.Nat.{ℕ, _<_}
 use borrow.Fn.Kinds.{In}
 use borrow.Fn.PlainCycle.{Measures, is, falls, and}
+use Rattle.meaning.proofs.PartLaws.{from, length-from}
 use Rattle.reverse.proofs.branches.Reads as branches
 use Rattle.reverse.proofs.branches.Kinds as branches-kinds
 use Rattle.reverse.proofs.+branches+check+choices+jumps.Lts-branches as branches-lts

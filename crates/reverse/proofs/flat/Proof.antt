@@ -6,21 +6,22 @@ use lib.ListN.{length, length-reverse}
 use lib.Seq.{length-take-le}
 use Rattle.meaning.specs.Choices.{long}
 use Rattle.meaning.specs.Rows.{backward}
-use Rattle.meaning.specs.Words.{prog, plainWords}
+use Rattle.meaning.specs.Words.{prog, flatWords}
 use Rattle.meaning.proofs.KindLaws.{kind-jump}
 use Rattle.steps.specs.declared.Found.the-variants.{Left}
 use Rattle.steps.specs.Steps.{answer}
-use Rattle.nodes.proofs.WordHeads.{word-pos, length-from}
+use Rattle.nodes.proofs.WordHeads.{word-pos}
 use Rattle.steps.proofs.Heads.{last-pos, back-part}
 use Rattle.steps.proofs.Tests.{passes-as}
 use Rattle.steps.proofs.Turns as turns
 use native.Mathlib.Omega.{arith}
 use borrow.Author.Needs.{needs}
+use Rattle.meaning.proofs.PartLaws.{length-from}
 use Rattle.reverse.proofs.flat.Statement.{statement}
 use Rattle.reverse.proofs.flat.Tie as tie
 
 abbrev Inv-loop : tie.InvT-loop
-Inv-loop branch mem ns₀ m₀ ns m = (plainWords ns ≡ true) × (backward (prog branch) mem ≡ backward (prog ns) m)
+Inv-loop branch mem ns₀ m₀ ns m = (flatWords ns ≡ true) × (backward (prog branch) mem ≡ backward (prog ns) m)
 
 abbrev μ-loop : tie.MeasureT-loop
 μ-loop branch mem ns₀ m₀ ns m = length ns
@@ -127,11 +128,11 @@ loop-again c =
     let L = at-loop .ns .now in
     let W = at-w .given .0 .0 in
     let e = sym (at-first-word .ensures) ∙ at-w .given .1 in
-    let plain = at-loop .inv .0 in
+    let flat = at-loop .inv .0 in
     let inv = at-loop .inv .1 in
     let M = at-loop .m .now in
     let kind = kind-jump W (sym (at-kind .ensures) ∙ at-if1 .taken) (at-first .ensures) in
-    (turns.plain-tail L W e plain, inv ∙ turns.turn-jump L W e long (reverse M) _ _ (back-part _ M (at-if2 .left)) kind (omega (arith, at-if2 .left, length-reverse M)))
+    (turns.flat-tail L W e flat, inv ∙ turns.turn-jump L W e long (reverse M) _ _ (back-part _ M (at-if2 .left)) kind (omega (arith, at-if2 .left, length-reverse M)))
 
 last-byte-requires : tie.Need-last-byte-requires Inv-loop μ-loop
 last-byte-requires c κs = search needs
@@ -156,8 +157,8 @@ returns-3 c =
     let W = at-w .given .0 .0 in
     let e = sym (at-first-word .ensures) ∙ at-w .given .1 in
     let M = at-loop .m .now in
-    let plain = at-loop .inv .0 in
-    let test = turns.plain-test L W e plain (λ z. at-if1 .left (at-kind .ensures ∙ z)) in
+    let flat = at-loop .inv .0 in
+    let test = turns.flat-test L W e flat (λ z. at-if1 .left (at-kind .ensures ∙ z)) in
     ap answer (sym (inv ∙ turns.stop-short L W e long (reverse M) (test .0) (test .1) (sym (at-last-byte .ensures) ∙ at-enum-told2 .given .1)))
 
 sub-keep-2 : tie.Need-sub-keep-2 Inv-loop μ-loop
@@ -209,14 +210,14 @@ loop-again-2 c =
     let L = at-loop .ns .now in
     let W = at-w .given .0 .0 in
     let e = sym (at-first-word .ensures) ∙ at-w .given .1 in
-    let plain = at-loop .inv .0 in
+    let flat = at-loop .inv .0 in
     let inv = at-loop .inv .1 in
     let M = at-loop .m .now in
     let B = at-b .given .0 .0 in
     let f = sym (at-last-byte .ensures) ∙ at-b .given .1 in
     let pos = last-pos M B f in
-    let test = turns.plain-test L W e plain (λ z. at-if1 .left (at-kind .ensures ∙ z)) in
-    (turns.plain-tail L W e plain, inv ∙ turns.turn-one L W e long (reverse M) _ (back-part 1 M pos) (test .0) B (test .1) f (passes-as W B (test .0) (test .1) (sym (at-if3 .taken) ∙ at-word-passes .ensures)))
+    let test = turns.flat-test L W e flat (λ z. at-if1 .left (at-kind .ensures ∙ z)) in
+    (turns.flat-tail L W e flat, inv ∙ turns.turn-one L W e long (reverse M) _ (back-part 1 M pos) (test .0) B (test .1) f (passes-as W B (test .0) (test .1) (sym (at-if3 .taken) ∙ at-word-passes .ensures)))
 
 returns-4 : tie.Need-returns-4 Inv-loop μ-loop
 returns-4 c =
@@ -234,8 +235,8 @@ returns-4 c =
     let W = at-w .given .0 .0 in
     let e = sym (at-first-word .ensures) ∙ at-w .given .1 in
     let M = at-loop .m .now in
-    let plain = at-loop .inv .0 in
-    let test = turns.plain-test L W e plain (λ z. at-if1 .left (at-kind .ensures ∙ z)) in
+    let flat = at-loop .inv .0 in
+    let test = turns.flat-test L W e flat (λ z. at-if1 .left (at-kind .ensures ∙ z)) in
     let B = at-b .given .0 .0 in
     let f = sym (at-last-byte .ensures) ∙ at-b .given .1 in
     ap answer (sym (inv ∙ turns.stop-one L W e long (reverse M) (test .0) B (test .1) f (passes-as W B (test .0) (test .1) (sym (at-if3 .left) ∙ at-word-passes .ensures))))

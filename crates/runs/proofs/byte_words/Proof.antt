@@ -8,6 +8,7 @@ use mathlib.Core.List.{List}
 use Prim.Native.Nat.{ℕ, _+_, _-_, _≤_}
 use native.Mathlib.Omega.{arith}
 use borrow.Author.Needs.{needs}
+use Rattle.meaning.proofs.PartLaws.{length-from, to-end}
 use Rattle.runs.proofs.byte_words.Statement.{statement}
 use Rattle.runs.proofs.byte_words.Tie as tie
 
@@ -56,7 +57,7 @@ loop-again c =
     let at-if1 = c .before .if1 in
     let at-loop-test = c .before .before .before .loop-test in
     let at-loop = c .before .before .before .before .loop in
-    (omega (arith, at-loop .inv .0, part.part-long 4 (at-loop .rest .now), (at-loop-test .taken)), at-loop .inv .1 ∙ parts.byte-turn (at-loop .n) (at-loop .rest .now) (at-loop-test .taken) (at-if1 .left) ∙ ap (λ (l : List ℕ). at-loop .n + 4 + byteEnd l) (sym (part.part-all 4 (at-loop .rest .now))))
+    (omega (arith, at-loop .inv .0, length-from 4 (at-loop .rest .now), (at-loop-test .taken)), at-loop .inv .1 ∙ parts.byte-turn (at-loop .n) (at-loop .rest .now) (at-loop-test .taken) (at-if1 .left) ∙ ap (λ (l : List ℕ). at-loop .n + 4 + byteEnd l) (sym (to-end 4 (at-loop .rest .now))))
 
 returns-2 : tie.Need-returns-2 Inv-loop μ-loop
 returns-2 c =

@@ -10,6 +10,7 @@ use mathlib.Core.List.{List}
 use Prim.Native.Nat.{ℕ, _+_, _-_, _≤_}
 use native.Mathlib.Omega.{arith}
 use borrow.Author.Needs.{needs}
+use Rattle.meaning.proofs.PartLaws.{length-from, to-end}
 use Rattle.runs.proofs.run_words.Statement.{statement}
 use Rattle.runs.proofs.run_words.Tie as tie
 
@@ -81,11 +82,11 @@ loop-again c =
     let at-closes-run = c .before .before .before .closes-run in
     let at-loop-test = c .before .before .before .before .loop-test in
     let at-loop = c .before .before .before .before .before .loop in (
-      omega (arith, at-loop .inv .0, part.part-long (at-width-of .result) (at-loop .rest .now), (at-width-of .ensures), (step.width-le (at-loop .rest .now) (at-loop-test .taken))),
+      omega (arith, at-loop .inv .0, length-from (at-width-of .result) (at-loop .rest .now), (at-width-of .ensures), (step.width-le (at-loop .rest .now) (at-loop-test .taken))),
       at-loop .inv .1
           ∙ ap (λ (x : ℕ). at-loop .n + x) (law.run-end-open (at-loop .rest .now) (at-loop-test .taken) (sym (at-closes-run .ensures) ∙ at-if1 .left)) ∙ sym (add-assoc (at-loop .n) _ _)
           ∙ ap₂ (λ (x : ℕ) (l : List ℕ). at-loop .n + x + runEnd l) (sym (at-width-of .ensures))
-          (ap (λ (x : ℕ). drop x (at-loop .rest .now)) (sym (at-width-of .ensures)) ∙ sym (part.part-all (at-width-of .result) (at-loop .rest .now))),
+          (ap (λ (x : ℕ). drop x (at-loop .rest .now)) (sym (at-width-of .ensures)) ∙ sym (to-end (at-width-of .result) (at-loop .rest .now))),
     )
 
 returns-2 : tie.Need-returns-2 Inv-loop μ-loop

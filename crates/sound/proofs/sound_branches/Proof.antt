@@ -97,18 +97,18 @@ returns-3 c =
     let inside = sym (at-branch-inside .ensures) ∙ n .1 in
     law.turn-long law.branch-steps (l .ws .now) (w .0 .0) first (n .0 .0) inside (at-if1 .taken) ∙ l .inv
 
-slice-aggregate-plain-words : tie.Need-slice-aggregate-plain-words Inv-loop μ-loop
-slice-aggregate-plain-words c =
+slice-aggregate-flat-words : tie.Need-slice-aggregate-flat-words Inv-loop μ-loop
+slice-aggregate-flat-words c =
     let at-if1 = c .before .if1 in
     sym (length-take-le _ _ (at-if1 .left))
 
-plain-words-requires : tie.Need-plain-words-requires Inv-loop μ-loop
-plain-words-requires c κs = search needs
+flat-words-requires : tie.Need-flat-words-requires Inv-loop μ-loop
+flat-words-requires c κs = search needs
 
 returns-4 : tie.Need-returns-4 Inv-loop μ-loop
 returns-4 c =
     let at-if2 = c .if2 in
-    let at-plain-words = c .before .plain-words in
+    let at-flat-words = c .before .flat-words in
     let at-if1 = c .before .before .before .if1 in
     let at-n = c .before .before .before .before .before .before .n in
     let at-branch-inside = c .before .before .before .before .before .before .before .before .branch-inside in
@@ -120,7 +120,7 @@ returns-4 c =
     let first = sym (at-first-word .ensures) ∙ w .1 in
     let n = at-n .given in
     let inside = sym (at-branch-inside .ensures) ∙ n .1 in
-    law.turn-part law.branch-steps (l .ws .now) (w .0 .0) first (n .0 .0) inside (at-if1 .left) (sym (at-plain-words .ensures) ∙ not-true _ (at-if2 .taken)) ∙ l .inv
+    law.turn-part law.branch-steps (l .ws .now) (w .0 .0) first (n .0 .0) inside (at-if1 .left) (sym (at-flat-words .ensures) ∙ not-true _ (at-if2 .taken)) ∙ l .inv
 
 mul-ws : tie.Need-mul-ws Inv-loop μ-loop
 mul-ws c = search needs
@@ -149,7 +149,7 @@ loop-less c =
 loop-again : tie.Need-loop-again Inv-loop μ-loop
 loop-again c =
     let at-if2 = c .before .if2 in
-    let at-plain-words = c .before .before .plain-words in
+    let at-flat-words = c .before .before .flat-words in
     let at-if1 = c .before .before .before .before .if1 in
     let at-n = c .before .before .before .before .before .before .before .n in
     let at-branch-inside = c .before .before .before .before .before .before .before .before .before .branch-inside in
@@ -161,7 +161,7 @@ loop-again c =
     let first = sym (at-first-word .ensures) ∙ w .1 in
     let n = at-n .given in
     let inside = sym (at-branch-inside .ensures) ∙ n .1 in
-    law.turn-next law.branch-steps (l .ws .now) (w .0 .0) first (n .0 .0) inside (at-if1 .left) (sym (at-plain-words .ensures) ∙ not-false _ (at-if2 .left)) ∙ l .inv
+    law.turn-next law.branch-steps (l .ws .now) (w .0 .0) first (n .0 .0) inside (at-if1 .left) (sym (at-flat-words .ensures) ∙ not-false _ (at-if2 .left)) ∙ l .inv
 
 pub sound-branches-spec : {M : Type 1} → statement M
 sound-branches-spec =
@@ -183,8 +183,8 @@ sound-branches-spec =
     part-rest-start
     part-rest-end
     returns-3
-    slice-aggregate-plain-words
-    plain-words-requires
+    slice-aggregate-flat-words
+    flat-words-requires
     returns-4
     mul-ws
     sub-ws

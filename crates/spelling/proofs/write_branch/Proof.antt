@@ -4,12 +4,12 @@ use Rattle.meaning.specs.Limits.{literalLimit}
 use Rattle.spelling.specs.Writing.{Written}
 use Rattle.picking.proofs.NumberLaws.{pos-right}
 use native.Mathlib.Nat.{mul-le-mul}
-use Rattle.picking.specs.Numbers.{countIn, pieceIn, literalAt}
+use Rattle.picking.specs.Numbers.{countIn, endingIn, literalAt}
 use Rattle.spelling.proofs.WriteLaws as write
 use Rattle.prefixes.proofs.PrefixLaws as prefix
 use Rattle.spelling.proofs.SpellLaws as spell
 use Rattle.entries.proofs.StepLaws as step
-use Rattle.entries.specs.Words.{flatIn, listsIn}
+use Rattle.entries.specs.Words.{branchIn, listsIn}
 use lib.ListN.{length, take, drop}
 use mathlib.Core.Path.{_≡_, refl, sym, ap, _∙_, subst}
 use Rattle.entries.proofs.PartLaws as part
@@ -17,11 +17,12 @@ use mathlib.Core.List.{List}
 use Prim.Native.Nat.{ℕ, _-_, _*_, _≤_}
 use native.Mathlib.Omega.{arith}
 use borrow.Author.Needs.{needs}
+use Rattle.meaning.proofs.PartLaws.{to-end}
 use Rattle.spelling.proofs.write_branch.Statement.{statement}
 use Rattle.spelling.proofs.write_branch.Tie as tie
 
 abbrev Inv-loop : tie.InvT-loop
-Inv-loop ls p q dst₀ rest₀ left₀ dst rest left = (length rest ≤ length ls) × (dst ≡ dst₀) × (countIn (listsIn rest) ≤ literalLimit) × (pieceIn (listsIn ls) p q ≡ pieceIn (listsIn rest) p left)
+Inv-loop ls p q dst₀ rest₀ left₀ dst rest left = (length rest ≤ length ls) × (dst ≡ dst₀) × (countIn (listsIn rest) ≤ literalLimit) × (endingIn (listsIn ls) p q ≡ endingIn (listsIn rest) p left)
 
 abbrev μ-loop : tie.MeasureT-loop
 μ-loop ls p q dst₀ rest₀ left₀ dst rest left = length rest
@@ -102,11 +103,11 @@ write-list-requires c κs =
           (at-if1 .taken) .0,
       spell.within-list (at-loop .rest .now) (at-loop-test .taken) _ _ (at-end-of .ensures) (at-count-list .ensures) (at-loop .inv .2) (at-start .args .p) (at-loop .left)
           (at-if1 .taken) .1,
-      subst (λ (d : List ℕ). length (literalAt (flatIn (take (at-end-of .result - 4) (drop 4 (at-loop .rest .now)))) (at-loop .left % at-count-list .result)) ≤ length d)
+      subst (λ (d : List ℕ). length (literalAt (branchIn (take (at-end-of .result - 4) (drop 4 (at-loop .rest .now)))) (at-loop .left % at-count-list .result)) ≤ length d)
           (sym (at-loop .inv .1))
           (subst (λ (l : List ℕ). length l ≤ length (at-start .args .dst .now))
           (at-loop .inv .3
-          ∙ spell.piece-found (at-loop .rest .now) (at-loop-test .taken) _ _ (at-end-of .ensures) (at-count-list .ensures) (at-loop .inv .2) (at-start .args .p) (at-loop .left) (at-if1 .taken))
+          ∙ spell.ending-found (at-loop .rest .now) (at-loop-test .taken) _ _ (at-end-of .ensures) (at-count-list .ensures) (at-loop .inv .2) (at-start .args .p) (at-loop .left) (at-if1 .taken))
           ((at-start .pre) .2)),
     )
 
@@ -127,8 +128,8 @@ returns c =
     let at-start = c .before .before .before .before .before .before .before .before .before .before .before .before .before in
     subst (λ (l : List ℕ). Written (at-write-list .result) l (at-start .args .dst .now) (at-write-list .last .1 .1 .0))
     (sym (at-loop .inv .3
-    ∙ spell.piece-found (at-loop .rest .now) (at-loop-test .taken) _ _ (at-end-of .ensures) (at-count-list .ensures) (at-loop .inv .2) (at-start .args .p) (at-loop .left) (at-if1 .taken)))
-    (subst (λ (d : List ℕ). Written (at-write-list .result) (literalAt (flatIn (take (at-end-of .result - 4) (drop 4 (at-loop .rest .now)))) (at-loop .left % at-count-list .result)) d
+    ∙ spell.ending-found (at-loop .rest .now) (at-loop-test .taken) _ _ (at-end-of .ensures) (at-count-list .ensures) (at-loop .inv .2) (at-start .args .p) (at-loop .left) (at-if1 .taken)))
+    (subst (λ (d : List ℕ). Written (at-write-list .result) (literalAt (branchIn (take (at-end-of .result - 4) (drop 4 (at-loop .rest .now)))) (at-loop .left % at-count-list .result)) d
     (at-write-list .last .1 .1 .0)) (at-loop .inv .1) (at-write-list .ensures))
 
 mul-rest : tie.Need-mul-rest Inv-loop μ-loop
@@ -170,12 +171,12 @@ loop-again c =
       omega (arith, part.part-le (at-end-of .result) (at-loop .rest .now)),
       at-loop .inv .1,
       subst (λ (l : List ℕ). countIn (listsIn l) ≤ literalLimit)
-          (ap (λ (x : ℕ). drop x (at-loop .rest .now)) (sym (at-end-of .ensures)) ∙ sym (part.part-all (at-end-of .result) (at-loop .rest .now)))
+          (ap (λ (x : ℕ). drop x (at-loop .rest .now)) (sym (at-end-of .ensures)) ∙ sym (to-end (at-end-of .result) (at-loop .rest .now)))
           (prefix.lists-few (at-loop .rest .now) (at-loop-test .taken) _ _ (at-end-of .ensures) (at-count-list .ensures) (at-loop .inv .2)),
       at-loop .inv .3
-          ∙ spell.piece-passed (at-loop .rest .now) (at-loop-test .taken) _ _ (at-end-of .ensures) (at-count-list .ensures) (at-loop .inv .2) (at-start .args .p) (at-loop .left) (at-if1 .left)
-          ∙ ap (λ (l : List ℕ). pieceIn (listsIn l) (at-start .args .p) (at-loop .left - at-start .args .p * at-count-list .result))
-          (ap (λ (x : ℕ). drop x (at-loop .rest .now)) (sym (at-end-of .ensures)) ∙ sym (part.part-all (at-end-of .result) (at-loop .rest .now))),
+          ∙ spell.ending-passed (at-loop .rest .now) (at-loop-test .taken) _ _ (at-end-of .ensures) (at-count-list .ensures) (at-loop .inv .2) (at-start .args .p) (at-loop .left) (at-if1 .left)
+          ∙ ap (λ (l : List ℕ). endingIn (listsIn l) (at-start .args .p) (at-loop .left - at-start .args .p * at-count-list .result))
+          (ap (λ (x : ℕ). drop x (at-loop .rest .now)) (sym (at-end-of .ensures)) ∙ sym (to-end (at-end-of .result) (at-loop .rest .now))),
     )
 
 same-length-2 : tie.Need-same-length-2 Inv-loop μ-loop
@@ -188,7 +189,7 @@ returns-2 c =
     let at-loop-test = c .loop-test in
     let at-loop = c .before .loop in
     let at-start = c .before .before .before .before in
-    write.none-written _ _ _ (at-loop .inv .3 ∙ spell.piece-end (at-loop .rest .now) (omega (arith, at-loop-test .left)) (at-start .args .p) (at-loop .left)) (at-loop .inv .1)
+    write.none-written _ _ _ (at-loop .inv .3 ∙ spell.ending-none (at-loop .rest .now) (omega (arith, at-loop-test .left)) (at-start .args .p) (at-loop .left)) (at-loop .inv .1)
 
 pub write-branch-spec : {M : Type 1} → statement M
 write-branch-spec =

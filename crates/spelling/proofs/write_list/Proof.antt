@@ -5,7 +5,7 @@ use Rattle.spelling.proofs.WriteLaws.{Halfway}
 use Rattle.picking.specs.Numbers.{count, literalAt}
 use Rattle.spelling.proofs.WriteLaws as write
 use Rattle.spelling.proofs.SpellLaws as spell
-use Rattle.entries.specs.Words.{flatIn}
+use Rattle.entries.specs.Words.{branchIn}
 use lib.ListN.{length, drop}
 use mathlib.Core.Path.{_≡_, sym, ap, _∙_, subst}
 use Rattle.entries.proofs.PartLaws as part
@@ -13,11 +13,12 @@ use mathlib.Core.List.{List}
 use Prim.Native.Nat.{ℕ, _+_, _-_, _≤_, _<_}
 use native.Mathlib.Omega.{arith}
 use borrow.Author.Needs.{needs}
+use Rattle.meaning.proofs.PartLaws.{to-end}
 use Rattle.spelling.proofs.write_list.Statement.{statement}
 use Rattle.spelling.proofs.write_list.Tie as tie
 
 abbrev Inv-loop : tie.InvT-loop
-Inv-loop ws k dst₀ rest₀ n₀ i₀ dst rest n i = (n ≡ count (flatIn rest)) × (0 < n) × (n ≤ literalLimit) × Halfway (literalAt (flatIn ws) k) (literalAt (flatIn rest) k) i dst₀ dst
+Inv-loop ws k dst₀ rest₀ n₀ i₀ dst rest n i = (n ≡ count (branchIn rest)) × (0 < n) × (n ≤ literalLimit) × Halfway (literalAt (branchIn ws) k) (literalAt (branchIn rest) k) i dst₀ dst
 
 abbrev μ-loop : tie.MeasureT-loop
 μ-loop ws k dst₀ rest₀ n₀ i₀ dst rest n i = length rest
@@ -87,8 +88,8 @@ slice-write-dst c =
     let at-loop-test = c .before .before .before .before .before .before .before .before .loop-test in
     let at-loop = c .before .before .before .before .before .before .before .before .before .loop in
     let at-start = c .before .before .before .before .before .before .before .before .before .before .before .before .before in
-    write.room-one (literalAt (flatIn (at-start .args .ws .now)) (at-start .args .k)) _ _ (at-loop .i) (at-start .args .dst .now) (at-loop .dst)
-    (subst (λ (l : List ℕ). Halfway (literalAt (flatIn (at-start .args .ws .now)) (at-start .args .k)) l (at-loop .i) (at-start .args .dst .now) (at-loop .dst))
+    write.room-one (literalAt (branchIn (at-start .args .ws .now)) (at-start .args .k)) _ _ (at-loop .i) (at-start .args .dst .now) (at-loop .dst)
+    (subst (λ (l : List ℕ). Halfway (literalAt (branchIn (at-start .args .ws .now)) (at-start .args .k)) l (at-loop .i) (at-start .args .dst .now) (at-loop .dst))
     (spell.byte-first (at-loop .rest .now) (at-loop-test .taken) (at-taken-count .result) (at-loop .n) (at-taken-count .ensures .0) (at-loop .inv .0) (at-loop .inv .1) (at-loop .inv .2)
     (at-start .args .k)) (at-loop .inv .3)) ((at-start .pre) .2)
 
@@ -100,8 +101,8 @@ add-i c =
     let at-start = c .before .before .before .before .before .before .before .before .before .before .before .before .before in
     omega (
       arith,
-      write.room-one (literalAt (flatIn (at-start .args .ws .now)) (at-start .args .k)) _ _ (at-loop .i) (at-start .args .dst .now) (at-loop .dst)
-          (subst (λ (l : List ℕ). Halfway (literalAt (flatIn (at-start .args .ws .now)) (at-start .args .k)) l (at-loop .i) (at-start .args .dst .now) (at-loop .dst))
+      write.room-one (literalAt (branchIn (at-start .args .ws .now)) (at-start .args .k)) _ _ (at-loop .i) (at-start .args .dst .now) (at-loop .dst)
+          (subst (λ (l : List ℕ). Halfway (literalAt (branchIn (at-start .args .ws .now)) (at-start .args .k)) l (at-loop .i) (at-start .args .dst .now) (at-loop .dst))
           (spell.byte-first (at-loop .rest .now) (at-loop-test .taken) (at-taken-count .result) (at-loop .n) (at-taken-count .ensures .0) (at-loop .inv .0) (at-loop .inv .1) (at-loop .inv .2)
           (at-start .args .k)) (at-loop .inv .3)) ((at-start .pre) .2),
     )
@@ -129,7 +130,7 @@ loop-again c =
     let at-loop = c .before .before .before .before .before .before .before .before .before .before .loop in
     let at-start = c .before .before .before .before .before .before .before .before .before .before .before .before .before .before in (
       spell.rest-is (at-loop .rest .now) (at-loop-test .taken) (at-taken-count .result) (at-loop .n) (at-taken-count .ensures .0) (at-loop .inv .0) (at-loop .inv .1) (at-loop .inv .2)
-          ∙ ap (λ (l : List ℕ). count (flatIn l)) (sym (part.part-all 4 (at-loop .rest .now))),
+          ∙ ap (λ (l : List ℕ). count (branchIn l)) (sym (to-end 4 (at-loop .rest .now))),
       omega (
         arith,
         spell.rest-is (at-loop .rest .now) (at-loop-test .taken) (at-taken-count .result) (at-loop .n) (at-taken-count .ensures .0) (at-loop .inv .0) (at-loop .inv .1)
@@ -145,12 +146,12 @@ loop-again c =
             (at-loop .inv .2),
       ),
       subst
-          (λ (l : List ℕ). Halfway (literalAt (flatIn (at-start .args .ws .now)) (at-start .args .k)) (literalAt (flatIn l) (at-start .args .k)) (at-loop .i + 1) (at-start .args .dst .now)
-          (set (at-loop .dst) (at-loop .i) (at-taken-at .result))) (sym (part.part-all 4 (at-loop .rest .now)))
-          (subst (λ (x : ℕ). Halfway (literalAt (flatIn (at-start .args .ws .now)) (at-start .args .k)) (literalAt (flatIn (drop 4 (at-loop .rest .now))) (at-start .args .k)) (at-loop .i + 1)
+          (λ (l : List ℕ). Halfway (literalAt (branchIn (at-start .args .ws .now)) (at-start .args .k)) (literalAt (branchIn l) (at-start .args .k)) (at-loop .i + 1) (at-start .args .dst .now)
+          (set (at-loop .dst) (at-loop .i) (at-taken-at .result))) (sym (to-end 4 (at-loop .rest .now)))
+          (subst (λ (x : ℕ). Halfway (literalAt (branchIn (at-start .args .ws .now)) (at-start .args .k)) (literalAt (branchIn (drop 4 (at-loop .rest .now))) (at-start .args .k)) (at-loop .i + 1)
           (at-start .args .dst .now) (set (at-loop .dst) (at-loop .i) x)) (sym (at-taken-at .ensures))
-          (write.one-more (literalAt (flatIn (at-start .args .ws .now)) (at-start .args .k)) _ _ (at-loop .i) (at-start .args .dst .now) (at-loop .dst)
-          (subst (λ (l : List ℕ). Halfway (literalAt (flatIn (at-start .args .ws .now)) (at-start .args .k)) l (at-loop .i) (at-start .args .dst .now) (at-loop .dst))
+          (write.one-more (literalAt (branchIn (at-start .args .ws .now)) (at-start .args .k)) _ _ (at-loop .i) (at-start .args .dst .now) (at-loop .dst)
+          (subst (λ (l : List ℕ). Halfway (literalAt (branchIn (at-start .args .ws .now)) (at-start .args .k)) l (at-loop .i) (at-start .args .dst .now) (at-loop .dst))
           (spell.byte-first (at-loop .rest .now) (at-loop-test .taken) (at-taken-count .result) (at-loop .n) (at-taken-count .ensures .0) (at-loop .inv .0) (at-loop .inv .1) (at-loop .inv .2)
           (at-start .args .k)) (at-loop .inv .3)) ((at-start .pre) .2))),
     )
@@ -166,7 +167,7 @@ returns c =
     let at-loop-test = c .loop-test in
     let at-loop = c .before .loop in
     let at-start = c .before .before .before .before .before in
-    write.all-written _ _ _ _ (subst (λ (l : List ℕ). Halfway (literalAt (flatIn (at-start .args .ws .now)) (at-start .args .k)) l (at-loop .i) (at-start .args .dst .now) (at-loop .dst)) (spell.flat-ending-end (at-loop .rest .now) 1 (at-start .args .k) (omega (arith, at-loop-test .left))) (at-loop .inv .3))
+    write.all-written _ _ _ _ (subst (λ (l : List ℕ). Halfway (literalAt (branchIn (at-start .args .ws .now)) (at-start .args .k)) l (at-loop .i) (at-start .args .dst .now) (at-loop .dst)) (spell.branch-ending-end (at-loop .rest .now) 1 (at-start .args .k) (omega (arith, at-loop-test .left))) (at-loop .inv .3))
 
 pub write-list-spec : {M : Type 1} → statement M
 write-list-spec =

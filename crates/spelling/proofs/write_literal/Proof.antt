@@ -5,7 +5,7 @@ use mathlib.Core.Path.{subst₂}
 use native.Mathlib.Nat.{mul-le-mul}
 use Rattle.spelling.proofs.WriteLaws.{Halfway}
 use Rattle.prefixes.specs.Numbers.{Numerable}
-use Rattle.picking.specs.Numbers.{countOf, count, pieceOf, ending, literalAt}
+use Rattle.picking.specs.Numbers.{countOf, count, endingOf, ending, literalAt}
 use Rattle.spelling.proofs.WriteLaws as write
 use Rattle.prefixes.proofs.PrefixLaws as prefix
 use Rattle.spelling.proofs.SpellLaws as spell
@@ -18,6 +18,7 @@ use mathlib.Core.List.{List}
 use Prim.Native.Nat.{ℕ, _+_, _-_, _*_, _≤_, _<_}
 use native.Mathlib.Omega.{arith}
 use borrow.Author.Needs.{needs}
+use Rattle.meaning.proofs.PartLaws.{to-end}
 use Rattle.spelling.proofs.write_literal.Statement.{statement}
 use Rattle.spelling.proofs.write_literal.Tie as tie
 
@@ -42,13 +43,13 @@ number-of-requires c κs =
     let at-loop = c .before .before .loop in
     ((at-loop-test .taken), at-loop .inv .1, at-tally-token .ensures .literals-are, at-loop .inv .3)
 
-sub-write-piece : tie.Need-sub-write-piece Inv-loop μ-loop
-sub-write-piece c =
+sub-write-token : tie.Need-sub-write-token Inv-loop μ-loop
+sub-write-token c =
     let at-number-of = c .number-of in
     let at-loop-test = c .before .before .loop-test in
     let at-loop = c .before .before .before .loop in
     let at-start = c .before .before .before .before .before .before in
-    (write.room-piece (literalAt (tokensIn (at-start .args .ws .now)) (at-start .args .k)) (pieceOf (tokenIn (at-loop .rest .now)) (at-loop .p) (at-number-of .result))
+    (write.room-piece (literalAt (tokensIn (at-start .args .ws .now)) (at-start .args .k)) (endingOf (tokenIn (at-loop .rest .now)) (at-loop .p) (at-number-of .result))
     (ending (tokensIn (drop (width (at-loop .rest .now)) (at-loop .rest .now))) (at-loop .p * countOf (tokenIn (at-loop .rest .now))) (at-start .args .k)) (at-loop .i) (at-start .args .dst .now)
     (at-loop .dst)
     (subst (λ (l : List ℕ). Halfway (literalAt (tokensIn (at-start .args .ws .now)) (at-start .args .k)) l (at-loop .i) (at-start .args .dst .now) (at-loop .dst))
@@ -56,13 +57,13 @@ sub-write-piece c =
     ∙ ap (λ (l : List ℕ). l ++ (ending (tokensIn (drop (width (at-loop .rest .now)) (at-loop .rest .now))) (at-loop .p * countOf (tokenIn (at-loop .rest .now))) (at-start .args .k)))
     (sym (at-number-of .ensures))) (at-loop .inv .2)) ((at-start .pre) .2)) .0
 
-part-write-piece-start : tie.Need-part-write-piece-start Inv-loop μ-loop
-part-write-piece-start c =
+part-write-token-start : tie.Need-part-write-token-start Inv-loop μ-loop
+part-write-token-start c =
     let at-number-of = c .number-of in
     let at-loop-test = c .before .before .loop-test in
     let at-loop = c .before .before .before .loop in
     let at-start = c .before .before .before .before .before .before in
-    (write.room-piece (literalAt (tokensIn (at-start .args .ws .now)) (at-start .args .k)) (pieceOf (tokenIn (at-loop .rest .now)) (at-loop .p) (at-number-of .result))
+    (write.room-piece (literalAt (tokensIn (at-start .args .ws .now)) (at-start .args .k)) (endingOf (tokenIn (at-loop .rest .now)) (at-loop .p) (at-number-of .result))
     (ending (tokensIn (drop (width (at-loop .rest .now)) (at-loop .rest .now))) (at-loop .p * countOf (tokenIn (at-loop .rest .now))) (at-start .args .k)) (at-loop .i) (at-start .args .dst .now)
     (at-loop .dst)
     (subst (λ (l : List ℕ). Halfway (literalAt (tokensIn (at-start .args .ws .now)) (at-start .args .k)) l (at-loop .i) (at-start .args .dst .now) (at-loop .dst))
@@ -70,11 +71,11 @@ part-write-piece-start c =
     ∙ ap (λ (l : List ℕ). l ++ (ending (tokensIn (drop (width (at-loop .rest .now)) (at-loop .rest .now))) (at-loop .p * countOf (tokenIn (at-loop .rest .now))) (at-start .args .k)))
     (sym (at-number-of .ensures))) (at-loop .inv .2)) ((at-start .pre) .2)) .0
 
-part-write-piece-end : tie.Need-part-write-piece-end Inv-loop μ-loop
-part-write-piece-end c = search needs
+part-write-token-end : tie.Need-part-write-token-end Inv-loop μ-loop
+part-write-token-end c = search needs
 
-write-piece-requires : tie.Need-write-piece-requires Inv-loop μ-loop
-write-piece-requires c κs =
+write-token-requires : tie.Need-write-token-requires Inv-loop μ-loop
+write-token-requires c κs =
     let at-number-of = c .before .number-of in
     let at-tally-token = c .before .before .tally-token in
     let at-loop-test = c .before .before .before .loop-test in
@@ -88,7 +89,7 @@ write-piece-requires c κs =
       few = prefix.token-few (at-loop .rest .now)
           (at-loop-test .taken) (at-loop .p) (at-loop .inv .1) (at-tally-token .result .literals) (at-tally-token .ensures .literals-are);
       fits =
-          (write.room-piece (literalAt (tokensIn (at-start .args .ws .now)) (at-start .args .k)) (pieceOf (tokenIn (at-loop .rest .now)) (at-loop .p) (at-number-of .result))
+          (write.room-piece (literalAt (tokensIn (at-start .args .ws .now)) (at-start .args .k)) (endingOf (tokenIn (at-loop .rest .now)) (at-loop .p) (at-number-of .result))
           (ending (tokensIn (drop (width (at-loop .rest .now)) (at-loop .rest .now))) (at-loop .p * countOf (tokenIn (at-loop .rest .now))) (at-start .args .k)) (at-loop .i) (at-start .args .dst .now)
           (at-loop .dst)
           (subst (λ (l : List ℕ). Halfway (literalAt (tokensIn (at-start .args .ws .now)) (at-start .args .k)) l (at-loop .i) (at-start .args .dst .now) (at-loop .dst))
@@ -99,16 +100,16 @@ write-piece-requires c κs =
 
 add-i : tie.Need-add-i Inv-loop μ-loop
 add-i c =
-    let at-write-piece = c .before .before .write-piece in
+    let at-write-token = c .before .before .write-token in
     let at-number-of = c .before .before .before .before .number-of in
     let at-loop-test = c .before .before .before .before .before .before .loop-test in
     let at-loop = c .before .before .before .before .before .before .before .loop in
     let at-start = c .before .before .before .before .before .before .before .before .before .before in
     omega (
       arith,
-      at-write-piece .ensures .long,
+      at-write-token .ensures .long,
       write.piece-fits (literalAt (tokensIn (at-start .args .ws .now)) (at-start .args .k))
-          (pieceOf (tokenIn (at-loop .rest .now)) (at-loop .p) (at-number-of .result))
+          (endingOf (tokenIn (at-loop .rest .now)) (at-loop .p) (at-number-of .result))
           (ending (tokensIn (drop (width (at-loop .rest .now)) (at-loop .rest .now))) (at-loop .p * countOf (tokenIn (at-loop .rest .now))) (at-start .args .k)) (at-loop .i) (at-start .args .dst .now)
           (at-loop .dst)
           (subst (λ (l : List ℕ). Halfway (literalAt (tokensIn (at-start .args .ws .now)) (at-start .args .k)) l (at-loop .i) (at-start .args .dst .now) (at-loop .dst))
@@ -162,7 +163,7 @@ loop-less c =
 loop-again : tie.Need-loop-again Inv-loop μ-loop
 loop-again c =
     let at-width-of = c .before .width-of in
-    let at-write-piece = c .before .before .before .before .before .write-piece in
+    let at-write-token = c .before .before .before .before .before .write-token in
     let at-number-of = c .before .before .before .before .before .before .before .number-of in
     let at-tally-token = c .before .before .before .before .before .before .before .before .tally-token in
     let at-loop-test = c .before .before .before .before .before .before .before .before .before .loop-test in
@@ -170,22 +171,22 @@ loop-again c =
     let at-start = c .before .before .before .before .before .before .before .before .before .before .before .before .before in (
       omega (arith, part.part-le (at-width-of .result) (at-loop .rest .now)),
       subst (λ (l : List ℕ). Numerable (at-loop .p * at-tally-token .result .literals) (count (tokensIn l)))
-          (ap (λ (x : ℕ). drop x (at-loop .rest .now)) (sym (at-width-of .ensures)) ∙ sym (part.part-all (at-width-of .result) (at-loop .rest .now)))
+          (ap (λ (x : ℕ). drop x (at-loop .rest .now)) (sym (at-width-of .ensures)) ∙ sym (to-end (at-width-of .result) (at-loop .rest .now)))
           (prefix.after-numerable (at-loop .rest .now) (at-loop-test .taken) (at-loop .p) (at-loop .inv .1) (at-tally-token .result .literals) (at-tally-token .ensures .literals-are)),
       subst₂
           (λ (l : List ℕ) (x : ℕ). Halfway (literalAt (tokensIn (at-start .args .ws .now)) (at-start .args .k)) (ending (tokensIn l) (at-loop .p * x) (at-start .args .k))
-          (at-loop .i + at-write-piece .result) (at-start .args .dst .now) (putMid (at-loop .i) (length (at-loop .dst) - at-loop .i) (at-loop .dst) (at-write-piece .last .1 .1 .1 .0)))
-          (ap (λ (x : ℕ). drop x (at-loop .rest .now)) (sym (at-width-of .ensures)) ∙ sym (part.part-all (at-width-of .result) (at-loop .rest .now)))
+          (at-loop .i + at-write-token .result) (at-start .args .dst .now) (putMid (at-loop .i) (length (at-loop .dst) - at-loop .i) (at-loop .dst) (at-write-token .last .1 .1 .1 .0)))
+          (ap (λ (x : ℕ). drop x (at-loop .rest .now)) (sym (at-width-of .ensures)) ∙ sym (to-end (at-width-of .result) (at-loop .rest .now)))
           (sym (prefix.token-exact (at-loop .rest .now) (at-loop-test .taken) (at-loop .p) (at-loop .inv .1) (at-tally-token .result .literals) (at-tally-token .ensures .literals-are)))
-          (write.piece-more (literalAt (tokensIn (at-start .args .ws .now)) (at-start .args .k)) (pieceOf (tokenIn (at-loop .rest .now)) (at-loop .p) (at-number-of .result))
-          (ending (tokensIn (drop (width (at-loop .rest .now)) (at-loop .rest .now))) (at-loop .p * countOf (tokenIn (at-loop .rest .now))) (at-start .args .k)) (at-write-piece .result) (at-loop .i)
-          (at-start .args .dst .now) (at-loop .dst) (at-write-piece .last .1 .1 .1 .0)
+          (write.piece-more (literalAt (tokensIn (at-start .args .ws .now)) (at-start .args .k)) (endingOf (tokenIn (at-loop .rest .now)) (at-loop .p) (at-number-of .result))
+          (ending (tokensIn (drop (width (at-loop .rest .now)) (at-loop .rest .now))) (at-loop .p * countOf (tokenIn (at-loop .rest .now))) (at-start .args .k)) (at-write-token .result) (at-loop .i)
+          (at-start .args .dst .now) (at-loop .dst) (at-write-token .last .1 .1 .1 .0)
           (subst (λ (l : List ℕ). Halfway (literalAt (tokensIn (at-start .args .ws .now)) (at-start .args .k)) l (at-loop .i) (at-start .args .dst .now) (at-loop .dst))
           (spell.ending-step (at-loop .rest .now) (at-loop-test .taken) (at-loop .p) (at-start .args .k)
           ∙ ap (λ (l : List ℕ). l ++ (ending (tokensIn (drop (width (at-loop .rest .now)) (at-loop .rest .now))) (at-loop .p * countOf (tokenIn (at-loop .rest .now))) (at-start .args .k)))
-          (sym (at-number-of .ensures))) (at-loop .inv .2)) (at-write-piece .ensures)),
+          (sym (at-number-of .ensures))) (at-loop .inv .2)) (at-write-token .ensures)),
       subst (λ (l : List ℕ). at-start .args .k < at-loop .p * at-tally-token .result .literals * count (tokensIn l))
-          (ap (λ (x : ℕ). drop x (at-loop .rest .now)) (sym (at-width-of .ensures)) ∙ sym (part.part-all (at-width-of .result) (at-loop .rest .now)))
+          (ap (λ (x : ℕ). drop x (at-loop .rest .now)) (sym (at-width-of .ensures)) ∙ sym (to-end (at-width-of .result) (at-loop .rest .now)))
           (prefix.after-below (at-loop .rest .now) (at-loop-test .taken) (at-loop .p) (at-loop .inv .1) (at-tally-token .result .literals) (at-tally-token .ensures .literals-are) (at-start .args .k)
           (at-loop .inv .3)),
     )
@@ -212,10 +213,10 @@ write-literal-spec =
     loop-holds
     tally-token-requires
     number-of-requires
-    sub-write-piece
-    part-write-piece-start
-    part-write-piece-end
-    write-piece-requires
+    sub-write-token
+    part-write-token-start
+    part-write-token-end
+    write-token-requires
     add-i
     mul-p
     width-of-requires

@@ -2,7 +2,7 @@
 use native.Mathlib.Nat.{one-mul}
 use Rattle.tallies.specs.Tallies.{countTop}
 use Rattle.picking.specs.Numbers.{count}
-use Rattle.entries.specs.Words.{flatIn}
+use Rattle.entries.specs.Words.{branchIn}
 use lib.ListN.{length}
 use mathlib.Core.Path.{_≡_, sym, ap, ap₂, _∙_}
 use Rattle.tallies.proofs.TallyLaws as law
@@ -11,11 +11,12 @@ use mathlib.Core.List.{List}
 use Prim.Native.Nat.{ℕ, _-_, _*_, _≤_, min}
 use native.Mathlib.Omega.{arith}
 use borrow.Author.Needs.{needs}
+use Rattle.meaning.proofs.PartLaws.{to-end}
 use Rattle.tallies.proofs.count_list.Statement.{statement}
 use Rattle.tallies.proofs.count_list.Tie as tie
 
 abbrev Inv-loop : tie.InvT-loop
-Inv-loop ws rest₀ n₀ rest n = (n ≤ countTop) × (min countTop (count (flatIn ws)) ≡ min countTop (n * count (flatIn rest)))
+Inv-loop ws rest₀ n₀ rest n = (n ≤ countTop) × (min countTop (count (branchIn ws)) ≡ min countTop (n * count (branchIn rest)))
 
 abbrev μ-loop : tie.MeasureT-loop
 μ-loop ws rest₀ n₀ rest n = length rest
@@ -23,7 +24,7 @@ abbrev μ-loop : tie.MeasureT-loop
 loop-holds : tie.Need-loop-holds Inv-loop μ-loop
 loop-holds c =
     let at-start = c .before in
-    (omega arith, ap (min countTop) (sym (one-mul (count (flatIn (at-start .args .ws .now))))))
+    (omega arith, ap (min countTop) (sym (one-mul (count (branchIn (at-start .args .ws .now))))))
 
 shared-slice-read-taken-count : tie.Need-shared-slice-read-taken-count Inv-loop μ-loop
 shared-slice-read-taken-count c = search needs
@@ -65,17 +66,17 @@ loop-again c =
     let at-loop-test = c .before .before .before .before .before .before .loop-test in
     let at-loop = c .before .before .before .before .before .before .before .loop in (
       omega (arith, at-times .ensures),
-      at-loop .inv .1 ∙ law.flat-count-more (at-loop .n) (at-loop .rest .now) (at-loop-test .taken)
-          ∙ ap₂ (λ (x : ℕ) (l : List ℕ). min countTop (x * count (flatIn l)))
+      at-loop .inv .1 ∙ law.branch-count-more (at-loop .n) (at-loop .rest .now) (at-loop-test .taken)
+          ∙ ap₂ (λ (x : ℕ) (l : List ℕ). min countTop (x * count (branchIn l)))
           (sym (at-times .ensures ∙ ap (λ (y : ℕ). min countTop (at-loop .n * y)) (law.taken-capped (at-loop .rest .now) _ (at-taken-count .ensures .0) (at-taken-count .ensures .1))))
-          (sym (part.part-all 4 (at-loop .rest .now))),
+          (sym (to-end 4 (at-loop .rest .now))),
     )
 
 returns : tie.Need-returns Inv-loop μ-loop
 returns c =
     let at-loop-test = c .loop-test in
     let at-loop = c .before .loop in
-    sym (at-loop .inv .1 ∙ law.flat-count-end (at-loop .n) (at-loop .rest .now) (at-loop .inv .0) (omega (arith, at-loop-test .left)))
+    sym (at-loop .inv .1 ∙ law.branch-count-end (at-loop .n) (at-loop .rest .now) (at-loop .inv .0) (omega (arith, at-loop-test .left)))
 
 pub count-list-spec : {M : Type 1} → statement M
 count-list-spec =

@@ -11,6 +11,7 @@ use mathlib.Core.List.{List}
 use Prim.Native.Nat.{ℕ, _+_, _-_, _≤_}
 use native.Mathlib.Omega.{arith}
 use borrow.Author.Needs.{needs}
+use Rattle.meaning.proofs.PartLaws.{length-from, to-end}
 use Rattle.tallies.proofs.length_of.Statement.{statement}
 use Rattle.tallies.proofs.length_of.Tie as tie
 
@@ -78,7 +79,7 @@ loop-again c =
       omega (arith, part.part-le (at-width-of .result) (at-loop .rest .now)),
       omega (
         arith,
-        part.part-long (at-width-of .result) (at-loop .rest .now),
+        length-from (at-width-of .result) (at-loop .rest .now),
         at-length-token .ensures .1,
         (at-width-of .ensures),
         (step.width-le (at-loop .rest .now) (at-loop-test .taken)),
@@ -87,7 +88,7 @@ loop-again c =
           ∙ (ap (λ (x : ℕ). at-loop .n + x) (law.tokens-length-more (at-loop .rest .now) (at-loop-test .taken))
           ∙ sym (add-assoc (at-loop .n) (lengthOf (tokenIn (at-loop .rest .now))) (lengthIn (tokensIn (drop (width (at-loop .rest .now)) (at-loop .rest .now)))))
           ∙ ap₂ (λ (x : ℕ) (l : List ℕ). at-loop .n + x + lengthIn (tokensIn l)) (sym (at-length-token .ensures .0))
-          (ap (λ (x : ℕ). drop x (at-loop .rest .now)) (sym (at-width-of .ensures)) ∙ sym (part.part-all (at-width-of .result) (at-loop .rest .now)))),
+          (ap (λ (x : ℕ). drop x (at-loop .rest .now)) (sym (at-width-of .ensures)) ∙ sym (to-end (at-width-of .result) (at-loop .rest .now)))),
     )
 
 returns : tie.Need-returns Inv-loop μ-loop

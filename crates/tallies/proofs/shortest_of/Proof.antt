@@ -10,6 +10,7 @@ use mathlib.Core.List.{List}
 use Prim.Native.Nat.{ℕ, _-_, _/_, _≤_, min}
 use native.Mathlib.Omega.{arith}
 use borrow.Author.Needs.{needs}
+use Rattle.meaning.proofs.PartLaws.{to-end}
 use Rattle.tallies.proofs.shortest_of.Statement.{statement}
 use Rattle.tallies.proofs.shortest_of.Tie as tie
 
@@ -66,7 +67,7 @@ loop-holds c =
       law.lists-shortest (at-start .args .ws .now)
           (at-if1 .left)
           ∙ ap₂ (λ (l : List ℕ) (x : ℕ). shorter (listsIn l) (x / 4))
-          (ap (λ (x : ℕ). drop x (at-start .args .ws .now)) (sym (at-end-of .ensures)) ∙ sym (part.part-all (at-end-of .result) (at-start .args .ws .now)))
+          (ap (λ (x : ℕ). drop x (at-start .args .ws .now)) (sym (at-end-of .ensures)) ∙ sym (to-end (at-end-of .result) (at-start .args .ws .now)))
           (law.length-inside (at-start .args .ws .now) (at-if1 .left) ∙ ap (λ (x : ℕ). x - 4) (sym (at-end-of .ensures))),
     )
 
@@ -121,7 +122,7 @@ loop-again c =
       omega (arith, at-smaller .ensures),
       at-loop .inv .2
           ∙ law.lists-shorter (at-loop .rest .now) (at-loop-test .taken) (at-loop .n)
-          ∙ ap₂ (λ (l : List ℕ) (x : ℕ). shorter (listsIn l) x) (ap (λ (x : ℕ). drop x (at-loop .rest .now)) (sym (at-end-of2 .ensures)) ∙ sym (part.part-all (at-end-of2 .result) (at-loop .rest .now)))
+          ∙ ap₂ (λ (l : List ℕ) (x : ℕ). shorter (listsIn l) x) (ap (λ (x : ℕ). drop x (at-loop .rest .now)) (sym (at-end-of2 .ensures)) ∙ sym (to-end (at-end-of2 .result) (at-loop .rest .now)))
           (ap (λ (x : ℕ). min (at-loop .n) (x / 4)) (law.length-inside (at-loop .rest .now) (at-loop-test .taken) ∙ ap (λ (x : ℕ). x - 4) (sym (at-end-of2 .ensures))) ∙ sym (at-smaller .ensures)),
     )
 

@@ -4,7 +4,7 @@ use Rattle.tallies.specs.Tallies.{countTop}
 use Rattle.picking.specs.Numbers.{count, countIn}
 use Rattle.picking.specs.Literals.{combinations, combinationsIn}
 use Rattle.entries.proofs.StepLaws as step
-use Rattle.entries.specs.Words.{flatIn, listsIn}
+use Rattle.entries.specs.Words.{branchIn, listsIn}
 use lib.ListN.{length, take, drop}
 use mathlib.Core.Path.{_≡_, sym, ap, ap₂, _∙_}
 use Rattle.tallies.proofs.TallyLaws as law
@@ -13,6 +13,7 @@ use mathlib.Core.List.{List}
 use Prim.Native.Nat.{ℕ, _+_, _-_, _*_, _≤_, min}
 use native.Mathlib.Omega.{arith}
 use borrow.Author.Needs.{needs}
+use Rattle.meaning.proofs.PartLaws.{to-end}
 use Rattle.tallies.proofs.tally_lists.Statement.{statement}
 use Rattle.tallies.proofs.tally_lists.Tie as tie
 
@@ -111,15 +112,15 @@ loop-again c =
           ∙ ap₂ (λ (x : ℕ) (l : List ℕ). min countTop (x + countIn (listsIn l)))
           (sym (at-smaller .ensures
           ∙ ap (λ (y : ℕ). min countTop (at-loop .literals + y))
-          (at-count-list .ensures ∙ ap (λ (l : List ℕ). min countTop (count (flatIn l))) (ap (λ (x : ℕ). take (x - 4) (drop 4 (at-loop .rest .now))) (at-end-of .ensures)))))
-          (ap (λ (x : ℕ). drop x (at-loop .rest .now)) (sym (at-end-of .ensures)) ∙ sym (part.part-all (at-end-of .result) (at-loop .rest .now))),
+          (at-count-list .ensures ∙ ap (λ (l : List ℕ). min countTop (count (branchIn l))) (ap (λ (x : ℕ). take (x - 4) (drop 4 (at-loop .rest .now))) (at-end-of .ensures)))))
+          (ap (λ (x : ℕ). drop x (at-loop .rest .now)) (sym (at-end-of .ensures)) ∙ sym (to-end (at-end-of .result) (at-loop .rest .now))),
       at-loop .inv .4
           ∙ law.lists-combinations-more (at-loop .rest .now) (at-loop-test .taken) (at-loop .combinations)
           ∙ ap₂ (λ (x : ℕ) (l : List ℕ). min countTop (x * combinationsIn (listsIn l)))
           (sym (at-times .ensures
           ∙ ap (λ (y : ℕ). min countTop (at-loop .combinations * y))
-          (at-count-list .ensures ∙ ap (λ (l : List ℕ). min countTop (count (flatIn l))) (ap (λ (x : ℕ). take (x - 4) (drop 4 (at-loop .rest .now))) (at-end-of .ensures)))))
-          (ap (λ (x : ℕ). drop x (at-loop .rest .now)) (sym (at-end-of .ensures)) ∙ sym (part.part-all (at-end-of .result) (at-loop .rest .now))),
+          (at-count-list .ensures ∙ ap (λ (l : List ℕ). min countTop (count (branchIn l))) (ap (λ (x : ℕ). take (x - 4) (drop 4 (at-loop .rest .now))) (at-end-of .ensures)))))
+          (ap (λ (x : ℕ). drop x (at-loop .rest .now)) (sym (at-end-of .ensures)) ∙ sym (to-end (at-end-of .result) (at-loop .rest .now))),
     )
 
 returns : tie.Need-returns Inv-loop μ-loop

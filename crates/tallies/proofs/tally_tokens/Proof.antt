@@ -13,6 +13,7 @@ use mathlib.Core.List.{List}
 use Prim.Native.Nat.{ℕ, _-_, _*_, _≤_, min}
 use native.Mathlib.Omega.{arith}
 use borrow.Author.Needs.{needs}
+use Rattle.meaning.proofs.PartLaws.{to-end}
 use Rattle.tallies.proofs.tally_tokens.Statement.{statement}
 use Rattle.tallies.proofs.tally_tokens.Tie as tie
 
@@ -90,12 +91,12 @@ loop-again c =
       at-loop .inv .3
           ∙ law.tokens-count-more (at-loop .rest .now) (at-loop-test .taken) (at-loop .literals)
           ∙ ap₂ (λ (x : ℕ) (l : List ℕ). min countTop (x * count (tokensIn l))) (sym (at-times .ensures ∙ ap (λ (y : ℕ). min countTop (at-loop .literals * y)) (at-tally-token .ensures .literals-are)))
-          (ap (λ (x : ℕ). drop x (at-loop .rest .now)) (sym (at-width-of .ensures)) ∙ sym (part.part-all (at-width-of .result) (at-loop .rest .now))),
+          (ap (λ (x : ℕ). drop x (at-loop .rest .now)) (sym (at-width-of .ensures)) ∙ sym (to-end (at-width-of .result) (at-loop .rest .now))),
       at-loop .inv .4
           ∙ law.tokens-combinations-more (at-loop .rest .now) (at-loop-test .taken) (at-loop .combinations)
           ∙ ap₂ (λ (x : ℕ) (l : List ℕ). min countTop (x * combinations· (tokensIn l)))
           (sym (at-times2 .ensures ∙ ap (λ (y : ℕ). min countTop (at-loop .combinations * y)) (at-tally-token .ensures .combinations-are)))
-          (ap (λ (x : ℕ). drop x (at-loop .rest .now)) (sym (at-width-of .ensures)) ∙ sym (part.part-all (at-width-of .result) (at-loop .rest .now))),
+          (ap (λ (x : ℕ). drop x (at-loop .rest .now)) (sym (at-width-of .ensures)) ∙ sym (to-end (at-width-of .result) (at-loop .rest .now))),
     )
 
 returns : tie.Need-returns Inv-loop μ-loop

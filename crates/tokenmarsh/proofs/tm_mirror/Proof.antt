@@ -1,7 +1,7 @@
 -- `tokenmarsh::tm_mirror` meets its contract. Assumes nothing.
 use Prim.Native.Nat.{ℕ}
 use mathlib.Core.Path.{sym, ap, _∙_}
-use Rattle.mirror.specs.MirrorDoor.{said, refused}
+use Rattle.mirror.specs.MirrorDoor.{mirrorSaid, refuses}
 use Rattle.tokenmarsh.specs.Results.{mirrorTold}
 use borrow.Author.Needs.{needs}
 use Rattle.tokenmarsh.proofs.tm_mirror.Statement.{statement}
@@ -26,7 +26,7 @@ returns : tie.Need-returns
 returns c =
     let at-r = c .before .r in
     let at-mirror = c .before .before .before .before .before .mirror in
-    let m = at-mirror in (ap mirrorTold (sym (ap said (at-r .given .1)) ∙ m .ensures .0), m .ensures .1)
+    let m = at-mirror in (ap mirrorTold (sym (ap mirrorSaid (at-r .given .1)) ∙ m .ensures .0), m .ensures .1)
 
 same-length-2 : tie.Need-same-length-2
 same-length-2 c = search needs
@@ -38,7 +38,7 @@ returns-2 c =
     let at-mirror = c .before .before .before .before .before .before .mirror in
     let m = at-mirror in
     let q = at-r2 in (
-      ap (λ (n : ℕ). mirrorTold (refused n 0)) (at-number .ensures) ∙ ap mirrorTold (sym (ap said (q .given .1)) ∙ m .ensures .0),
+      ap (λ (n : ℕ). mirrorTold (refuses n 0)) (at-number .ensures) ∙ ap mirrorTold (sym (ap mirrorSaid (q .given .1)) ∙ m .ensures .0),
       m .ensures .1,
     )
 

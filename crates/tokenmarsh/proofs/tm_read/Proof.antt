@@ -1,7 +1,7 @@
 -- The struct says what the door answers, and the pool is the door's. Assumes nothing.
 use mathlib.Core.Path.{sym, ap, _∙_}
 use Prim.Native.Nat.{ℕ}
-use Rattle.readdoor.specs.Door.{said, refuses}
+use Rattle.readdoor.specs.Door.{readSaid, refuses}
 use Rattle.tokenmarsh.specs.Results.{readTold}
 use borrow.Author.Needs.{needs}
 use Rattle.tokenmarsh.proofs.tm_read.Statement.{statement}
@@ -26,7 +26,7 @@ returns : tie.Need-returns
 returns c =
     let at-r = c .before .r in
     let at-read = c .before .before .before .before .before .read in
-    let m = at-read in (ap readTold (sym (ap said (at-r .given .1)) ∙ m .ensures .0), m .ensures .1)
+    let m = at-read in (ap readTold (sym (ap readSaid (at-r .given .1)) ∙ m .ensures .0), m .ensures .1)
 
 same-length-2 : tie.Need-same-length-2
 same-length-2 c = search needs
@@ -38,7 +38,7 @@ returns-2 c =
     let at-read = c .before .before .before .before .before .before .read in
     let m = at-read in
     let q = at-r2 in (
-      ap (λ (n : ℕ). readTold (refuses n (q .given .0 .1 .0))) (at-number .ensures) ∙ ap readTold (sym (ap said (q .given .1)) ∙ m .ensures .0),
+      ap (λ (n : ℕ). readTold (refuses n (q .given .0 .1 .0))) (at-number .ensures) ∙ ap readTold (sym (ap readSaid (q .given .1)) ∙ m .ensures .0),
       m .ensures .1,
     )
 

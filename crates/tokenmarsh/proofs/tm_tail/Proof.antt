@@ -1,6 +1,6 @@
 -- The part begins where the match ends; nothing is left after no match and after a refusal. Assumes nothing.
 use mathlib.Core.Path.{sym, ap, _∙_}
-use Rattle.checkdoors.specs.Doors.{said}
+use Rattle.checkdoors.specs.Doors.{checkSaid}
 use Rattle.tokenmarsh.specs.Results.{tailTold}
 use Rattle.tokenmarsh.proofs.TailLaws.{forward-within}
 use borrow.Author.Needs.{needs}
@@ -18,7 +18,7 @@ sub-left c =
     let at-r = c .before .r in
     let at-forward = c .before .before .before .forward in
     let at-start = c .before .before .before .before .before .before in
-    let a = at-start .args in forward-within (a .program .now) (a .haystack .now) (a .start) (a .end) (at-r .given .0 .0) (sym (at-forward .ensures .says) ∙ ap said (at-r .given .1))
+    let a = at-start .args in forward-within (a .program .now) (a .haystack .now) (a .start) (a .end) (at-r .given .0 .0) (sym (at-forward .ensures .says) ∙ ap checkSaid (at-r .given .1))
 
 enum-told : tie.Need-enum-told
 enum-told c = search needs
@@ -30,19 +30,19 @@ returns : tie.Need-returns
 returns c =
     let at-r = c .before .r in
     let at-forward = c .before .before .before .forward in
-    ap (tailTold _) (sym (ap said (at-r .given .1)) ∙ at-forward .ensures .says)
+    ap (tailTold _) (sym (ap checkSaid (at-r .given .1)) ∙ at-forward .ensures .says)
 
 returns-2 : tie.Need-returns-2
 returns-2 c =
     let at-enum-told = c .enum-told in
     let at-forward = c .before .before .forward in
-    ap (tailTold _) (sym (ap said (at-enum-told .given .1)) ∙ at-forward .ensures .says)
+    ap (tailTold _) (sym (ap checkSaid (at-enum-told .given .1)) ∙ at-forward .ensures .says)
 
 returns-3 : tie.Need-returns-3
 returns-3 c =
     let at-enum-told2 = c .enum-told2 in
     let at-forward = c .before .before .forward in
-    ap (tailTold _) (sym (ap said (at-enum-told2 .given .1)) ∙ at-forward .ensures .says)
+    ap (tailTold _) (sym (ap checkSaid (at-enum-told2 .given .1)) ∙ at-forward .ensures .says)
 
 pub tm-tail-spec : {M : Type 1} → statement M
 tm-tail-spec =

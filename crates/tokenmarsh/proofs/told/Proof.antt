@@ -1,7 +1,7 @@
 -- Each case of the answer is told by its fields. Assumes nothing.
 use mathlib.Core.Path.{sym, ap, _∙_}
 use Prim.Native.Nat.{ℕ}
-use Rattle.checkdoors.specs.Doors.{said, refused}
+use Rattle.checkdoors.specs.Doors.{checkSaid, refuses}
 use Rattle.checkdoors.specs.declared.Answer.{Answer}
 use Rattle.tokenmarsh.specs.Results.{checkTold}
 use borrow.Author.Needs.{needs}
@@ -23,18 +23,18 @@ number-requires c κs = search needs
 returns : tie.Need-returns
 returns c =
     let at-r = c .before .r in
-    ap (λ (a : Answer). checkTold (said a)) (sym (at-r .given .1))
+    ap (λ (a : Answer). checkTold (checkSaid a)) (sym (at-r .given .1))
 
 returns-2 : tie.Need-returns-2
 returns-2 c =
     let at-enum-told = c .enum-told in
-    ap (λ (a : Answer). checkTold (said a)) (sym (at-enum-told .given .1))
+    ap (λ (a : Answer). checkTold (checkSaid a)) (sym (at-enum-told .given .1))
 
 returns-3 : tie.Need-returns-3
 returns-3 c =
     let at-number = c .number in
     let at-r2 = c .before .before .r2 in
-    ap (λ (n : ℕ). checkTold (refused n 0)) (at-number .ensures) ∙ ap (λ (a : Answer). checkTold (said a)) (sym (at-r2 .given .1))
+    ap (λ (n : ℕ). checkTold (refuses n 0)) (at-number .ensures) ∙ ap (λ (a : Answer). checkTold (checkSaid a)) (sym (at-r2 .given .1))
 
 pub told-spec : {M : Type 1} → statement M
 told-spec =

@@ -2,21 +2,21 @@
 use mathlib.Core.Path.{_≡_, ap, _∙_}
 use Prim.Native.Nat.{ℕ, _+_, _-_, _≤_}
 use lib.ListN.{length, take, getD}
-use Rattle.atoms.specs.Score.{windowScore}
-use Rattle.atoms.proofs.Laws.{byte-le, window-none, window-more, window-whole, window-le}
+use Rattle.atoms.specs.Score.{atomScore}
+use Rattle.atoms.proofs.Laws.{byte-le, atom-none, atom-more, atom-whole, atom-le}
 use native.Mathlib.Omega.{arith}
 use borrow.Author.Needs.{needs}
 use Rattle.atoms.proofs.Atom.score.Statement.{statement}
 use Rattle.atoms.proofs.Atom.score.Tie as tie
 
 abbrev Inv-loop : tie.InvT-loop
-Inv-loop bytes sum₀ i₀ sum i = (i ≤ 4) × (i ≤ length bytes) × (sum ≡ windowScore (take i bytes))
+Inv-loop bytes sum₀ i₀ sum i = (i ≤ 4) × (i ≤ length bytes) × (sum ≡ atomScore (take i bytes))
 
 abbrev μ-loop : tie.MeasureT-loop
 μ-loop bytes sum₀ i₀ sum i = 4 - i
 
 loop-holds : tie.Need-loop-holds Inv-loop μ-loop
-loop-holds c = (omega arith, omega arith, window-none)
+loop-holds c = (omega arith, omega arith, atom-none)
 
 shared-slice-read-byte-score : tie.Need-shared-slice-read-byte-score Inv-loop μ-loop
 shared-slice-read-byte-score c = search needs
@@ -30,7 +30,7 @@ add-sum c =
     let at-start = c .before .before .before .before .before .before in
     let i = at-loop .i in
     let l = at-start .args .bytes .now in
-    record { fits = omega (arith, byte-le (getD l i 0), window-le i l) }
+    record { fits = omega (arith, byte-le (getD l i 0), atom-le i l) }
 
 add-i : tie.Need-add-i Inv-loop μ-loop
 add-i c = search needs
@@ -46,7 +46,7 @@ loop-again c =
       omega arith,
       omega arith,
       ap (λ (x : ℕ). at-loop .sum + x) (at-byte-score .ensures)
-          ∙ window-more (at-start .args .bytes .now) (at-loop .i) _ (omega arith)
+          ∙ atom-more (at-start .args .bytes .now) (at-loop .i) _ (omega arith)
           (at-loop .inv .2),
     )
 
@@ -60,7 +60,7 @@ returns-2 c =
     let at-if1 = c .if1 in
     let at-loop = c .before .before .loop in
     let at-start = c .before .before .before .before in
-    window-whole (at-start .args .bytes .now) (at-loop .i) 4 _ (at-if1 .taken) (omega arith) (at-loop .inv .2)
+    atom-whole (at-start .args .bytes .now) (at-loop .i) 4 _ (at-if1 .taken) (omega arith) (at-loop .inv .2)
 
 pub score-spec : {M : Type 1} → statement M
 score-spec =
