@@ -11,13 +11,13 @@ use lib.Seq.{length-take-le}
 use mir.Syntax.{w8}
 use mir.Val.{Fits}
 use borrow.Author.Tests.{le-leb, lt-leb, leb-true}
-use Rattle.meaning.specs.Limits.{nodeLimit}
-use Rattle.meaning.specs.Values.{Bytes}
-use Rattle.meaning.specs.Choices.{short, long}
-use Rattle.meaning.specs.Rows.{forward, backward}
-use Rattle.meaning.specs.Words.{prog, sound, Sound}
-use Rattle.meaning.proofs.WordSpans.{sound-words}
-use Rattle.meaning.proofs.PartLaws.{from, to-end}
+use Rattle.def_meaning.specs.Limits.{nodeLimit}
+use Rattle.def_meaning.specs.Values.{Bytes}
+use Rattle.def_meaning.specs.Choices.{short, long}
+use Rattle.def_meaning.specs.Rows.{forward, backward}
+use Rattle.def_meaning.specs.Words.{prog, sound, Sound}
+use Rattle.def_meaning.proofs.WordSpans.{sound-words}
+use Rattle.def_meaning.proofs.PartLaws.{from, to-end}
 use Rattle.steps.specs.declared.Found.the-variants.{Left, Nothing}
 use Rattle.steps.specs.Steps.{answer}
 use Rattle.steps.proofs.Answers.{answer-some, answer-none, left-fits, left-part}

@@ -11,11 +11,11 @@ use lib.ListN.{length, take, drop, getD, length-take, length-drop, length-revers
 use lib.Seq.{ext-getD, getD-take, getD-drop, drop-drop}
 use denote.Ref.{RefT, ptr, now}
 use Rattle.base.proofs.RefusalLaws.{number-one}
-use Rattle.meaning.specs.Choices.{short, long, Nowhere, FirstForward, FirstReverse}
-use Rattle.meaning.specs.Rows.{forward, backward}
-use Rattle.meaning.specs.Words.{prog, sound}
-use Rattle.meaning.proofs.FirstLaws as first
-use Rattle.meaning.proofs.WordSpans.{sound-length}
+use Rattle.def_meaning.specs.Choices.{short, long, Nowhere, FirstForward, FirstReverse}
+use Rattle.def_meaning.specs.Rows.{forward, backward}
+use Rattle.def_meaning.specs.Words.{prog, sound}
+use Rattle.def_meaning.proofs.FirstLaws as first
+use Rattle.def_meaning.proofs.WordSpans.{sound-length}
 use Rattle.steps.specs.Steps.{answer}
 use Rattle.steps.proofs.Answers.{left-fits, left-part}
 use Rattle.checkdoors.specs.declared.Answer.{Answer}

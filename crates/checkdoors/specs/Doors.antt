@@ -9,10 +9,10 @@ use lib.Dec.{leb}
 use lib.ListN.{length, take, drop}
 use denote.Ref.{RefT, ptr, now}
 use Rattle.base.specs.Refusals.{numberOf}
-use Rattle.meaning.specs.Limits.{nodeLimit}
-use Rattle.meaning.specs.Values.{Bytes}
-use Rattle.meaning.specs.Rows.{forward, backward}
-use Rattle.meaning.specs.Words.{prog, sound}
+use Rattle.def_meaning.specs.Limits.{nodeLimit}
+use Rattle.def_meaning.specs.Values.{Bytes}
+use Rattle.def_meaning.specs.Rows.{forward, backward}
+use Rattle.def_meaning.specs.Words.{prog, sound}
 use Rattle.checkdoors.specs.declared.Answer.{Answer}
 use Rattle.checkdoors.specs.declared.Answer.the-variants.{At, NoMatch, Refused}
 use Rattle.checkdoors.specs.declared.Admitted.{Admitted}

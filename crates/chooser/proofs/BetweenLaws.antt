@@ -5,11 +5,11 @@ use mathlib.Core.List.{List, [], _∷_}
 use Prim.Native.Nat.{ℕ, _+_, _-_, _≤_, _<_}
 use native.Mathlib.Omega.{arith}
 use lib.ListN.{length, take, drop, length-take, length-drop}
-use Rattle.meaning.specs.Limits.{tokenPool}
-use Rattle.meaning.specs.Tokens.{Tokens, nothing}
-use Rattle.picking.specs.Runs.{filledOnes}
-use Rattle.picking.specs.Candidates.{Candidate, chosen, beats, between, inRun, amongRuns}
-use Rattle.picking.proofs.ChosenLaws.{chosen-few}
+use Rattle.def_meaning.specs.Limits.{tokenPool}
+use Rattle.def_meaning.specs.Tokens.{Tokens, nothing}
+use Rattle.def_picking.specs.Runs.{filledOnes}
+use Rattle.def_picking.specs.Candidates.{Candidate, chosen, beats, between, inRun, amongRuns}
+use Rattle.def_picking.proofs.ChosenLaws.{chosen-few}
 use Rattle.entries.specs.Words.{tokensIn}
 use Rattle.entries.proofs.StepLaws.{tokens-end, tokens-step}
 use Rattle.picks.specs.declared.Winner.{Winner}

@@ -5,11 +5,11 @@ use Prim.Native.Nat.{ℕ, _+_, _-_, _≤_, _<_}
 use native.Mathlib.Omega.{arith}
 use lib.ListN.{length, take, drop, length-drop}
 use lib.Seq.{drop-drop}
-use Rattle.meaning.specs.Limits.{tokenPool}
-use Rattle.meaning.specs.Tokens.{Tokens, nothing, _then_}
-use Rattle.meaning.proofs.PartLaws.{to-end}
-use Rattle.picking.specs.Runs.{segments, filledOnes, firstLast, runs}
-use Rattle.picking.specs.Candidates.{Candidate, unranked, inRun, between, amongRuns, inPattern}
+use Rattle.def_meaning.specs.Limits.{tokenPool}
+use Rattle.def_meaning.specs.Tokens.{Tokens, nothing, _then_}
+use Rattle.def_meaning.proofs.PartLaws.{to-end}
+use Rattle.def_picking.specs.Runs.{segments, filledOnes, firstLast, runs}
+use Rattle.def_picking.specs.Candidates.{Candidate, unranked, inRun, between, amongRuns, inPattern}
 use Rattle.entries.specs.Words.{width, tokensIn}
 use Rattle.entries.proofs.StepLaws.{tokens-end, tokens-step, width-le, width-long}
 use Rattle.picks.specs.declared.Winner.{Winner}

@@ -8,9 +8,9 @@ use lib.Dec.{ltb}
 use lib.ListN.{length, take, drop}
 use lib.Seq.{drop-drop, take-nil}
 use borrow.Author.Tests.{lt-ltb, le-ltb, ne-eqb, eq-eqb}
-use Rattle.meaning.specs.Tokens.{Tokens}
-use Rattle.picking.specs.Literals.{literals}
-use Rattle.picking.specs.Candidates.{least, beats, chosen}
+use Rattle.def_meaning.specs.Tokens.{Tokens}
+use Rattle.def_picking.specs.Literals.{literals}
+use Rattle.def_picking.specs.Candidates.{least, beats, chosen}
 use Rattle.entries.specs.Words.{tokensIn}
 use Rattle.picks.specs.declared.Winner.{Winner}
 use Rattle.picks.specs.declared.Winner.the-variants.{Nothing, Taken, TooMany}

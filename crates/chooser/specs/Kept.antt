@@ -4,12 +4,12 @@ use mathlib.Core.Path.{_≡_}
 use mathlib.Core.List.{List, [], _∷_}
 use Prim.Native.Nat.{ℕ, _-_, _≤_}
 use lib.ListN.{length, take, drop}
-use Rattle.meaning.specs.Limits.{literalLimit, tokenPool}
-use Rattle.meaning.specs.Tokens.{Tokens}
-use Rattle.picking.specs.Literals.{literals, lengthIn}
-use Rattle.picking.specs.Numbers.{count}
-use Rattle.picking.specs.Runs.{filledOnes}
-use Rattle.picking.specs.Candidates.{least, chosen, inRun}
+use Rattle.def_meaning.specs.Limits.{literalLimit, tokenPool}
+use Rattle.def_meaning.specs.Tokens.{Tokens}
+use Rattle.def_picking.specs.Literals.{literals, lengthIn}
+use Rattle.def_picking.specs.Numbers.{count}
+use Rattle.def_picking.specs.Runs.{filledOnes}
+use Rattle.def_picking.specs.Candidates.{least, chosen, inRun}
 use Rattle.entries.specs.Words.{tokensIn}
 use Rattle.picks.specs.declared.Winner.{Winner}
 use Rattle.picks.specs.declared.Winner.the-variants.{Nothing, Taken, TooMany}

@@ -7,12 +7,12 @@ use native.Mathlib.Omega.{arith}
 use lib.Dec.{eqb}
 use lib.ListN.{length, getD}
 use borrow.Author.Tests.{ne-eqb}
-use Rattle.meaning.specs.Tokens.{left, right, all, Token, Byte, NotByte, MaskedByte, NotMaskedByte, Jump, Alternatives}
+use Rattle.def_meaning.specs.Tokens.{left, right, all, Token, Byte, NotByte, MaskedByte, NotMaskedByte, Jump, Alternatives}
 use Rattle.bitmap.specs.declared.Bitmap.{Bitmap}
 use Rattle.bitmap.specs.Bitmap.{has, Holds, size, rising, membersFrom, members}
 use Rattle.bitmap.proofs.Tally.{tally-not}
 use Rattle.bitmap.proofs.Members.{members-size}
-use Rattle.picking.specs.Literals.{kept, passing, bytesThat, taken}
+use Rattle.def_picking.specs.Literals.{kept, passing, bytesThat, taken}
 use Rattle.classes.specs.Entry.{maskIn, entryToken}
 use Rattle.classes.specs.Classes.{passes}
 

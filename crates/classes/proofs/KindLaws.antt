@@ -7,9 +7,9 @@ use Prim.Native.Nat.{ℕ, zero, suc, _+_, _%_, _≤_, _<_}
 use native.Mathlib.Omega.{arith}
 use lib.Dec.{eqb, ltb}
 use borrow.Author.Tests.{eqb-true, eqb-false, ne-eqb, le-ltb}
-use Rattle.meaning.specs.Tokens.{left, right, all, Token, Byte, NotByte, MaskedByte, NotMaskedByte, Jump, Mask}
-use Rattle.picking.specs.Literals.{isPlain}
-use Rattle.picking.specs.Runs.{plainInside}
+use Rattle.def_meaning.specs.Tokens.{left, right, all, Token, Byte, NotByte, MaskedByte, NotMaskedByte, Jump, Mask}
+use Rattle.def_picking.specs.Literals.{isPlain}
+use Rattle.def_picking.specs.Runs.{plainInside}
 use Rattle.classes.specs.Entry.{maskIn, entryToken}
 
 -- ---- any entry

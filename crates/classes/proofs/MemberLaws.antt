@@ -9,10 +9,10 @@ use native.Mathlib.Nat.{eq-or-lt-of-le}
 use lib.Dec.{eqb, ltb}
 use lib.ListN.{length, getD}
 use borrow.Author.Tests.{eqb-true, eqb-false, eq-eqb, ne-eqb, ltb-true, ltb-false, lt-ltb, le-ltb}
-use Rattle.meaning.specs.Tokens.{Mask, left, right, Token, NotByte, MaskedByte, NotMaskedByte}
+use Rattle.def_meaning.specs.Tokens.{Mask, left, right, Token, NotByte, MaskedByte, NotMaskedByte}
 use Rattle.bitmap.specs.Bitmap.{tally}
 use Rattle.bitmap.proofs.Tally.{tally-nil, tally-add, tally-not}
-use Rattle.picking.specs.Literals.{kept, passing, bytesThat, taken}
+use Rattle.def_picking.specs.Literals.{kept, passing, bytesThat, taken}
 use Rattle.classes.specs.Entry.{maskIn, entryToken}
 use Rattle.classes.specs.Classes.{gapped}
 use Rattle.classes.proofs.ClassLaws.{mask-all}

@@ -5,7 +5,7 @@ use mathlib.Core.Bool.{cond}
 use mathlib.Core.Option.{none}
 use Prim.Native.Nat.{ℕ, _%_}
 use lib.Dec.{eqb}
-use Rattle.meaning.specs.Tokens.{Mask, left, right, all, Token, Byte, NotByte, MaskedByte, NotMaskedByte, Jump}
+use Rattle.def_meaning.specs.Tokens.{Mask, left, right, all, Token, Byte, NotByte, MaskedByte, NotMaskedByte, Jump}
 
 unfoldable pub maskIn : ℕ → Mask
 maskIn m = cond (eqb m 0) left (cond (eqb m 1) right all)

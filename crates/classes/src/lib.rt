@@ -3,9 +3,9 @@
 ghost use mathlib.Core.Path.{_≡_};
 ghost use Prim.Native.Nat.{_≤_, _<_, _%_};
 ghost use lib.ListN.{length, getD};
-ghost use Rattle.meaning.specs.Tokens.{MaskedByte, NotMaskedByte};
+ghost use Rattle.def_meaning.specs.Tokens.{MaskedByte, NotMaskedByte};
 ghost use Rattle.bitmap.specs.Bitmap.{Holds};
-ghost use Rattle.picking.specs.Literals.{taken, isPlain};
+ghost use Rattle.def_picking.specs.Literals.{taken, isPlain};
 ghost use Rattle.classes.specs.Entry.{maskIn, entryToken};
 ghost use Rattle.classes.specs.Classes.{passes, gapped};
 use bitmap::Bitmap;

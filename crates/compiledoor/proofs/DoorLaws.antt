@@ -10,17 +10,17 @@ use borrow.Author.Tests.{le-leb, lt-leb}
 use Rattle.base.specs.declared.Refusal.{Refusal}
 use Rattle.base.specs.Refusals.{numberOf}
 use Rattle.base.specs.Pools.{cleared}
-use Rattle.meaning.specs.Limits.{tokenPool, nodePool}
-use Rattle.meaning.specs.Tokens.{Tokens, _or_}
-use Rattle.meaning.specs.Values.{Spelled}
-use Rattle.meaning.specs.Entries.{entries}
-use Rattle.reading.specs.Lists.{accepted, rejected, reading}
-use Rattle.reading.proofs.SpelledValues.{accepted-spelled}
+use Rattle.def_meaning.specs.Limits.{tokenPool, nodePool}
+use Rattle.def_meaning.specs.Tokens.{Tokens, _or_}
+use Rattle.def_meaning.specs.Values.{Spelled}
+use Rattle.def_meaning.specs.Entries.{entries}
+use Rattle.def_reading.specs.Lists.{accepted, rejected, reading}
+use Rattle.def_reading.proofs.SpelledValues.{accepted-spelled}
 use Rattle.readdoor.specs.declared.ReadAnswer.{ReadAnswer}
 use Rattle.readdoor.specs.declared.ReadAnswer.the-variants as reads
 use Rattle.readdoor.specs.Door as read
 use Rattle.readdoor.proofs.Got as into
-use Rattle.compiling.specs.Compile.{Compiled, compiled, refused, compile}
+use Rattle.def_compiling.specs.Compile.{Compiled, compiled, refused, compile}
 use Rattle.compiler.specs.declared.Made.{Made}
 use Rattle.compiler.specs.Made.{Fills}
 use Rattle.compiler.specs.Walks.{Entered}

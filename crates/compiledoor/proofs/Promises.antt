@@ -6,18 +6,18 @@ use mathlib.Core.List.{List, reverse}
 use Prim.Native.Nat.{ℕ}
 use Rattle.base.specs.Refusals.{numberOf}
 use Rattle.base.proofs.RefusalLaws.{number-one}
-use Rattle.meaning.specs.Tokens.{Tokens, Spans}
-use Rattle.meaning.specs.Values.{Bytes}
-use Rattle.meaning.specs.Programs.{Span}
-use Rattle.meaning.specs.Words.{prog, sound}
-use Rattle.reading.specs.Lists.{accepted, reading}
-use Rattle.reading.proofs.PieceLaws.{never}
-use Rattle.compiling.specs.Compile.{compiled, compile}
-use Rattle.compiling.proofs.CompileLaws as law
+use Rattle.def_meaning.specs.Tokens.{Tokens, Spans}
+use Rattle.def_meaning.specs.Values.{Bytes}
+use Rattle.def_meaning.specs.Programs.{Span}
+use Rattle.def_meaning.specs.Words.{prog, sound}
+use Rattle.def_reading.specs.Lists.{accepted, reading}
+use Rattle.def_reading.proofs.PieceLaws.{never}
+use Rattle.def_compiling.specs.Compile.{compiled, compile}
+use Rattle.def_compiling.proofs.CompileLaws as law
 use Rattle.compiledoor.specs.declared.CompileAnswer.{CompileAnswer}
 use Rattle.compiledoor.specs.declared.CompileAnswer.the-variants.{Compiled, Refused}
 use Rattle.compiledoor.specs.Door.{compileSaid, compileSays, forwardLeaves, reverseLeaves}
-use Rattle.reading.proofs.SpelledValues.{accepted-spelled}
+use Rattle.def_reading.proofs.SpelledValues.{accepted-spelled}
 
 -- of a text that is read as the tokens ts and compiled to the words f and r
 module _ (t : List ℕ) (e : ℕ) (ts : Tokens) (f r : List ℕ) (read : reading t ≡ accepted e ts) (done : compile ts ≡ compiled f r) where

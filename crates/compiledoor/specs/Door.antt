@@ -6,11 +6,11 @@ use mathlib.Core.List.{List}
 use Prim.Native.Nat.{ℕ}
 use lib.Dec.{leb}
 use lib.ListN.{length}
-use Rattle.meaning.specs.Limits.{nodePool}
+use Rattle.def_meaning.specs.Limits.{nodePool}
 use Rattle.base.specs.Refusals.{numberOf}
 use Rattle.base.specs.Pools.{filled, cleared}
-use Rattle.reading.specs.Lists.{Verdict, accepted, rejected, reading}
-use Rattle.compiling.specs.Compile.{Compiled, compiled, refused, compile}
+use Rattle.def_reading.specs.Lists.{Verdict, accepted, rejected, reading}
+use Rattle.def_compiling.specs.Compile.{Compiled, compiled, refused, compile}
 use Rattle.compiler.specs.declared.Made.{Made}
 use Rattle.compiler.specs.declared.Made.the-variants as made
 use Rattle.compiledoor.specs.declared.CompileAnswer.{CompileAnswer}

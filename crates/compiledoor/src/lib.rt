@@ -11,8 +11,8 @@ use readdoor::read;
 ghost use mathlib.Core.Path.{_≡_};
 ghost use Prim.Native.Nat.{_≤_};
 ghost use lib.ListN.{length};
-ghost use Rattle.meaning.specs.Limits.{nodePool};
-ghost use Rattle.reading.specs.Lists.{reading};
+ghost use Rattle.def_meaning.specs.Limits.{nodePool};
+ghost use Rattle.def_reading.specs.Lists.{reading};
 ghost use Rattle.compiledoor.specs.Door.{compileSaid, madeSays, TextFills, compileSays, forwardLeaves, reverseLeaves};
 
 // The offset reached, as in reading, and the words of each program; or a refusal and its place.

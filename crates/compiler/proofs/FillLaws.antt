@@ -9,11 +9,11 @@ use lib.Dec.{leb}
 use lib.ListN.{length, getD, take, drop, set}
 use lib.Seq.{length-take-le, take-suc, drop-cons, set-at, drop-drop}
 use borrow.Author.Tests.{le-leb, lt-leb}
-use Rattle.meaning.specs.Limits.{nodeLimit, nodePool}
+use Rattle.def_meaning.specs.Limits.{nodeLimit, nodePool}
 use Rattle.base.specs.declared.Refusal.the-variants.{TooManyNodes, BranchTooLong}
 use Rattle.base.specs.Pools.{zeroed, filled, cleared}
 use Rattle.base.proofs.PoolLaws.{zeroed-filled}
-use Rattle.compiling.specs.Compile.{Compiled}
+use Rattle.def_compiling.specs.Compile.{Compiled}
 use Rattle.compiler.specs.declared.Made.the-variants.{Programs, Refused}
 use Rattle.compiler.specs.Made.{Fills, limited}
 

@@ -9,16 +9,16 @@ use lib.ListN.{length, take, drop}
 use lib.Seq.{take-at}
 use Rattle.base.specs.declared.Refusal.the-variants.{NotSimple}
 use Rattle.base.specs.Pools.{cleared}
-use Rattle.meaning.specs.Limits.{nodeLimit, tokenPool, nodePool, entryLimit}
-use Rattle.meaning.specs.Tokens.{Tokens}
-use Rattle.meaning.specs.Values.{Spelled}
-use Rattle.meaning.specs.Entries.{tokenCount, entries}
-use Rattle.meaning.specs.Programs.{Prog, end}
-use Rattle.meaning.proofs.TokenLaws.{count-few}
-use Rattle.compiling.specs.ProgramWords.{wordsOf, nodes}
-use Rattle.compiling.specs.Compiling.{added, forwardProgram, reverseProgram, forwardWords, reverseWords}
-use Rattle.compiling.specs.Compile.{simple, short, few, compile}
-use Rattle.compiling.proofs.CountLaws.{added-words}
+use Rattle.def_meaning.specs.Limits.{nodeLimit, tokenPool, nodePool, entryLimit}
+use Rattle.def_meaning.specs.Tokens.{Tokens}
+use Rattle.def_meaning.specs.Values.{Spelled}
+use Rattle.def_meaning.specs.Entries.{tokenCount, entries}
+use Rattle.def_meaning.specs.Programs.{Prog, end}
+use Rattle.def_meaning.proofs.TokenLaws.{count-few}
+use Rattle.def_compiling.specs.ProgramWords.{wordsOf, nodes}
+use Rattle.def_compiling.specs.Compiling.{added, forwardProgram, reverseProgram, forwardWords, reverseWords}
+use Rattle.def_compiling.specs.Compile.{simple, short, few, compile}
+use Rattle.def_compiling.proofs.CountLaws.{added-words}
 use Rattle.emit.specs.Lists.{tokensProgram, offsets, Outlined}
 use Rattle.emit.proofs.OrderLaws.{directed, offsets-count}
 use Rattle.emit.proofs.LinkLaws.{directed-long, tokens-program}

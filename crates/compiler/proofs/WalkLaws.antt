@@ -9,10 +9,10 @@ use native.Mathlib.Numerals.{add-one}
 use lib.Dec.{eqb, leb}
 use lib.ListN.{length, getD, take, drop, set, length-append, length-drop}
 use lib.Seq.{drop-drop, drop-at, drop-cons, set-at, getD-drop, take-all}
-use Rattle.meaning.specs.Tokens.{Token, Tokens, Lists, Byte, NotByte, MaskedByte, NotMaskedByte, Jump, Alternatives, nothing, _then_, neither, _or_}
-use Rattle.meaning.specs.Entries.{tokenCount, entriesOf, entries, listEntries}
-use Rattle.meaning.proofs.TokenLaws.{some-entry}
-use Rattle.compiling.specs.Compile.{flatToken, flatTokens, flatBranches, simpleToken, simple}
+use Rattle.def_meaning.specs.Tokens.{Token, Tokens, Lists, Byte, NotByte, MaskedByte, NotMaskedByte, Jump, Alternatives, nothing, _then_, neither, _or_}
+use Rattle.def_meaning.specs.Entries.{tokenCount, entriesOf, entries, listEntries}
+use Rattle.def_meaning.proofs.TokenLaws.{some-entry}
+use Rattle.def_compiling.specs.Compile.{flatToken, flatTokens, flatBranches, simpleToken, simple}
 use Rattle.emit.specs.Lists.{sizeAt, offsets}
 use Rattle.emit.proofs.AltLaws.{size-least}
 use Rattle.emit.proofs.OrderLaws.{Starts, offsets-count}

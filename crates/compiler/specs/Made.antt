@@ -5,10 +5,10 @@ use mathlib.Core.Bool.{Bool, cond}
 use mathlib.Core.List.{List}
 use Prim.Native.Nat.{ℕ}
 use lib.ListN.{length}
-use Rattle.meaning.specs.Limits.{nodePool}
+use Rattle.def_meaning.specs.Limits.{nodePool}
 use Rattle.base.specs.declared.Refusal.the-variants.{TooManyNodes, BranchTooLong}
 use Rattle.base.specs.Pools.{filled, cleared}
-use Rattle.compiling.specs.Compile.{Compiled, compiled, refused}
+use Rattle.def_compiling.specs.Compile.{Compiled, compiled, refused}
 use Rattle.compiler.specs.declared.Made.{Made}
 use Rattle.compiler.specs.declared.Made.the-variants.{Programs, Refused}
 

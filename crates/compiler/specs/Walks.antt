@@ -7,11 +7,11 @@ use mathlib.Core.List.{List, [], _∷_}
 use Prim.Native.Nat.{ℕ, _+_, _*_, _≤_}
 use lib.Dec.{eqb}
 use lib.ListN.{length, getD, take, drop}
-use Rattle.meaning.specs.Limits.{tokenPool}
-use Rattle.meaning.specs.Tokens.{Token, Tokens, Byte, Jump, Alternatives, neither}
-use Rattle.meaning.specs.Values.{Spelled}
-use Rattle.meaning.specs.Entries.{entries}
-use Rattle.compiling.specs.Compile.{flatToken, simpleToken, simple}
+use Rattle.def_meaning.specs.Limits.{tokenPool}
+use Rattle.def_meaning.specs.Tokens.{Token, Tokens, Byte, Jump, Alternatives, neither}
+use Rattle.def_meaning.specs.Values.{Spelled}
+use Rattle.def_meaning.specs.Entries.{entries}
+use Rattle.def_compiling.specs.Compile.{flatToken, simpleToken, simple}
 
 -- What an entry says, as far as 12 asks: a jump with its bounds, alternatives, or else a token of one byte. What 12 asks of it stands in `simpleToken`
 -- and `flatToken` alone.

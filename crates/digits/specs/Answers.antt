@@ -3,8 +3,8 @@
 use mathlib.Core.Option.{Option, none, some}
 use Prim.Native.Nat.{ℕ}
 use Rattle.base.specs.declared.Refusal.the-variants.{NumberTooBig}
-use Rattle.meaning.specs.Tokens as meant
-use Rattle.reading.specs.Pieces.{Seen, found, absent, refused, Hex, whole, masked, Range, between}
+use Rattle.def_meaning.specs.Tokens as meant
+use Rattle.def_reading.specs.Pieces.{Seen, found, absent, refused, Hex, whole, masked, Range, between}
 use Rattle.digits.specs.declared.Nibble.{Nibble}
 use Rattle.digits.specs.declared.Nibble.the-variants.{Is, Not}
 use Rattle.digits.specs.declared.Mask.{Mask}

@@ -8,9 +8,9 @@ ghost use mathlib.Core.Bool.{_&&_};
 ghost use Prim.Native.Nat.{_+_, _<_};
 ghost use lib.ListN.{getD};
 ghost use lib.Dec.{eqb, ltb};
-ghost use Rattle.meaning.specs.Limits.{innerJumpLimit};
-ghost use Rattle.reading.specs.Blanks.{blank, skip};
-ghost use Rattle.reading.specs.Pieces.{within, digit, byteAt, maskedAt, hexAt, notAt, numberAt, checked, closedAt, dashAt, rangeAt, jumpToken, jumped, hexToken, leafAt, _else_};
+ghost use Rattle.def_meaning.specs.Limits.{innerJumpLimit};
+ghost use Rattle.def_reading.specs.Blanks.{blank, skip};
+ghost use Rattle.def_reading.specs.Pieces.{within, digit, byteAt, maskedAt, hexAt, notAt, numberAt, checked, closedAt, dashAt, rangeAt, jumpToken, jumped, hexToken, leafAt, _else_};
 ghost use Rattle.digits.specs.Answers.{valueOf, spelled, tokenOf, leafSeen, numbered, ranged, upperOf};
 
 pub enum Nibble {

@@ -10,11 +10,11 @@ use lib.Seq.{length-take-le, take-at, drop-at, drop-drop}
 use borrow.Author.Tests.{eq-eqb, ne-eqb}
 use borrow.Rule.Slice.PartMut.{putMid}
 use Rattle.base.proofs.LentLaws.{lent-rest}
-use Rattle.meaning.specs.Programs.{Item, Prog, Branches, one, jump, range, alt, end, _▹_, _⧺_}
-use Rattle.meaning.specs.Words.{countWord}
-use Rattle.compiling.specs.ProgramWords.{opening, wordsFor, wordsOf, wordsIn}
-use Rattle.compiling.specs.Compiling.{jumpOf, add}
-use Rattle.compiling.specs.Compile.{shortIn, shortOf}
+use Rattle.def_meaning.specs.Programs.{Item, Prog, Branches, one, jump, range, alt, end, _▹_, _⧺_}
+use Rattle.def_meaning.specs.Words.{countWord}
+use Rattle.def_compiling.specs.ProgramWords.{opening, wordsFor, wordsOf, wordsIn}
+use Rattle.def_compiling.specs.Compiling.{jumpOf, add}
+use Rattle.def_compiling.specs.Compile.{shortIn, shortOf}
 use Rattle.emit.specs.declared.Last.{Last}
 use Rattle.emit.specs.declared.Last.the-variants.{Fixed}
 use Rattle.emit.specs.declared.Addend.{Addend}

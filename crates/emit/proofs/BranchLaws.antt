@@ -9,15 +9,15 @@ use lib.Dec.{leb}
 use lib.ListN.{length, getD, take, drop, set, length-append, length-drop}
 use lib.Seq.{drop-at, drop-drop, getD-drop, length-take-le}
 use borrow.Rule.Slice.PartMut.{putMid}
-use Rattle.meaning.specs.Limits.{branchLimit}
-use Rattle.meaning.specs.Tokens.{Token, Tokens, Lists, Byte, NotByte, MaskedByte, NotMaskedByte, Jump, Alternatives, nothing, _then_, neither, _or_}
-use Rattle.meaning.specs.Entries.{entry, entriesIn, tokenCount, listCount, entriesOf, entries, listEntries}
-use Rattle.meaning.specs.Programs.{Item, Prog, Branches, one, jump, range, alt, or as branch}
-use Rattle.meaning.specs.Words.{word}
-use Rattle.meaning.proofs.SoundLaws.{and-left, and-right, false-true}
-use Rattle.compiling.specs.ProgramWords.{wordsFor, wordsOf, wordsIn, nodes}
-use Rattle.compiling.specs.Compile.{flatToken, flatTokens, flatBranches, shortIn}
-use Rattle.compiling.proofs.CountLaws.{add-nodes}
+use Rattle.def_meaning.specs.Limits.{branchLimit}
+use Rattle.def_meaning.specs.Tokens.{Token, Tokens, Lists, Byte, NotByte, MaskedByte, NotMaskedByte, Jump, Alternatives, nothing, _then_, neither, _or_}
+use Rattle.def_meaning.specs.Entries.{entry, entriesIn, tokenCount, listCount, entriesOf, entries, listEntries}
+use Rattle.def_meaning.specs.Programs.{Item, Prog, Branches, one, jump, range, alt, or as branch}
+use Rattle.def_meaning.specs.Words.{word}
+use Rattle.def_meaning.proofs.SoundLaws.{and-left, and-right, false-true}
+use Rattle.def_compiling.specs.ProgramWords.{wordsFor, wordsOf, wordsIn, nodes}
+use Rattle.def_compiling.specs.Compile.{flatToken, flatTokens, flatBranches, shortIn}
+use Rattle.def_compiling.proofs.CountLaws.{add-nodes}
 use Rattle.emit.specs.Lists.{addedTo, listItem, listProgram, branchesAt, FlatLists}
 use Rattle.emit.proofs.HoldLaws.{Single}
 use Rattle.emit.proofs.ListLaws.{list-single}

@@ -10,11 +10,11 @@ use lib.Dec.{eqb, leb, ltb}
 use lib.ListN.{length, getD, drop, set, length-append, length-drop}
 use lib.Seq.{set-at, drop-cons}
 use borrow.Author.Tests.{leb-true, leb-false, le-leb, lt-leb}
-use Rattle.meaning.specs.Limits.{jumpLimit}
-use Rattle.meaning.specs.Programs.{byte, mask, negatedMask, Item, Prog, one, jump, range, alt, end, _▹_, _⧺_}
-use Rattle.meaning.specs.Words.{fieldSize, word}
-use Rattle.compiling.specs.ProgramWords.{wordFor, wordsFor, wordsOf, nodes}
-use Rattle.compiling.specs.Compiling.{jumpOf, pairBy, add}
+use Rattle.def_meaning.specs.Limits.{jumpLimit}
+use Rattle.def_meaning.specs.Programs.{byte, mask, negatedMask, Item, Prog, one, jump, range, alt, end, _▹_, _⧺_}
+use Rattle.def_meaning.specs.Words.{fieldSize, word}
+use Rattle.def_compiling.specs.ProgramWords.{wordFor, wordsFor, wordsOf, nodes}
+use Rattle.def_compiling.specs.Compiling.{jumpOf, pairBy, add}
 use Rattle.emit.specs.declared.Addend.{Addend}
 use Rattle.emit.specs.declared.Addend.the-variants.{Word, Gap}
 use Rattle.emit.specs.declared.Last.{Last}

@@ -10,19 +10,19 @@ use lib.Dec.{leb}
 use lib.ListN.{length, getD, take, drop, length-append, length-drop}
 use lib.Seq.{take-at, drop-drop, getD-drop}
 use borrow.Author.Tests.{leb-true}
-use Rattle.meaning.specs.Limits.{jumpLimit}
-use Rattle.meaning.specs.Tokens.{Mask, left, right, all, Token, Tokens, Lists, Byte, NotByte, MaskedByte, NotMaskedByte, Jump, Alternatives, nothing, _then_, neither, _or_}
-use Rattle.meaning.specs.Values.{SpelledOne, Spelled, SpelledMore}
-use Rattle.meaning.specs.Entries.{maskNumber, entriesIn, tokenCount, listCount, entriesOf, entries, listEntries}
-use Rattle.meaning.specs.Programs.{byte, mask, negatedMask, Item, one, alt, end, or as branch}
-use Rattle.meaning.specs.Words.{fieldSize}
-use Rattle.meaning.proofs.TokenLaws.{fours-in}
-use Rattle.meaning.proofs.SoundLaws.{and-left, and-right, false-true}
-use Rattle.compiling.specs.ProgramWords.{nodes}
-use Rattle.compiling.specs.Compiling.{itemOf, added, branchesFor, backwards}
-use Rattle.compiling.specs.Compile.{flatToken, flatTokens, flatBranches, simpleToken}
-use Rattle.meaning.proofs.ValueLaws.{any-spelled}
-use Rattle.compiling.proofs.CountLaws.{backwards-long-of, backwards-long}
+use Rattle.def_meaning.specs.Limits.{jumpLimit}
+use Rattle.def_meaning.specs.Tokens.{Mask, left, right, all, Token, Tokens, Lists, Byte, NotByte, MaskedByte, NotMaskedByte, Jump, Alternatives, nothing, _then_, neither, _or_}
+use Rattle.def_meaning.specs.Values.{SpelledOne, Spelled, SpelledMore}
+use Rattle.def_meaning.specs.Entries.{maskNumber, entriesIn, tokenCount, listCount, entriesOf, entries, listEntries}
+use Rattle.def_meaning.specs.Programs.{byte, mask, negatedMask, Item, one, alt, end, or as branch}
+use Rattle.def_meaning.specs.Words.{fieldSize}
+use Rattle.def_meaning.proofs.TokenLaws.{fours-in}
+use Rattle.def_meaning.proofs.SoundLaws.{and-left, and-right, false-true}
+use Rattle.def_compiling.specs.ProgramWords.{nodes}
+use Rattle.def_compiling.specs.Compiling.{itemOf, added, branchesFor, backwards}
+use Rattle.def_compiling.specs.Compile.{flatToken, flatTokens, flatBranches, simpleToken}
+use Rattle.def_meaning.proofs.ValueLaws.{any-spelled}
+use Rattle.def_compiling.proofs.CountLaws.{backwards-long-of, backwards-long}
 use Rattle.emit.specs.Items.{maskItem, notMaskItem, jumpItem, entryItem, placeOf}
 use Rattle.emit.specs.Lists.{addedTo, entryAt, listItem, listProgram, branchesAt, altAt, tokenAt, tokenItem, tokensProgram, sizeAt, Stands, offsets, Outlined}
 use Rattle.emit.proofs.BranchLaws.{flat-long, flat-entries, front-rest}

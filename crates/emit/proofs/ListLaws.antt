@@ -5,8 +5,8 @@ use mathlib.Core.List.{List}
 use Prim.Native.Nat.{ℕ, _+_, _*_, _/_, _<_}
 use native.Mathlib.Numerals.{add-one}
 use lib.ListN.{length, getD}
-use Rattle.meaning.specs.Programs.{Item}
-use Rattle.compiling.specs.Compiling.{add}
+use Rattle.def_meaning.specs.Programs.{Item}
+use Rattle.def_compiling.specs.Compiling.{add}
 use Rattle.emit.specs.declared.Addend.{Addend}
 use Rattle.emit.specs.declared.Last.{Last}
 use Rattle.emit.specs.declared.Last.the-variants.{Fixed}

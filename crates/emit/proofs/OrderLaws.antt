@@ -9,15 +9,15 @@ use lib.Dec.{ltb}
 use borrow.Author.Tests.{ltb-true, ltb-false}
 use lib.ListN.{length, getD, drop, length-append}
 use lib.Seq.{drop-at}
-use Rattle.meaning.specs.Tokens.{Token, Tokens, Lists, Byte, nothing, _then_, _⊕_}
-use Rattle.meaning.specs.Values.{SpelledOne, Spelled}
-use Rattle.meaning.specs.Entries.{tokenCount, entriesOf, entries}
-use Rattle.meaning.specs.Programs.{Item, Prog, end}
-use Rattle.meaning.proofs.SoundLaws.{and-left, and-right}
-use Rattle.compiling.specs.ProgramWords.{wordsOf, nodes}
-use Rattle.compiling.specs.Compiling.{add, itemOf, added, backwardsOf, backwards, backwardsIn}
-use Rattle.compiling.specs.Compile.{simpleToken, simple}
-use Rattle.compiling.proofs.CountLaws.{added-words}
+use Rattle.def_meaning.specs.Tokens.{Token, Tokens, Lists, Byte, nothing, _then_, _⊕_}
+use Rattle.def_meaning.specs.Values.{SpelledOne, Spelled}
+use Rattle.def_meaning.specs.Entries.{tokenCount, entriesOf, entries}
+use Rattle.def_meaning.specs.Programs.{Item, Prog, end}
+use Rattle.def_meaning.proofs.SoundLaws.{and-left, and-right}
+use Rattle.def_compiling.specs.ProgramWords.{wordsOf, nodes}
+use Rattle.def_compiling.specs.Compiling.{add, itemOf, added, backwardsOf, backwards, backwardsIn}
+use Rattle.def_compiling.specs.Compile.{simpleToken, simple}
+use Rattle.def_compiling.proofs.CountLaws.{added-words}
 use Rattle.emit.specs.Items.{placeOf}
 use Rattle.emit.specs.Lists.{addedTo, offsets}
 

@@ -7,11 +7,11 @@ use native.Mathlib.Omega.{arith}
 use native.Mathlib.Numerals.{add-one}
 use lib.Dec.{leb}
 use lib.ListN.{length, getD}
-use Rattle.meaning.specs.Limits.{jumpLimit}
-use Rattle.meaning.specs.Programs.{Item, Prog, one, jump, range, alt, end, _▹_}
-use Rattle.compiling.specs.ProgramWords.{nodes}
-use Rattle.compiling.specs.Compiling.{jumpOf, pairBy, add}
-use Rattle.compiling.specs.Compile.{shortOf, short}
+use Rattle.def_meaning.specs.Limits.{jumpLimit}
+use Rattle.def_meaning.specs.Programs.{Item, Prog, one, jump, range, alt, end, _▹_}
+use Rattle.def_compiling.specs.ProgramWords.{nodes}
+use Rattle.def_compiling.specs.Compiling.{jumpOf, pairBy, add}
+use Rattle.def_compiling.specs.Compile.{shortOf, short}
 use Rattle.emit.specs.declared.Last.{Last}
 use Rattle.emit.specs.declared.Last.the-variants.{Fixed}
 use Rattle.emit.specs.Items.{placeOf}

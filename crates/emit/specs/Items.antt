@@ -6,11 +6,11 @@ use mathlib.Core.List.{List}
 use Prim.Native.Nat.{ℕ, _+_, _*_, _-_, _%_, _≤_}
 use lib.Dec.{eqb, leb, ltb}
 use lib.ListN.{set}
-use Rattle.meaning.specs.Limits.{jumpLimit}
-use Rattle.meaning.specs.Programs.{byte, mask, negatedMask, Item, Prog, one, jump, range, alt, end, _▹_}
-use Rattle.meaning.specs.Words.{fieldSize, word}
-use Rattle.compiling.specs.ProgramWords.{wordFor}
-use Rattle.compiling.specs.Compiling.{jumpOf}
+use Rattle.def_meaning.specs.Limits.{jumpLimit}
+use Rattle.def_meaning.specs.Programs.{byte, mask, negatedMask, Item, Prog, one, jump, range, alt, end, _▹_}
+use Rattle.def_meaning.specs.Words.{fieldSize, word}
+use Rattle.def_compiling.specs.ProgramWords.{wordFor}
+use Rattle.def_compiling.specs.Compiling.{jumpOf}
 use Rattle.emit.specs.declared.Addend.{Addend}
 use Rattle.emit.specs.declared.Addend.the-variants.{Word, Gap}
 use Rattle.emit.specs.declared.Last.{Last}

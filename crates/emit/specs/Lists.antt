@@ -6,13 +6,13 @@ use mathlib.Core.List.{List, [], _∷_, _++_}
 use Prim.Native.Nat.{ℕ, zero, suc, _+_, _*_, _/_, _≤_}
 use lib.Dec.{eqb}
 use lib.ListN.{length, getD, take, drop}
-use Rattle.meaning.specs.Tokens.{Tokens, Lists, nothing, _then_}
-use Rattle.meaning.specs.Values.{Spelled}
-use Rattle.meaning.specs.Entries.{listCount, entriesOf, entries, listEntries}
-use Rattle.meaning.specs.Programs.{Item, Prog, Branches, one, jump, range, alt, end, stop, or}
-use Rattle.compiling.specs.ProgramWords.{wordsFor}
-use Rattle.compiling.specs.Compiling.{add}
-use Rattle.compiling.specs.Compile.{flatBranches, simple}
+use Rattle.def_meaning.specs.Tokens.{Tokens, Lists, nothing, _then_}
+use Rattle.def_meaning.specs.Values.{Spelled}
+use Rattle.def_meaning.specs.Entries.{listCount, entriesOf, entries, listEntries}
+use Rattle.def_meaning.specs.Programs.{Item, Prog, Branches, one, jump, range, alt, end, stop, or}
+use Rattle.def_compiling.specs.ProgramWords.{wordsFor}
+use Rattle.def_compiling.specs.Compiling.{add}
+use Rattle.def_compiling.specs.Compile.{flatBranches, simple}
 use Rattle.emit.specs.declared.Last.{Last}
 use Rattle.emit.specs.declared.Last.the-variants.{Fixed}
 use Rattle.emit.specs.Items.{entryItem, addendOf, placeOf, putCount, putLast, putOut}

@@ -4,7 +4,7 @@ use mathlib.Core.List.{List}
 use Prim.Native.Nat.{ℕ, _-_, _≤_, _<_, min}
 use native.Mathlib.Omega.{arith}
 use lib.ListN.{length, take, drop, length-drop}
-use Rattle.meaning.proofs.PartLaws.{to-end}
+use Rattle.def_meaning.proofs.PartLaws.{to-end}
 
 pub part-less : (a : ℕ) (l : List ℕ) → 4 ≤ a → 4 ≤ length l → length (take (length l - a) (drop a l)) < length l
 part-less a l h g = let e : length (take (length l - a) (drop a l)) ≡ length l - a = ap length (to-end a l) ∙ length-drop a l in omega arith

@@ -5,9 +5,9 @@ use mathlib.Core.List.{List}
 use Prim.Native.Nat.{ℕ, _≤_, _<_}
 use lib.ListN.{length, getD, drop}
 use borrow.Author.Tests.{eq-eqb, ne-eqb}
-use Rattle.meaning.specs.Tokens.{Token, Alternatives}
-use Rattle.picking.specs.Literals.{isPlain, plainList, plainLists}
-use Rattle.picking.specs.Runs.{plainInside, plainAlternatives}
+use Rattle.def_meaning.specs.Tokens.{Token, Alternatives}
+use Rattle.def_picking.specs.Literals.{isPlain, plainList, plainLists}
+use Rattle.def_picking.specs.Runs.{plainInside, plainAlternatives}
 use Rattle.classes.specs.Entry.{entryToken}
 use Rattle.entries.specs.Words.{firstEntry, branchIn, ends, inside, listsIn, tokenIn, width, tokensIn}
 use Rattle.entries.proofs.StepLaws.{branch-end, branch-step, lists-end, lists-step, tokens-end, tokens-step}

@@ -8,7 +8,7 @@ use native.Mathlib.Nat.{le-refl}
 use lib.Dec.{eqb, ltb}
 use lib.ListN.{length, drop, getD, length-drop}
 use borrow.Author.Tests.{lt-ltb, le-ltb}
-use Rattle.meaning.specs.Tokens.{nothing, _then_, neither, _or_}
+use Rattle.def_meaning.specs.Tokens.{nothing, _then_, neither, _or_}
 use Rattle.entries.specs.Words.{firstEntry, walk, branchIn, ends, inside, listsIn, tokenIn, width, tokensIn}
 
 -- ---- the bound on the depth of calls does not matter

@@ -6,7 +6,7 @@ use mathlib.Core.List.{List}
 use Prim.Native.Nat.{ℕ, zero, suc, _+_, _-_, _*_, min}
 use lib.Dec.{eqb, ltb}
 use lib.ListN.{length, take, drop, getD}
-use Rattle.meaning.specs.Tokens.{Token, Tokens, Lists, Alternatives, nothing, _then_, neither, _or_}
+use Rattle.def_meaning.specs.Tokens.{Token, Tokens, Lists, Alternatives, nothing, _then_, neither, _or_}
 use Rattle.classes.specs.Entry.{entryToken}
 
 -- the entry at the front

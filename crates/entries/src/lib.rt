@@ -3,8 +3,8 @@
 ghost use mathlib.Core.Path.{_≡_};
 ghost use Prim.Native.Nat.{_≤_};
 ghost use lib.ListN.{length};
-ghost use Rattle.picking.specs.Literals.{plainList, plainLists};
-ghost use Rattle.picking.specs.Runs.{plainAlternatives};
+ghost use Rattle.def_picking.specs.Literals.{plainList, plainLists};
+ghost use Rattle.def_picking.specs.Runs.{plainAlternatives};
 ghost use Rattle.entries.specs.Words.{branchIn, ends, listsIn, width, tokensIn};
 
 // Where the words within an entry of alternatives or a list mark end.

@@ -12,11 +12,11 @@ use lib.Seq.{drop-cons}
 use borrow.Author.Tests.{le-leb, lt-leb}
 use borrow.Rule.Slice.PartMut.{putMid}
 use Rattle.tallies.specs.Tallies.{countTop}
-use Rattle.meaning.specs.Limits.{literalLimit}
-use Rattle.meaning.specs.Tokens.{Tokens}
-use Rattle.picking.specs.Literals.{literals}
-use Rattle.picking.specs.Numbers.{count, literalAt}
-use Rattle.picking.proofs.NumberLaws.{count-literals, literal-numbered}
+use Rattle.def_meaning.specs.Limits.{literalLimit}
+use Rattle.def_meaning.specs.Tokens.{Tokens}
+use Rattle.def_picking.specs.Literals.{literals}
+use Rattle.def_picking.specs.Numbers.{count, literalAt}
+use Rattle.def_picking.proofs.NumberLaws.{count-literals, literal-numbered}
 use Rattle.spelling.specs.Writing.{Written}
 use Rattle.spelling.proofs.WriteLaws.{Halfway, nothing-written, all-written, half-length, one-more, piece-more, room-one, room-piece, piece-fits}
 use Rattle.generator.specs.declared.Wrote.the-variants.{All, NoRoom}

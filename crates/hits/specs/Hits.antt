@@ -5,8 +5,8 @@ use mathlib.Core.Option.{Option, none, some}
 use mathlib.Core.List.{List}
 use Prim.Native.Nat.{ℕ, zero, suc}
 use lib.ListN.{take, drop}
-use Rattle.meaning.specs.Rows.{forward, backward}
-use Rattle.meaning.specs.Words.{prog, sound}
+use Rattle.def_meaning.specs.Rows.{forward, backward}
+use Rattle.def_meaning.specs.Words.{prog, sound}
 
 -- m after a find, else n
 abbrev pub found : Option (List ℕ) → ℕ → ℕ → ℕ

@@ -9,7 +9,7 @@ use lib.Dec.{eqb, leb}
 use borrow.Author.Tests.{leb-true, leb-false}
 use lib.ListN.{length, take, drop, getD, length-append, length-drop, drop-of-length-le}
 use lib.Seq.{drop-cons, take-all, drop-drop}
-use Rattle.meaning.specs.Words.{fieldSize, countBy, kindOf, firstOf, secondOf, Shape, shapeBy, shape}
+use Rattle.def_meaning.specs.Words.{fieldSize, countBy, kindOf, firstOf, secondOf, Shape, shapeBy, shape}
 use Rattle.nodes.specs.declared.Node.{Node}
 use Rattle.nodes.specs.Nodes.{shapeOf}
 use Rattle.base.specs.Text.{ascii}

@@ -3,8 +3,8 @@
 use mathlib.Core.List.{List, [], _∷_, _++_, flatMap}
 use Prim.Native.Nat.{ℕ}
 use lib.ListN.{length, take, drop}
-use Rattle.meaning.specs.Programs.{Item, one, jump, range, alt, Test, byte, mask, negatedMask, any, dot}
-use Rattle.meaning.specs.Words.{Shape, item, opens, mark, wrong, shape}
+use Rattle.def_meaning.specs.Programs.{Item, one, jump, range, alt, Test, byte, mask, negatedMask, any, dot}
+use Rattle.def_meaning.specs.Words.{Shape, item, opens, mark, wrong, shape}
 use Rattle.base.specs.Text.{ascii}
 use Rattle.printing.specs.Numbers.{hexOf, decimalOf}
 

@@ -9,11 +9,11 @@ use borrow.Author.Tests.{leb-true}
 use lib.ListN.{length, take, drop, replicate, length-append, length-replicate, length-take, length-map}
 use lib.Seq.{take-at}
 use Rattle.base.specs.Pools.{filled}
-use Rattle.reading.specs.Lists.{Verdict, accepted, rejected, reading}
-use Rattle.compiling.specs.Compile.{Compiled, compiled as programs, refused as uncompiled, compile}
-use Rattle.picking.specs.Candidates.{Picked, picked, unpicked, pick}
-use Rattle.meaning.specs.Limits.{nodePool}
-use Rattle.meaning.proofs.SoundLaws.{and-left}
+use Rattle.def_reading.specs.Lists.{Verdict, accepted, rejected, reading}
+use Rattle.def_compiling.specs.Compile.{Compiled, compiled as programs, refused as uncompiled, compile}
+use Rattle.def_picking.specs.Candidates.{Picked, picked, unpicked, pick}
+use Rattle.def_meaning.specs.Limits.{nodePool}
+use Rattle.def_meaning.proofs.SoundLaws.{and-left}
 use Rattle.printing.specs.Laid.{Put}
 use Rattle.lines.specs.Lines.{literalsLines, cut, refusedLine, literalsRefusedLine, got, notGot, gotLines, compiled, refused, programsLines, listing}
 use Rattle.lines.proofs.ListingLaws.{cut-flatten, programs-fit}

@@ -11,16 +11,16 @@ use Rattle.lister.specs.Listings.{listingLimit, lentBytes, lentLengths}
 use Rattle.base.specs.declared.Refusal.{Refusal}
 use Rattle.base.specs.declared.Refusal.the-variants.{TextTooLong, Unexpected, NumberTooBig, JumpEmpty, JumpRangeInvalid, JumpAtBound, JumpUnboundedInAlternation, JumpTooBigInAlternation, CannotNegateMaskAll, HexStringTooDeep, TooManyTokens, NotSimple, TooManyNodes, BranchTooLong, Unsound, BadWindow, TooManyLiterals, NoRoom, NotPlain}
 use Rattle.base.specs.Refusals.{numberOf}
-use Rattle.meaning.specs.Limits.{textLimit, nodeLimit}
-use Rattle.meaning.specs.Tokens.{Tokens}
-use Rattle.meaning.proofs.SoundLaws.{and-left, and-right}
-use Rattle.reading.specs.Lists.{Verdict, accepted, rejected, reading}
-use Rattle.reading.proofs.Places.{rejected-place}
-use Rattle.compiling.specs.ProgramWords.{nodes}
-use Rattle.compiling.specs.Compiling.{forwardProgram, reverseProgram, forwardWords, reverseWords}
-use Rattle.compiling.specs.Compile.{few, Compiled, compiled as programs, refused as uncompiled, compile}
-use Rattle.compiling.proofs.GivenLaws.{programs-tests}
-use Rattle.picking.specs.Candidates.{Picked, picked, unpicked, pick}
+use Rattle.def_meaning.specs.Limits.{textLimit, nodeLimit}
+use Rattle.def_meaning.specs.Tokens.{Tokens}
+use Rattle.def_meaning.proofs.SoundLaws.{and-left, and-right}
+use Rattle.def_reading.specs.Lists.{Verdict, accepted, rejected, reading}
+use Rattle.def_reading.proofs.Places.{rejected-place}
+use Rattle.def_compiling.specs.ProgramWords.{nodes}
+use Rattle.def_compiling.specs.Compiling.{forwardProgram, reverseProgram, forwardWords, reverseWords}
+use Rattle.def_compiling.specs.Compile.{few, Compiled, compiled as programs, refused as uncompiled, compile}
+use Rattle.def_compiling.proofs.GivenLaws.{programs-tests}
+use Rattle.def_picking.specs.Candidates.{Picked, picked, unpicked, pick}
 use Rattle.lines.specs.declared.Listed.{Listed}
 use Rattle.lines.specs.declared.Listed.the-variants.{Wrote, NoRoom as Short}
 use Rattle.printing.specs.Laid.{laid}

@@ -9,14 +9,14 @@ use native.Mathlib.Omega.{arith}
 use native.Mathlib.Nat.{min-le-left}
 use lib.Dec.{ltb}
 use lib.ListN.{length}
-use Rattle.meaning.specs.Limits.{literalLimit, combinationLimit}
-use Rattle.meaning.specs.Tokens.{Tokens, nothing}
+use Rattle.def_meaning.specs.Limits.{literalLimit, combinationLimit}
+use Rattle.def_meaning.specs.Tokens.{Tokens, nothing}
 use Rattle.atoms.specs.Score.{literalScore}
 use Rattle.atoms.proofs.Laws.{score-le}
-use Rattle.picking.specs.Literals.{literals, combinations}
-use Rattle.picking.specs.Runs.{runs, parts, Slice, slice, slices}
-use Rattle.picking.specs.Candidates.{lowest, least, Ranked, ranked, skipped, excessive, rankValue, counted, combined, rank, Candidate, unranked, chosen, tooMany, widened, against, rankOf, best, bytesOf, strong, aloneOr, inRun, beats, between, amongRuns, inPattern, picked, pick}
-use Rattle.picking.proofs.PickedLaws.{Source, picked-from}
+use Rattle.def_picking.specs.Literals.{literals, combinations}
+use Rattle.def_picking.specs.Runs.{runs, parts, Slice, slice, slices}
+use Rattle.def_picking.specs.Candidates.{lowest, least, Ranked, ranked, skipped, excessive, rankValue, counted, combined, rank, Candidate, unranked, chosen, tooMany, widened, against, rankOf, best, bytesOf, strong, aloneOr, inRun, beats, between, amongRuns, inPattern, picked, pick}
+use Rattle.def_picking.proofs.PickedLaws.{Source, picked-from}
 
 lowest-le : (ls : List (List ℕ)) (n : ℕ) → n ≤ 80 → lowest literalScore ls n ≤ 80
 unfolding lowest

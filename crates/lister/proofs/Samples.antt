@@ -1,19 +1,19 @@
 -- 01's example, from the text to the listing, and a refusal of each kind. Assumes nothing: these are claims that compute.
 use mathlib.Core.Path.{_≡_, refl}
 use mathlib.Core.List.{flatten, flatMap}
-use Rattle.meaning.specs.Tokens
-use Rattle.meaning.specs.Entries
-use Rattle.meaning.specs.Words
-use Rattle.reading.specs.Blanks
-use Rattle.reading.specs.Pieces
-use Rattle.reading.specs.Lists
-use Rattle.compiling.specs.ProgramWords
-use Rattle.compiling.specs.Compiling
-use Rattle.compiling.specs.Compile
+use Rattle.def_meaning.specs.Tokens
+use Rattle.def_meaning.specs.Entries
+use Rattle.def_meaning.specs.Words
+use Rattle.def_reading.specs.Blanks
+use Rattle.def_reading.specs.Pieces
+use Rattle.def_reading.specs.Lists
+use Rattle.def_compiling.specs.ProgramWords
+use Rattle.def_compiling.specs.Compiling
+use Rattle.def_compiling.specs.Compile
 use Rattle.atoms.specs.Score
-use Rattle.picking.specs.Literals
-use Rattle.picking.specs.Runs
-use Rattle.picking.specs.Candidates
+use Rattle.def_picking.specs.Literals
+use Rattle.def_picking.specs.Runs
+use Rattle.def_picking.specs.Candidates
 use Rattle.base.specs.Text.{ascii}
 use Rattle.printing.specs.Laid
 use Rattle.printing.specs.Numbers

@@ -7,9 +7,9 @@ use lib.Dec.{leb}
 use lib.ListN.{length}
 use Rattle.base.specs.declared.Refusal.the-variants.{NoRoom}
 use Rattle.base.specs.Refusals.{numberOf}
-use Rattle.reading.specs.Lists.{Verdict, accepted, rejected, reading}
-use Rattle.compiling.specs.Compile.{Compiled, compiled as programs, refused as uncompiled, compile}
-use Rattle.picking.specs.Candidates.{Picked, picked, unpicked, pick}
+use Rattle.def_reading.specs.Lists.{Verdict, accepted, rejected, reading}
+use Rattle.def_compiling.specs.Compile.{Compiled, compiled as programs, refused as uncompiled, compile}
+use Rattle.def_picking.specs.Candidates.{Picked, picked, unpicked, pick}
 use Rattle.lines.specs.Lines.{LiteralsGot, got, notGot, Contents, compiled, refused, listing}
 
 -- how many bytes and how many lengths the listing program lends for literals

@@ -9,7 +9,7 @@ use nodes::NodeWord;
 ghost use mathlib.Core.Path.{_≡_};
 ghost use Prim.Native.Nat.{_<_, _^_};
 ghost use lib.ListN.{length};
-ghost use Rattle.reading.specs.Lists.{reading};
+ghost use Rattle.def_reading.specs.Lists.{reading};
 ghost use Rattle.printing.specs.Laid.{laid, Put};
 ghost use Rattle.lines.specs.Lines.{gotLines};
 ghost use Rattle.lines.specs.Listed.{listedOf};

@@ -9,15 +9,15 @@ use lib.ListN.{length, take, drop}
 use borrow.Author.Tests.{le-leb}
 use Rattle.base.specs.declared.Refusal.{Refusal}
 use Rattle.base.specs.Refusals.{numberOf}
-use Rattle.meaning.specs.Limits.{tokenPool}
-use Rattle.meaning.specs.Tokens.{Tokens}
-use Rattle.meaning.specs.Entries.{entries}
-use Rattle.meaning.specs.Values.{Spelled}
-use Rattle.reading.proofs.SpelledValues.{accepted-spelled}
-use Rattle.reading.specs.Lists.{accepted, rejected, reading}
-use Rattle.picking.specs.Literals.{literals}
-use Rattle.picking.specs.Runs.{plainAlternatives, firstLast, filledOnes, runs}
-use Rattle.picking.specs.Candidates.{Candidate, unranked, amongRuns, inPattern, Picked, picked, taking, pick}
+use Rattle.def_meaning.specs.Limits.{tokenPool}
+use Rattle.def_meaning.specs.Tokens.{Tokens}
+use Rattle.def_meaning.specs.Entries.{entries}
+use Rattle.def_meaning.specs.Values.{Spelled}
+use Rattle.def_reading.proofs.SpelledValues.{accepted-spelled}
+use Rattle.def_reading.specs.Lists.{accepted, rejected, reading}
+use Rattle.def_picking.specs.Literals.{literals}
+use Rattle.def_picking.specs.Runs.{plainAlternatives, firstLast, filledOnes, runs}
+use Rattle.def_picking.specs.Candidates.{Candidate, unranked, amongRuns, inPattern, Picked, picked, taking, pick}
 use Rattle.entries.specs.Words.{tokensIn}
 use Rattle.generator.specs.declared.Wrote.{Wrote}
 use Rattle.generator.specs.declared.Wrote.the-variants.{All, NoRoom}

@@ -11,16 +11,16 @@ use Rattle.base.specs.declared.Refusal.{Refusal}
 use Rattle.base.specs.declared.Refusal.the-variants.{TooManyLiterals, NotPlain}
 use Rattle.base.specs.Refusals.{numberOf}
 use Rattle.base.proofs.RefusalLaws.{number-one}
-use Rattle.meaning.specs.Limits.{tokenLimit, literalLimit}
-use Rattle.meaning.specs.Tokens.{Tokens, Spans}
-use Rattle.meaning.specs.Values.{Bytes}
-use Rattle.reading.specs.Lists.{Verdict, accepted, reading}
-use Rattle.reading.proofs.PieceLaws.{never}
-use Rattle.picking.specs.Runs.{plainAlternatives, runs}
-use Rattle.picking.specs.Candidates.{Candidate, unranked, chosen, tooMany, inPattern, Picked, picked, unpicked, taking, pick}
-use Rattle.picking.proofs.RefusalLaws.{Some, not-plain-is, too-many-given, too-many-only}
-use Rattle.picking.proofs.PickedLaws.{picked-few}
-use Rattle.picking.proofs.HoldLaws.{HoldsOne, match-holds-literal}
+use Rattle.def_meaning.specs.Limits.{tokenLimit, literalLimit}
+use Rattle.def_meaning.specs.Tokens.{Tokens, Spans}
+use Rattle.def_meaning.specs.Values.{Bytes}
+use Rattle.def_reading.specs.Lists.{Verdict, accepted, reading}
+use Rattle.def_reading.proofs.PieceLaws.{never}
+use Rattle.def_picking.specs.Runs.{plainAlternatives, runs}
+use Rattle.def_picking.specs.Candidates.{Candidate, unranked, chosen, tooMany, inPattern, Picked, picked, unpicked, taking, pick}
+use Rattle.def_picking.proofs.RefusalLaws.{Some, not-plain-is, too-many-given, too-many-only}
+use Rattle.def_picking.proofs.PickedLaws.{picked-few}
+use Rattle.def_picking.proofs.HoldLaws.{HoldsOne, match-holds-literal}
 use Rattle.generator.specs.Output as output
 use Rattle.literaldoor.proofs.ReadLaws.{read-literal-bounds}
 use Rattle.literaldoor.specs.declared.LiteralsAnswer.{LiteralsAnswer}

@@ -6,15 +6,15 @@ use mathlib.Core.List.{List, List·Memᴰ}
 use Prim.Native.Nat.{ℕ, _≤_, min}
 use native.Mathlib.Omega.{arith}
 use lib.ListN.{length}
-use Rattle.meaning.specs.Limits.{tokenLimit}
-use Rattle.meaning.specs.Tokens.{Token, Tokens, Lists, Byte, NotByte, MaskedByte, NotMaskedByte, Jump, Alternatives, nothing, _then_, neither, _or_, total}
-use Rattle.reading.specs.Lists.{accepted, reading}
-use Rattle.grammar.proofs.Spelling.{_⨾_, Bounded, SpellsToken, SpellsTokens, SpellsLists, SpellsRest, SpellsString, SpellsText}
-use Rattle.grammar.proofs.TextSpelled.{accepted-spelled}
-use Rattle.picking.specs.Literals.{lengthIn, shortest, shorter, NonemptyOf, Nonempty, NonemptyIn}
-use Rattle.picking.specs.Candidates.{picked, pick}
-use Rattle.picking.proofs.FactorLaws.{Filled}
-use Rattle.picking.proofs.PickedLaws.{filled-long, literal-bounds}
+use Rattle.def_meaning.specs.Limits.{tokenLimit}
+use Rattle.def_meaning.specs.Tokens.{Token, Tokens, Lists, Byte, NotByte, MaskedByte, NotMaskedByte, Jump, Alternatives, nothing, _then_, neither, _or_, total}
+use Rattle.def_reading.specs.Lists.{accepted, reading}
+use Rattle.def_grammar.proofs.Spelling.{_⨾_, Bounded, SpellsToken, SpellsTokens, SpellsLists, SpellsRest, SpellsString, SpellsText}
+use Rattle.def_grammar.proofs.TextSpelled.{accepted-spelled}
+use Rattle.def_picking.specs.Literals.{lengthIn, shortest, shorter, NonemptyOf, Nonempty, NonemptyIn}
+use Rattle.def_picking.specs.Candidates.{picked, pick}
+use Rattle.def_picking.proofs.FactorLaws.{Filled}
+use Rattle.def_picking.proofs.PickedLaws.{filled-long, literal-bounds}
 
 -- ---- no list of alternatives is empty
 

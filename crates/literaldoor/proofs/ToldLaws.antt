@@ -4,14 +4,14 @@ use mathlib.Core.Bool.{true}
 use mathlib.Core.List.{List, [], _∷_}
 use Prim.Native.Nat.{ℕ, _≤_}
 use lib.ListN.{length}
-use Rattle.meaning.specs.Limits.{tokenPool}
-use Rattle.meaning.specs.Tokens.{Tokens}
-use Rattle.meaning.specs.Entries.{entries}
-use Rattle.reading.specs.Lists.{accepted, reading}
-use Rattle.reading.proofs.SpelledValues.{accepted-spelled}
-use Rattle.picking.specs.Runs.{plainAlternatives, segments}
-use Rattle.picking.proofs.KeepLaws.{Every}
-use Rattle.picking.proofs.ShortestLaws.{segments-told}
+use Rattle.def_meaning.specs.Limits.{tokenPool}
+use Rattle.def_meaning.specs.Tokens.{Tokens}
+use Rattle.def_meaning.specs.Entries.{entries}
+use Rattle.def_reading.specs.Lists.{accepted, reading}
+use Rattle.def_reading.proofs.SpelledValues.{accepted-spelled}
+use Rattle.def_picking.specs.Runs.{plainAlternatives, segments}
+use Rattle.def_picking.proofs.KeepLaws.{Every}
+use Rattle.def_picking.proofs.ShortestLaws.{segments-told}
 use Rattle.entries.specs.Words.{tokensIn}
 use Rattle.runs.specs.Whole.{Whole}
 use Rattle.runs.proofs.EntryLaws.{plain-entries, segments-entries}

@@ -6,8 +6,8 @@ use mathlib.Core.List.{List}
 use Prim.Native.Nat.{ℕ}
 use lib.ListN.{length}
 use Rattle.base.specs.Refusals.{numberOf}
-use Rattle.reading.specs.Lists.{Verdict, accepted, rejected, reading}
-use Rattle.picking.specs.Candidates.{Picked, picked, unpicked, pick}
+use Rattle.def_reading.specs.Lists.{Verdict, accepted, rejected, reading}
+use Rattle.def_picking.specs.Candidates.{Picked, picked, unpicked, pick}
 use Rattle.generator.specs.Output as output
 use Rattle.literaldoor.specs.declared.LiteralsAnswer.{LiteralsAnswer}
 use Rattle.literaldoor.specs.declared.LiteralsAnswer.the-variants as answer

@@ -5,12 +5,12 @@ use Prim.Native.Nat.{ℕ, _+_, _-_, _≤_, _<_}
 use native.Mathlib.Omega.{arith}
 use lib.Dec.{eqb}
 use lib.ListN.{length, getD, take, drop, length-drop}
-use Rattle.meaning.specs.Limits.{tokenPool}
-use Rattle.meaning.specs.Tokens.{Tokens, _⊕_}
-use Rattle.meaning.proofs.PartLaws.{to-end, length-from}
-use Rattle.picking.specs.Literals.{lengthIn}
-use Rattle.picking.specs.Runs.{parts, slice, longer}
-use Rattle.picking.specs.Candidates.{Candidate, rank, widened, best}
+use Rattle.def_meaning.specs.Limits.{tokenPool}
+use Rattle.def_meaning.specs.Tokens.{Tokens, _⊕_}
+use Rattle.def_meaning.proofs.PartLaws.{to-end, length-from}
+use Rattle.def_picking.specs.Literals.{lengthIn}
+use Rattle.def_picking.specs.Runs.{parts, slice, longer}
+use Rattle.def_picking.specs.Candidates.{Candidate, rank, widened, best}
 use Rattle.entries.specs.Words.{tokensIn}
 use Rattle.picks.specs.declared.Winner.{Winner}
 use Rattle.picks.specs.declared.Rank.{Rank}

@@ -9,16 +9,16 @@ use native.Mathlib.Nat.{one-mul, mod-one}
 use lib.Dec.{eqb, leb}
 use lib.ListN.{length, getD, take, drop, length-drop}
 use borrow.Author.Tests.{eq-eqb, ne-eqb, le-leb, lt-leb}
-use Rattle.meaning.specs.Limits.{literalLimit, tokenPool}
-use Rattle.meaning.specs.Tokens.{Tokens, Byte, NotByte, MaskedByte, NotMaskedByte, Jump, Alternatives, nothing, _then_}
+use Rattle.def_meaning.specs.Limits.{literalLimit, tokenPool}
+use Rattle.def_meaning.specs.Tokens.{Tokens, Byte, NotByte, MaskedByte, NotMaskedByte, Jump, Alternatives, nothing, _then_}
 use Rattle.atoms.specs.Score.{literalScore}
-use Rattle.meaning.proofs.SoundLaws.{and-left, and-right}
-use Rattle.meaning.proofs.PartLaws.{to-end, length-from}
-use Rattle.picking.specs.Literals.{taken, isByte}
-use Rattle.picking.specs.Numbers.{count, prefixed, ending, literalAt}
-use Rattle.picking.specs.Runs.{isLiteral, joinsPart, partBefore, parts, Slice, literalOnly, longer, slices}
-use Rattle.picking.specs.Candidates.{Candidate, unranked, chosen, tooMany, against, rankOf, best, bytesOf, byteOf, strong, aloneOr, inRun}
-use Rattle.picking.proofs.RefusalLaws.{best-full}
+use Rattle.def_meaning.proofs.SoundLaws.{and-left, and-right}
+use Rattle.def_meaning.proofs.PartLaws.{to-end, length-from}
+use Rattle.def_picking.specs.Literals.{taken, isByte}
+use Rattle.def_picking.specs.Numbers.{count, prefixed, ending, literalAt}
+use Rattle.def_picking.specs.Runs.{isLiteral, joinsPart, partBefore, parts, Slice, literalOnly, longer, slices}
+use Rattle.def_picking.specs.Candidates.{Candidate, unranked, chosen, tooMany, against, rankOf, best, bytesOf, byteOf, strong, aloneOr, inRun}
+use Rattle.def_picking.proofs.RefusalLaws.{best-full}
 use Rattle.entries.specs.Words.{tokensIn}
 use Rattle.entries.proofs.StepLaws.{tokens-end}
 use Rattle.picks.specs.declared.Winner.{Winner}

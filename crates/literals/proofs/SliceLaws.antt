@@ -8,10 +8,10 @@ use lib.Dec.{eqb, leb, ltb}
 use lib.ListN.{length, getD, take, drop}
 use lib.Seq.{drop-drop, take-add}
 use borrow.Author.Tests.{eqb-true, eqb-false, le-leb, lt-leb, ltb-true, ltb-false}
-use Rattle.meaning.specs.Tokens.{Tokens, nothing, _⊕_}
-use Rattle.picking.specs.Literals.{lengthIn}
-use Rattle.picking.specs.Runs.{isLiteral, parts, Slice, slice, literalOnly, longer}
-use Rattle.picking.specs.Candidates.{Candidate, rank, against, rankOf, best}
+use Rattle.def_meaning.specs.Tokens.{Tokens, nothing, _⊕_}
+use Rattle.def_picking.specs.Literals.{lengthIn}
+use Rattle.def_picking.specs.Runs.{isLiteral, parts, Slice, slice, literalOnly, longer}
+use Rattle.def_picking.specs.Candidates.{Candidate, rank, against, rankOf, best}
 use Rattle.entries.specs.Words.{tokensIn}
 use Rattle.entries.proofs.StepLaws.{tokens-end}
 use Rattle.runs.specs.Whole.{Whole, none, byteEnd}

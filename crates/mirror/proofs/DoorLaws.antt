@@ -8,8 +8,8 @@ use lib.ListN.{length, take, drop}
 use lib.Seq.{drop-drop, length-take-le}
 use borrow.Author.Tests.{lt-ltb, le-ltb}
 use borrow.Rule.Slice.PartMut.{putMid}
-use Rattle.meaning.specs.Words.{sound, mirrorWords}
-use Rattle.meaning.proofs.WordSpans.{mirrored-length}
+use Rattle.def_meaning.specs.Words.{sound, mirrorWords}
+use Rattle.def_meaning.proofs.WordSpans.{mirrored-length}
 use Rattle.base.specs.Pools.{zeroed}
 use Rattle.base.proofs.PoolLaws.{zeroed-cleared, zeroed-filled}
 use Rattle.mirror.specs.MirrorDoor.{MirrorSaid, mirrored, refuses, mirrorSays, mirrorLeaves}

@@ -7,11 +7,11 @@ use native.Mathlib.Omega.{arith}
 use lib.ListN.{length, set, take, drop, length-drop, length-set}
 use lib.Seq.{drop-drop, drop-length, take-all, length-take-le}
 use borrow.Rule.Slice.PartMut.{midOf, mid-len}
-use Rattle.meaning.specs.Programs.{Item}
-use Rattle.meaning.specs.Words.{shape, item, opens, Sound, SoundBranches, soundBranches, mirrorWords}
-use Rattle.meaning.proofs.SoundLaws.{Marked, sound-item, sound-opens, sound-branch, false-true}
-use Rattle.meaning.proofs.MirrorSteps.{mirrorBranchesOf, mirror-nil, mirror-none, mirror-item, mirror-opens, mirror-mark, mirror-flat}
-use Rattle.meaning.proofs.PartLaws.{from, to-end, length-from}
+use Rattle.def_meaning.specs.Programs.{Item}
+use Rattle.def_meaning.specs.Words.{shape, item, opens, Sound, SoundBranches, soundBranches, mirrorWords}
+use Rattle.def_meaning.proofs.SoundLaws.{Marked, sound-item, sound-opens, sound-branch, false-true}
+use Rattle.def_meaning.proofs.MirrorSteps.{mirrorBranchesOf, mirror-nil, mirror-none, mirror-item, mirror-opens, mirror-mark, mirror-flat}
+use Rattle.def_meaning.proofs.PartLaws.{from, to-end, length-from}
 use Rattle.nodes.specs.declared.NextWord.the-variants.{Word, NoWord}
 use Rattle.nodes.specs.Nodes.{firstWord}
 use Rattle.nodes.proofs.WordHeads.{word-cons, word-nil, word-pos}

@@ -5,8 +5,8 @@ use mathlib.Core.List.{List}
 use Prim.Native.Nat.{ℕ}
 use lib.Dec.{ltb}
 use lib.ListN.{length}
-use Rattle.meaning.specs.Limits.{nodeLimit, nodePool}
-use Rattle.meaning.specs.Words.{sound, mirrorWords}
+use Rattle.def_meaning.specs.Limits.{nodeLimit, nodePool}
+use Rattle.def_meaning.specs.Words.{sound, mirrorWords}
 use Rattle.base.specs.Refusals.{numberOf}
 use Rattle.base.specs.Pools.{filled, cleared}
 use Rattle.mirror.specs.declared.MirrorAnswer.{MirrorAnswer}

@@ -14,8 +14,8 @@ ghost use mathlib.Core.Path.{_≡_};
 ghost use mathlib.Core.List.{reverse};
 ghost use Prim.Native.Nat.{_≤_};
 ghost use lib.ListN.{length};
-ghost use Rattle.meaning.specs.Limits.{nodeLimit};
-ghost use Rattle.meaning.specs.Words.{Sound, SoundBranches, mirrorBranches, mirrorWords};
+ghost use Rattle.def_meaning.specs.Limits.{nodeLimit};
+ghost use Rattle.def_meaning.specs.Words.{Sound, SoundBranches, mirrorBranches, mirrorWords};
 ghost use Rattle.mirror.specs.MirrorDoor.{mirrorSaid, mirrorSays, mirrorLeaves};
 
 // The count of words that were written, or why none were.

@@ -5,11 +5,11 @@ use Prim.Native.Nat.{ℕ, _<_}
 use native.Mathlib.Omega.{arith}
 use lib.Dec.{eqb, ltb}
 use borrow.Author.Tests.{eqb-true, ltb-true}
-use Rattle.meaning.specs.Programs.{Test, byte, mask, negatedMask, any, dot, one, jump, range, alt}
-use Rattle.meaning.specs.Words.{fieldSize, word, kindOf, firstOf, secondOf, wordSize, Shape, item, opens, mark, wrong, shapeBy, shape, properBy, proper}
-use Rattle.meaning.proofs.SoundLaws.{and-left, and-right, false-true}
-use Rattle.meaning.proofs.FieldLaws.{word-made}
-use Rattle.meaning.proofs.MadeLaws.{made-shape, count-shape}
+use Rattle.def_meaning.specs.Programs.{Test, byte, mask, negatedMask, any, dot, one, jump, range, alt}
+use Rattle.def_meaning.specs.Words.{fieldSize, word, kindOf, firstOf, secondOf, wordSize, Shape, item, opens, mark, wrong, shapeBy, shape, properBy, proper}
+use Rattle.def_meaning.proofs.SoundLaws.{and-left, and-right, false-true}
+use Rattle.def_meaning.proofs.FieldLaws.{word-made}
+use Rattle.def_meaning.proofs.MadeLaws.{made-shape, count-shape}
 use Rattle.nodes.specs.declared.ByteTest.the-variants.{Byte, Mask, NegatedMask, Dot}
 use Rattle.nodes.specs.declared.Node.{Node}
 use Rattle.nodes.specs.declared.Node.the-variants.{One, Jump, JumpRange, Alternation, AltBranch, Bad}

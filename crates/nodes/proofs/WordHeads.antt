@@ -4,7 +4,7 @@ use mathlib.Core.List.{List, [], _∷_}
 use Prim.Native.Nat.{ℕ, _≤_, _<_}
 use native.Mathlib.Omega.{arith}
 use lib.ListN.{length, getD, drop}
-use Rattle.meaning.proofs.PartLaws.{from, length-from}
+use Rattle.def_meaning.proofs.PartLaws.{from, length-from}
 use Rattle.nodes.specs.declared.NextWord.the-variants.{Word, NoWord}
 use Rattle.nodes.specs.Nodes.{firstWord}
 

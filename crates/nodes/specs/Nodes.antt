@@ -2,8 +2,8 @@
 -- To be believed: nothing.
 use mathlib.Core.List.{List, [], _∷_}
 use Prim.Native.Nat.{ℕ, _<_}
-use Rattle.meaning.specs.Programs.{Test, byte, mask, negatedMask, dot, one, jump, range}
-use Rattle.meaning.specs.Words.{fieldSize, word, countSize, countWord, Shape, item, opens, mark, wrong}
+use Rattle.def_meaning.specs.Programs.{Test, byte, mask, negatedMask, dot, one, jump, range}
+use Rattle.def_meaning.specs.Words.{fieldSize, word, countSize, countWord, Shape, item, opens, mark, wrong}
 use Rattle.nodes.specs.declared.ByteTest.{ByteTest}
 use Rattle.nodes.specs.declared.ByteTest.the-variants.{Byte, Mask, NegatedMask, Dot}
 use Rattle.nodes.specs.declared.Node.{Node}

@@ -5,7 +5,7 @@ ghost use mathlib.Core.Path.{_≡_};
 ghost use Prim.Native.Nat.{_%_, _≤_, _<_};
 ghost use lib.ListN.{length};
 ghost use Rattle.base.specs.Pools.{zeroed};
-ghost use Rattle.meaning.specs.Words.{fieldSize, kindOf, firstOf, secondOf, countOf, word, countWord, shape, proper};
+ghost use Rattle.def_meaning.specs.Words.{fieldSize, kindOf, firstOf, secondOf, countOf, word, countWord, shape, proper};
 ghost use Rattle.nodes.specs.Nodes.{shapeOf, testWord, wordOf, firstWord};
 
 // A word of a program; a field of it; and an Alternation's count, which takes both fields.

@@ -7,8 +7,8 @@ use native.Mathlib.Omega.{arith}
 use lib.Dec.{leb}
 use lib.ListN.{take, drop}
 use borrow.Author.Tests.{lt-ltb, le-ltb, leb-true}
-use Rattle.picking.specs.Runs.{Slice}
-use Rattle.picking.specs.Candidates.{Ranked, ranked, skipped, excessive, chosen, widened, against}
+use Rattle.def_picking.specs.Runs.{Slice}
+use Rattle.def_picking.specs.Candidates.{Ranked, ranked, skipped, excessive, chosen, widened, against}
 use Rattle.entries.specs.Words.{tokensIn}
 use Rattle.picks.specs.declared.Winner.{Winner}
 use Rattle.picks.specs.declared.Winner.the-variants.{Nothing, Taken, TooMany}

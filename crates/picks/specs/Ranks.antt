@@ -4,8 +4,8 @@ use mathlib.Core.Path.{_≡_}
 use mathlib.Core.List.{List}
 use Prim.Native.Nat.{ℕ, _-_, _≤_}
 use lib.ListN.{take, drop}
-use Rattle.picking.specs.Runs.{Slice}
-use Rattle.picking.specs.Candidates.{Ranked, ranked, skipped, excessive, Candidate, unranked, chosen, tooMany, against}
+use Rattle.def_picking.specs.Runs.{Slice}
+use Rattle.def_picking.specs.Candidates.{Ranked, ranked, skipped, excessive, Candidate, unranked, chosen, tooMany, against}
 use Rattle.entries.specs.Words.{tokensIn}
 use Rattle.picks.specs.declared.Rank.{Rank}
 use Rattle.picks.specs.declared.Rank.the-variants.{Of, Skipped, TooMany}

@@ -5,8 +5,8 @@ ghost use mathlib.Core.Bool.{true};
 ghost use mathlib.Core.List.{List};
 ghost use Prim.Native.Nat.{ℕ, _-_};
 ghost use lib.ListN.{take, drop};
-ghost use Rattle.picking.specs.Runs.{Slice};
-ghost use Rattle.picking.specs.Candidates.{ranked, widened, against, tooMany};
+ghost use Rattle.def_picking.specs.Runs.{Slice};
+ghost use Rattle.def_picking.specs.Candidates.{ranked, widened, against, tooMany};
 ghost use Rattle.entries.specs.Words.{tokensIn};
 ghost use Rattle.picks.specs.Ranks.{rankSays, winnerSays, Beaten};
 

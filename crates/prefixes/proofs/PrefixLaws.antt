@@ -6,12 +6,12 @@ use native.Mathlib.Omega.{arith}
 use native.Mathlib.Nat.{mul-zero, mul-one, one-mul, mul-comm, mul-assoc, le-mul-of-pos-right, div-one, mod-one}
 use lib.ListN.{length, getD, take, drop, replicate, length-drop, length-replicate}
 use borrow.Author.Tests.{lt-ltb, le-ltb}
-use Rattle.meaning.specs.Limits.{literalLimit}
+use Rattle.def_meaning.specs.Limits.{literalLimit}
 use Rattle.tallies.specs.Tallies.{countTop}
-use Rattle.meaning.specs.Tokens.{Token, Tokens, Lists, Byte, NotByte, MaskedByte, NotMaskedByte, Jump, Alternatives, neither, _or_}
-use Rattle.picking.specs.Literals.{taken}
-use Rattle.picking.specs.Numbers.{countOf, count, countIn, prefixIn, prefixOf, prefixed, endingOf, ending, endingIn}
-use Rattle.picking.proofs.NumberLaws.{pos-right, spelt-numbered}
+use Rattle.def_meaning.specs.Tokens.{Token, Tokens, Lists, Byte, NotByte, MaskedByte, NotMaskedByte, Jump, Alternatives, neither, _or_}
+use Rattle.def_picking.specs.Literals.{taken}
+use Rattle.def_picking.specs.Numbers.{countOf, count, countIn, prefixIn, prefixOf, prefixed, endingOf, ending, endingIn}
+use Rattle.def_picking.proofs.NumberLaws.{pos-right, spelt-numbered}
 use Rattle.classes.specs.Entry.{entryToken}
 use Rattle.entries.specs.Words.{firstEntry, branchIn, ends, inside, listsIn, tokenIn, width, tokensIn}
 use Rattle.entries.proofs.StepLaws.{lists-end, lists-step, tokens-end, tokens-step, width-entry}

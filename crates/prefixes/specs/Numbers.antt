@@ -4,8 +4,8 @@ use mathlib.Core.Path.{_≡_}
 use mathlib.Core.List.{List}
 use Prim.Native.Nat.{ℕ, _*_, _≤_, _<_}
 use lib.ListN.{length}
-use Rattle.meaning.specs.Limits.{literalLimit}
-use Rattle.picking.specs.Numbers.{count, prefixed}
+use Rattle.def_meaning.specs.Limits.{literalLimit}
+use Rattle.def_picking.specs.Numbers.{count, prefixed}
 use Rattle.entries.specs.Words.{tokensIn}
 
 -- p prefixes before n literals are some, and no more than the limit

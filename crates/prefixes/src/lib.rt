@@ -3,9 +3,9 @@
 ghost use mathlib.Core.Path.{_≡_};
 ghost use Prim.Native.Nat.{_*_, _≤_, _<_, min};
 ghost use lib.ListN.{length, drop};
-ghost use Rattle.meaning.specs.Limits.{literalLimit};
+ghost use Rattle.def_meaning.specs.Limits.{literalLimit};
 ghost use Rattle.tallies.specs.Tallies.{countTop};
-ghost use Rattle.picking.specs.Numbers.{countOf, count, countIn, prefixIn, prefixOf, prefixed, endingOf};
+ghost use Rattle.def_picking.specs.Numbers.{countOf, count, countIn, prefixIn, prefixOf, prefixed, endingOf};
 ghost use Rattle.entries.specs.Words.{listsIn, tokenIn, width, tokensIn};
 ghost use Rattle.prefixes.specs.Numbers.{Numerable, Past};
 

@@ -6,16 +6,16 @@ use native.Mathlib.Omega.{arith}
 use native.Mathlib.Numerals.{add-one}
 use lib.ListN.{length, getD, take, drop, length-append, drop-of-length-le}
 use lib.Seq.{drop-cons, take-at}
-use Rattle.meaning.specs.Limits.{literalLimit, combinationLimit}
+use Rattle.def_meaning.specs.Limits.{literalLimit, combinationLimit}
 use Rattle.tallies.specs.Tallies.{countTop}
 use Rattle.spelling.specs.Writing.{Written}
 use borrow.Author.Tests.{lt-ltb, le-ltb, le-leb, lt-leb}
-use Rattle.meaning.specs.Tokens.{Tokens}
+use Rattle.def_meaning.specs.Tokens.{Tokens}
 use Rattle.atoms.specs.Score.{literalScore}
-use Rattle.picking.specs.Literals.{literals, combinations}
-use Rattle.picking.specs.Numbers.{count, literalAt}
-use Rattle.picking.specs.Candidates.{lowest, least, penalty, rankValue, counted, combined, rank, ranked, skipped, excessive}
-use Rattle.picking.proofs.NumberLaws.{count-literals, literal-numbered}
+use Rattle.def_picking.specs.Literals.{literals, combinations}
+use Rattle.def_picking.specs.Numbers.{count, literalAt}
+use Rattle.def_picking.specs.Candidates.{lowest, least, penalty, rankValue, counted, combined, rank, ranked, skipped, excessive}
+use Rattle.def_picking.proofs.NumberLaws.{count-literals, literal-numbered}
 
 -- a least can only fall
 pub lowest-le : (of : List ℕ → ℕ) (ls : List (List ℕ)) (x : ℕ) → lowest of ls x ≤ x

@@ -3,10 +3,10 @@ use mathlib.Core.Path.{_≡_, sym, ap, _∙_}
 use Prim.Native.Nat.{ℕ, _-_, _≤_}
 use native.Mathlib.Omega.{arith}
 use lib.ListN.{drop}
-use Rattle.meaning.specs.Tokens.{Tokens}
+use Rattle.def_meaning.specs.Tokens.{Tokens}
 use Rattle.atoms.specs.Score.{literalScore}
-use Rattle.picking.specs.Literals.{literals}
-use Rattle.picking.specs.Candidates.{lowest, least, ranked}
+use Rattle.def_picking.specs.Literals.{literals}
+use Rattle.def_picking.specs.Candidates.{lowest, least, ranked}
 use Rattle.picks.specs.declared.Winner.{Winner}
 use Rattle.picks.specs.declared.Rank.the-variants.{Of, Skipped}
 use Rattle.picks.specs.Ranks.{Settles, Beaten}

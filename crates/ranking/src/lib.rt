@@ -3,11 +3,11 @@
 ghost use mathlib.Core.Path.{_≡_};
 ghost use Prim.Native.Nat.{_≤_, _<_, _-_, min};
 ghost use lib.ListN.{length};
-ghost use Rattle.meaning.specs.Limits.{literalLimit, tokenPool};
+ghost use Rattle.def_meaning.specs.Limits.{literalLimit, tokenPool};
 ghost use Rattle.atoms.specs.Score.{literalScore};
-ghost use Rattle.picking.specs.Literals.{literals};
-ghost use Rattle.picking.specs.Numbers.{count, literalAt};
-ghost use Rattle.picking.specs.Candidates.{least, penalty, rank, ranked};
+ghost use Rattle.def_picking.specs.Literals.{literals};
+ghost use Rattle.def_picking.specs.Numbers.{count, literalAt};
+ghost use Rattle.def_picking.specs.Candidates.{least, penalty, rank, ranked};
 ghost use Rattle.entries.specs.Words.{tokensIn};
 ghost use Rattle.picks.specs.Ranks.{Settles};
 use base::COMBINATION_LIMIT;

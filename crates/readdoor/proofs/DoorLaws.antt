@@ -11,13 +11,13 @@ use Rattle.base.specs.declared.Refusal.{Refusal}
 use Rattle.base.specs.declared.Refusal.the-variants.{Unexpected, NoRoom}
 use Rattle.base.specs.Pools.{zeroed, cleared}
 use Rattle.base.proofs.PoolLaws.{zeroed-cleared, zeroed-filled}
-use Rattle.meaning.specs.Limits.{textLimit, tokenPool}
-use Rattle.meaning.specs.Tokens.{Tokens}
-use Rattle.meaning.specs.Entries.{entries}
-use Rattle.reading.specs.Blanks.{skip}
-use Rattle.reading.specs.Lists.{list, Verdict, accepted, rejected, closing, reading}
-use Rattle.reading.proofs.PieceLaws.{never}
-use Rattle.reading.proofs.TextLaws.{text-opened, text-closed, text-unclosed, accepted-words}
+use Rattle.def_meaning.specs.Limits.{textLimit, tokenPool}
+use Rattle.def_meaning.specs.Tokens.{Tokens}
+use Rattle.def_meaning.specs.Entries.{entries}
+use Rattle.def_reading.specs.Blanks.{skip}
+use Rattle.def_reading.specs.Lists.{list, Verdict, accepted, rejected, closing, reading}
+use Rattle.def_reading.proofs.PieceLaws.{never}
+use Rattle.def_reading.proofs.TextLaws.{text-opened, text-closed, text-unclosed, accepted-words}
 use Rattle.reader.specs.declared.ListGot.{ListGot}
 use Rattle.reader.specs.declared.ListGot.the-variants as list-got
 use Rattle.reader.specs.Written.{written}

@@ -10,12 +10,12 @@ use Rattle.base.specs.declared.Refusal.{Refusal}
 use Rattle.base.specs.Refusals.{numberOf}
 use Rattle.base.specs.Pools.{filled}
 use Rattle.base.proofs.RefusalLaws.{number-one}
-use Rattle.meaning.specs.Limits.{tokenPool}
-use Rattle.meaning.specs.Tokens.{Tokens}
-use Rattle.meaning.specs.Entries.{entries}
-use Rattle.reading.specs.Lists.{Verdict, accepted, rejected, reading}
-use Rattle.reading.proofs.PieceLaws.{never}
-use Rattle.reading.proofs.TextLaws.{accepted-words}
+use Rattle.def_meaning.specs.Limits.{tokenPool}
+use Rattle.def_meaning.specs.Tokens.{Tokens}
+use Rattle.def_meaning.specs.Entries.{entries}
+use Rattle.def_reading.specs.Lists.{Verdict, accepted, rejected, reading}
+use Rattle.def_reading.proofs.PieceLaws.{never}
+use Rattle.def_reading.proofs.TextLaws.{accepted-words}
 use Rattle.readdoor.specs.declared.ReadAnswer.{ReadAnswer}
 use Rattle.readdoor.specs.declared.ReadAnswer.the-variants.{Read, Refused}
 use Rattle.readdoor.specs.Door.{gives, refuses, readSaid, verdictSays, verdictLeaves, readSays, readLeaves}

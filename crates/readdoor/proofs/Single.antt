@@ -4,7 +4,7 @@ use mathlib.Core.Path.{_≡_, sym, ap₂, _∙_}
 use mathlib.Core.List.{List}
 use Rattle.base.specs.Refusals.{numberOf}
 use Rattle.base.proofs.RefusalLaws.{number-one}
-use Rattle.reading.proofs.PieceLaws.{never}
+use Rattle.def_reading.proofs.PieceLaws.{never}
 use Rattle.readdoor.specs.declared.ReadAnswer.{ReadAnswer}
 use Rattle.readdoor.specs.declared.ReadAnswer.the-variants.{Read, Refused}
 use Rattle.readdoor.specs.Door.{readSaid, readSays, readLeaves}

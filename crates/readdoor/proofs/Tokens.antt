@@ -5,11 +5,11 @@ use mathlib.Core.List.{List}
 use lib.ListN.{length, take}
 use lib.Seq.{take-at}
 use Rattle.base.specs.Pools.{filled}
-use Rattle.meaning.specs.Limits.{tokenPool}
-use Rattle.meaning.specs.Tokens.{Tokens}
-use Rattle.meaning.specs.Entries.{entries}
-use Rattle.reading.specs.Lists.{accepted, reading}
-use Rattle.reading.proofs.Decoded.{decode, decode-entries}
+use Rattle.def_meaning.specs.Limits.{tokenPool}
+use Rattle.def_meaning.specs.Tokens.{Tokens}
+use Rattle.def_meaning.specs.Entries.{entries}
+use Rattle.def_reading.specs.Lists.{accepted, reading}
+use Rattle.def_reading.proofs.Decoded.{decode, decode-entries}
 use Rattle.readdoor.specs.Door.{verdictLeaves, readLeaves}
 use Rattle.readdoor.proofs.DoorLaws.{says-at}
 

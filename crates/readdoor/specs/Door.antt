@@ -8,9 +8,9 @@ use lib.Dec.{leb}
 use lib.ListN.{length}
 use Rattle.base.specs.Refusals.{numberOf}
 use Rattle.base.specs.Pools.{filled, cleared}
-use Rattle.meaning.specs.Limits.{tokenPool}
-use Rattle.meaning.specs.Entries.{entries}
-use Rattle.reading.specs.Lists.{Verdict, accepted, rejected, reading}
+use Rattle.def_meaning.specs.Limits.{tokenPool}
+use Rattle.def_meaning.specs.Entries.{entries}
+use Rattle.def_reading.specs.Lists.{Verdict, accepted, rejected, reading}
 use Rattle.reader.specs.Written.{written}
 use Rattle.readdoor.specs.declared.ReadAnswer.{ReadAnswer}
 use Rattle.readdoor.specs.declared.ReadAnswer.the-variants.{Read, Refused}

@@ -6,8 +6,8 @@ use base::TOKEN_POOL;
 use reader::ListGot;
 ghost use mathlib.Core.Path.{_≡_};
 ghost use lib.ListN.{length};
-ghost use Rattle.meaning.specs.Limits.{tokenPool};
-ghost use Rattle.reading.specs.Lists.{reading};
+ghost use Rattle.def_meaning.specs.Limits.{tokenPool};
+ghost use Rattle.def_reading.specs.Lists.{reading};
 ghost use Rattle.readdoor.specs.Door.{readSaid, readSays, readLeaves, TextSays};
 
 // The offset reached and the words used, or a refusal and its place.

@@ -8,14 +8,14 @@ use native.Mathlib.Omega.{arith}
 use lib.ListN.{length, getD, length-append}
 use Rattle.base.specs.declared.Refusal.{Refusal}
 use Rattle.base.specs.declared.Refusal.the-variants.{Unexpected}
-use Rattle.meaning.specs.Limits.{tokenLimit, tokenPool}
-use Rattle.meaning.specs.Tokens.{Tokens, Lists, Alternatives, neither, _or_}
-use Rattle.meaning.specs.Entries.{entry, entriesIn, entriesOf, entries, listEntries, tokenCount, listCount}
-use Rattle.meaning.proofs.TokenLaws.{count-few}
-use Rattle.reading.specs.Blanks.{skip}
-use Rattle.reading.specs.Lists.{read, stopped, isJump, asToken, beside, list, lists}
-use Rattle.reading.proofs.PieceLaws.{here-at, skip-from, skip-in}
-use Rattle.reading.proofs.ListSteps.{list-gone, lists-closed, lists-barred, lists-else, lists-missing, lists-stopped}
+use Rattle.def_meaning.specs.Limits.{tokenLimit, tokenPool}
+use Rattle.def_meaning.specs.Tokens.{Tokens, Lists, Alternatives, neither, _or_}
+use Rattle.def_meaning.specs.Entries.{entry, entriesIn, entriesOf, entries, listEntries, tokenCount, listCount}
+use Rattle.def_meaning.proofs.TokenLaws.{count-few}
+use Rattle.def_reading.specs.Blanks.{skip}
+use Rattle.def_reading.specs.Lists.{read, stopped, isJump, asToken, beside, list, lists}
+use Rattle.def_reading.proofs.PieceLaws.{here-at, skip-from, skip-in}
+use Rattle.def_reading.proofs.ListSteps.{list-gone, lists-closed, lists-barred, lists-else, lists-missing, lists-stopped}
 use Rattle.reader.specs.declared.TokenGot.the-variants as token-got
 use Rattle.reader.specs.declared.ListGot.{ListGot}
 use Rattle.reader.specs.declared.ListGot.the-variants as list-got

@@ -7,9 +7,9 @@ use native.Mathlib.Omega.{arith}
 use borrow.Author.Tests.{le-leb}
 use lib.Dec.{leb, eqb·suc-zero}
 use Rattle.base.specs.declared.Refusal.{Refusal}
-use Rattle.meaning.specs.Tokens.{Token, Tokens, Lists, nothing, _then_, neither, _or_}
-use Rattle.meaning.specs.Entries.{entry, entriesIn, entriesOf, entries, listEntries, tokenCount, listCount}
-use Rattle.reading.specs.Lists.{Parsed, read, stopped, before, beside, isJump, jumpFirst, jumpLastIn, jumpLast, atBound}
+use Rattle.def_meaning.specs.Tokens.{Token, Tokens, Lists, nothing, _then_, neither, _or_}
+use Rattle.def_meaning.specs.Entries.{entry, entriesIn, entriesOf, entries, listEntries, tokenCount, listCount}
+use Rattle.def_reading.specs.Lists.{Parsed, read, stopped, before, beside, isJump, jumpFirst, jumpLastIn, jumpLast, atBound}
 use Rattle.reader.specs.Says.{firstOf}
 
 infixl 55 _and_

@@ -8,11 +8,11 @@ use lib.Dec.{eqb·suc-zero}
 use lib.ListN.{length, length-append}
 use Rattle.base.specs.declared.Refusal.{Refusal}
 use Rattle.base.specs.declared.Refusal.the-variants.{JumpAtBound}
-use Rattle.meaning.specs.Limits.{tokenLimit, levelLimit}
-use Rattle.meaning.specs.Tokens.{Tokens, nothing, _then_}
-use Rattle.meaning.specs.Entries.{entriesOf, entries, tokenCount}
-use Rattle.reading.specs.Lists.{read, stopped, jumpFirst, jumpLast, listOf, token, more, list}
-use Rattle.reading.proofs.ListSteps.{token-gone, more-read, more-none, more-stopped, list-of}
+use Rattle.def_meaning.specs.Limits.{tokenLimit, levelLimit}
+use Rattle.def_meaning.specs.Tokens.{Tokens, nothing, _then_}
+use Rattle.def_meaning.specs.Entries.{entriesOf, entries, tokenCount}
+use Rattle.def_reading.specs.Lists.{read, stopped, jumpFirst, jumpLast, listOf, token, more, list}
+use Rattle.def_reading.proofs.ListSteps.{token-gone, more-read, more-none, more-stopped, list-of}
 use Rattle.reader.specs.declared.TokenGot.{TokenGot}
 use Rattle.reader.specs.declared.TokenGot.the-variants as token-got
 use Rattle.reader.specs.declared.ListGot.the-variants as list-got

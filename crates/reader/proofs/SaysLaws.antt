@@ -9,15 +9,15 @@ use lib.Dec.{ltb}
 use lib.ListN.{length, getD}
 use Rattle.base.specs.declared.Refusal.{Refusal}
 use Rattle.base.specs.declared.Refusal.the-variants.{TooManyTokens}
-use Rattle.meaning.specs.Limits.{tokenLimit}
-use Rattle.meaning.specs.Tokens.{Token, Tokens, Lists}
-use Rattle.meaning.specs.Entries.{entriesOf, entries, tokenCount}
-use Rattle.reading.specs.Blanks.{skip}
-use Rattle.reading.specs.Pieces.{Seen, found, absent, refused, leafAt}
-use Rattle.reading.specs.Lists.{Parsed, read, missing, stopped, isJump, tokenOr, asToken, bracketed, token, lists}
-use Rattle.reading.proofs.PieceLaws.{never}
-use Rattle.reading.proofs.PieceBounds.{OneEntry, leaf-entry}
-use Rattle.reading.proofs.ListSteps.{token-step}
+use Rattle.def_meaning.specs.Limits.{tokenLimit}
+use Rattle.def_meaning.specs.Tokens.{Token, Tokens, Lists}
+use Rattle.def_meaning.specs.Entries.{entriesOf, entries, tokenCount}
+use Rattle.def_reading.specs.Blanks.{skip}
+use Rattle.def_reading.specs.Pieces.{Seen, found, absent, refused, leafAt}
+use Rattle.def_reading.specs.Lists.{Parsed, read, missing, stopped, isJump, tokenOr, asToken, bracketed, token, lists}
+use Rattle.def_reading.proofs.PieceLaws.{never}
+use Rattle.def_reading.proofs.PieceBounds.{OneEntry, leaf-entry}
+use Rattle.def_reading.proofs.ListSteps.{token-step}
 use Rattle.reader.specs.declared.TokenGot.{TokenGot}
 use Rattle.reader.specs.declared.TokenGot.the-variants as token-got
 use Rattle.reader.specs.declared.ListGot.{ListGot}

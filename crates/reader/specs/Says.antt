@@ -7,11 +7,11 @@ use Prim.Native.Nat.{ℕ, suc, _+_, _*_, _≤_}
 use lib.Dec.{eqb}
 use lib.ListN.{length}
 use Rattle.base.specs.declared.Refusal.the-variants.{JumpAtBound}
-use Rattle.meaning.specs.Limits.{textLimit, tokenLimit, levelLimit, tokenPool}
-use Rattle.meaning.specs.Tokens.{Token, Tokens}
-use Rattle.meaning.specs.Entries.{entriesOf, entries, tokenCount}
-use Rattle.reading.specs.Blanks.{skip}
-use Rattle.reading.specs.Lists.{Parsed, read, missing, stopped, isJump, bracketed, lists}
+use Rattle.def_meaning.specs.Limits.{textLimit, tokenLimit, levelLimit, tokenPool}
+use Rattle.def_meaning.specs.Tokens.{Token, Tokens}
+use Rattle.def_meaning.specs.Entries.{entriesOf, entries, tokenCount}
+use Rattle.def_reading.specs.Blanks.{skip}
+use Rattle.def_reading.specs.Lists.{Parsed, read, missing, stopped, isJump, bracketed, lists}
 use Rattle.reader.specs.declared.TokenGot.{TokenGot}
 use Rattle.reader.specs.declared.TokenGot.the-variants as token-got
 use Rattle.reader.specs.declared.ListGot.{ListGot}

@@ -10,14 +10,14 @@ use native.Mathlib.Nat.{mod-eq-of-lt}
 use lib.ListN.{length, take, drop, length-append}
 use lib.Seq.{take-at, drop-at, drop-drop}
 use borrow.Author.Tests.{ne-eqb}
-use Rattle.meaning.specs.Tokens.{Mask, left, right, all, Token, Tokens, Lists, Byte, NotByte, MaskedByte, NotMaskedByte, Jump, Alternatives, nothing, _then_, neither, _or_}
-use Rattle.meaning.specs.Values.{Spelled, SpelledMore}
-use Rattle.meaning.specs.Entries.{entry, maskNumber, tokenCount, listCount, entries, listEntries}
-use Rattle.meaning.proofs.SoundLaws.{and-left, and-right}
-use Rattle.meaning.proofs.TokenLaws.{fours, fours-in}
-use Rattle.meaning.proofs.ValueLaws.{any-spelled}
-use Rattle.picking.specs.Literals.{isPlain, plainList, plainLists}
-use Rattle.picking.specs.Runs.{closes, isAlternatives, plainInside, plainAlternatives, segmented, segments}
+use Rattle.def_meaning.specs.Tokens.{Mask, left, right, all, Token, Tokens, Lists, Byte, NotByte, MaskedByte, NotMaskedByte, Jump, Alternatives, nothing, _then_, neither, _or_}
+use Rattle.def_meaning.specs.Values.{Spelled, SpelledMore}
+use Rattle.def_meaning.specs.Entries.{entry, maskNumber, tokenCount, listCount, entries, listEntries}
+use Rattle.def_meaning.proofs.SoundLaws.{and-left, and-right}
+use Rattle.def_meaning.proofs.TokenLaws.{fours, fours-in}
+use Rattle.def_meaning.proofs.ValueLaws.{any-spelled}
+use Rattle.def_picking.specs.Literals.{isPlain, plainList, plainLists}
+use Rattle.def_picking.specs.Runs.{closes, isAlternatives, plainInside, plainAlternatives, segmented, segments}
 use Rattle.classes.specs.Entry.{maskIn, entryToken}
 use Rattle.entries.specs.Words.{branchIn, ends, inside, listsIn, width, tokensIn}
 use Rattle.entries.proofs.StepLaws.{branch-end, branch-step, lists-end, lists-step, tokens-end, tokens-step, width-inside}

@@ -10,9 +10,9 @@ use lib.Dec.{eqb, ltb}
 use lib.ListN.{length, getD, take, drop, length-drop}
 use lib.Seq.{drop-drop, take-add}
 use borrow.Author.Tests.{eqb-true, eqb-false, eq-eqb, ne-eqb, ltb-true, ltb-false}
-use Rattle.meaning.specs.Tokens.{Token, Tokens, NotByte, MaskedByte, NotMaskedByte, Jump, nothing, _then_, _⊕_}
-use Rattle.picking.specs.Literals.{isByte}
-use Rattle.picking.specs.Runs.{isLiteral, joinsPart, partBefore, parts}
+use Rattle.def_meaning.specs.Tokens.{Token, Tokens, NotByte, MaskedByte, NotMaskedByte, Jump, nothing, _then_, _⊕_}
+use Rattle.def_picking.specs.Literals.{isByte}
+use Rattle.def_picking.specs.Runs.{isLiteral, joinsPart, partBefore, parts}
 use Rattle.classes.specs.Entry.{entryToken}
 use Rattle.entries.specs.Words.{tokenIn, width, tokensIn}
 use Rattle.entries.proofs.StepLaws.{tokens-end, tokens-step, width-le, width-long, walk-end, walk-step}

@@ -6,9 +6,9 @@ use Prim.Native.Nat.{ℕ, _+_, _-_, _≤_, _<_}
 use native.Mathlib.Omega.{arith}
 use lib.ListN.{length, getD, take, drop, length-drop}
 use lib.Seq.{drop-drop, take-add}
-use Rattle.meaning.specs.Tokens.{Tokens, _then_, _⊕_}
-use Rattle.picking.specs.Literals.{isPlain}
-use Rattle.picking.specs.Runs.{closes, isAlternatives, segmented, atFront, segments}
+use Rattle.def_meaning.specs.Tokens.{Tokens, _then_, _⊕_}
+use Rattle.def_picking.specs.Literals.{isPlain}
+use Rattle.def_picking.specs.Runs.{closes, isAlternatives, segmented, atFront, segments}
 use Rattle.classes.specs.Entry.{entryToken}
 use Rattle.entries.specs.Words.{tokenIn, width, tokensIn}
 use Rattle.entries.proofs.StepLaws.{tokens-end, tokens-step, width-le, width-long, walk-end, walk-step}
@@ -94,11 +94,11 @@ entry-open = entry-cases (λ t. closes t ≡ not (isPlain t)) (λ v. refl) (λ v
     or-false true = refl
     or-false false = refl
 
-    go-half : (v : ℕ) (m : Rattle.meaning.specs.Tokens.Mask) → closes (Rattle.meaning.specs.Tokens.MaskedByte v m) ≡ not (isPlain (Rattle.meaning.specs.Tokens.MaskedByte v m))
-    go-half v m = or-false (isPlain (Rattle.meaning.specs.Tokens.MaskedByte v m))
+    go-half : (v : ℕ) (m : Rattle.def_meaning.specs.Tokens.Mask) → closes (Rattle.def_meaning.specs.Tokens.MaskedByte v m) ≡ not (isPlain (Rattle.def_meaning.specs.Tokens.MaskedByte v m))
+    go-half v m = or-false (isPlain (Rattle.def_meaning.specs.Tokens.MaskedByte v m))
 
-    go-other : (v : ℕ) (m : Rattle.meaning.specs.Tokens.Mask) → closes (Rattle.meaning.specs.Tokens.NotMaskedByte v m) ≡ not (isPlain (Rattle.meaning.specs.Tokens.NotMaskedByte v m))
-    go-other v m = or-false (isPlain (Rattle.meaning.specs.Tokens.NotMaskedByte v m))
+    go-other : (v : ℕ) (m : Rattle.def_meaning.specs.Tokens.Mask) → closes (Rattle.def_meaning.specs.Tokens.NotMaskedByte v m) ≡ not (isPlain (Rattle.def_meaning.specs.Tokens.NotMaskedByte v m))
+    go-other v m = or-false (isPlain (Rattle.def_meaning.specs.Tokens.NotMaskedByte v m))
 
 pub inside-open : (ws : List ℕ) → getD ws 0 0 ≡ 5 → false ≡ closes (tokenIn ws)
 unfolding isPlain isAlternatives

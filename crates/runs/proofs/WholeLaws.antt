@@ -8,7 +8,7 @@ use lib.Dec.{eqb}
 use lib.ListN.{length, getD, take, drop, length-append, length-drop, take-append-drop, List·getD-append, drop-of-length-le}
 use lib.Seq.{take-append-le, drop-append-le, length-take-le, getD-take}
 use borrow.Author.Tests.{eqb-true, eqb-false}
-use Rattle.meaning.specs.Tokens.{Token, Tokens, Alternatives, nothing, _then_, _⊕_}
+use Rattle.def_meaning.specs.Tokens.{Token, Tokens, Alternatives, nothing, _then_, _⊕_}
 use Rattle.classes.specs.Entry.{entryToken}
 use Rattle.entries.specs.Words.{firstEntry, ends, inside, listsIn, tokenIn, width, tokensIn}
 use Rattle.entries.proofs.StepLaws.{tokens-end, tokens-step, width-le, width-long, width-inside, ends-le}

@@ -6,9 +6,9 @@ use mathlib.Core.List.{List, []}
 use Prim.Native.Nat.{ℕ, _+_, _-_, _*_, _≤_}
 use lib.Dec.{eqb}
 use lib.ListN.{length, getD, take, drop}
-use Rattle.meaning.specs.Limits.{tokenPool}
-use Rattle.meaning.specs.Tokens.{Tokens, nothing, _then_}
-use Rattle.picking.specs.Runs.{closes, segments}
+use Rattle.def_meaning.specs.Limits.{tokenPool}
+use Rattle.def_meaning.specs.Tokens.{Tokens, nothing, _then_}
+use Rattle.def_picking.specs.Runs.{closes, segments}
 use Rattle.entries.specs.Words.{walk, width, tokenIn}
 
 -- the token at the front has all its words

@@ -5,7 +5,7 @@ ghost use mathlib.Core.Bool.{cond};
 ghost use lib.Dec.{eqb};
 ghost use Prim.Native.Nat.{_≤_};
 ghost use lib.ListN.{length};
-ghost use Rattle.picking.specs.Runs.{closes};
+ghost use Rattle.def_picking.specs.Runs.{closes};
 ghost use Rattle.entries.specs.Words.{tokenIn};
 ghost use Rattle.runs.specs.Whole.{byteEnd, partEnd, runEnd};
 

@@ -3,7 +3,7 @@ use mathlib.Core.Path.{_≡_, refl, sym, _∙_}
 use mathlib.Core.Bool.{Bool, true, not, _&&_}
 use mathlib.Core.List.{List, [], _∷_}
 use Prim.Native.Nat.{ℕ}
-use Rattle.meaning.specs.Words.{word, sound, soundWords, soundBranches, flatWords, isFlat, proper, properBy, shape, shapeBy}
+use Rattle.def_meaning.specs.Words.{word, sound, soundWords, soundBranches, flatWords, isFlat, proper, properBy, shape, shapeBy}
 
 -- the promise leaves one outcome; the words lent are only read
 pub one-outcome : (ws : List ℕ) (r s : Bool) → r ≡ sound ws → s ≡ sound ws → r ≡ s

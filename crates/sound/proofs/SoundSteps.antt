@@ -9,11 +9,11 @@ use native.Mathlib.Nat.{le-refl}
 use lib.Dec.{leb}
 use lib.ListN.{length, take, drop}
 use borrow.Author.Tests.{le-leb, lt-leb}
-use Rattle.meaning.specs.Programs.{Item}
-use Rattle.meaning.specs.Words.{Shape, item, opens, mark, wrong, shape, proper, isFlat, flatWords, soundBranches, soundWords}
-use Rattle.meaning.proofs.WordLaws.{take-le, drop-le}
-use Rattle.meaning.proofs.SoundLaws.{sb-fuel, sw-fuel}
-use Rattle.meaning.proofs.PartLaws.{from, to-end}
+use Rattle.def_meaning.specs.Programs.{Item}
+use Rattle.def_meaning.specs.Words.{Shape, item, opens, mark, wrong, shape, proper, isFlat, flatWords, soundBranches, soundWords}
+use Rattle.def_meaning.proofs.WordLaws.{take-le, drop-le}
+use Rattle.def_meaning.proofs.SoundLaws.{sb-fuel, sw-fuel}
+use Rattle.def_meaning.proofs.PartLaws.{from, to-end}
 use Rattle.nodes.specs.declared.NextWord.the-variants.{Word, NoWord}
 use Rattle.nodes.specs.Nodes.{firstWord}
 use Rattle.nodes.proofs.WordHeads.{word-cons, word-nil}

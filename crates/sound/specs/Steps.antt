@@ -2,7 +2,7 @@
 -- To be believed: nothing.
 use mathlib.Core.Bool.{Bool, false, cond, _&&_}
 use Prim.Native.Nat.{ℕ}
-use Rattle.meaning.specs.Words.{Shape, item, opens, mark, wrong, shape, proper, isFlat}
+use Rattle.def_meaning.specs.Words.{Shape, item, opens, mark, wrong, shape, proper, isFlat}
 use Rattle.sound.specs.declared.Inside.{Inside}
 use Rattle.sound.specs.declared.Inside.the-variants.{Words, Unfit}
 

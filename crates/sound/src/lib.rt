@@ -9,7 +9,7 @@ use nodes::node_of;
 use nodes::proper_word;
 ghost use mathlib.Core.Path.{_≡_};
 ghost use lib.ListN.{length};
-ghost use Rattle.meaning.specs.Words.{flatWords, soundBranches, soundWords, sound};
+ghost use Rattle.def_meaning.specs.Words.{flatWords, soundBranches, soundWords, sound};
 ghost use Rattle.nodes.specs.Nodes.{shapeOf};
 ghost use Rattle.sound.specs.Steps.{inItem, inBranch, itemInside, branchInside, flatShape, flatWord};
 

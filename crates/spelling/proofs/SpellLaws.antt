@@ -6,12 +6,12 @@ use native.Mathlib.Omega.{arith}
 use native.Mathlib.Nat.{one-mul, mul-comm, div-one, div-div-eq-div-mul, mul-div-cancel-left, mod-lt, mod-one}
 use lib.ListN.{length, getD, take, drop}
 use borrow.Author.Tests.{lt-ltb, le-ltb}
-use Rattle.meaning.specs.Limits.{literalLimit}
+use Rattle.def_meaning.specs.Limits.{literalLimit}
 use Rattle.tallies.specs.Tallies.{countTop}
-use Rattle.meaning.specs.Tokens.{Token, Tokens}
-use Rattle.picking.specs.Literals.{taken}
-use Rattle.picking.specs.Numbers.{countOf, count, countIn, prefixOf, prefixed, endingOf, ending, endingIn, literalAt}
-use Rattle.picking.proofs.NumberLaws.{pos-right}
+use Rattle.def_meaning.specs.Tokens.{Token, Tokens}
+use Rattle.def_picking.specs.Literals.{taken}
+use Rattle.def_picking.specs.Numbers.{countOf, count, countIn, prefixOf, prefixed, endingOf, ending, endingIn, literalAt}
+use Rattle.def_picking.proofs.NumberLaws.{pos-right}
 use Rattle.classes.specs.Entry.{entryToken}
 use Rattle.entries.specs.Words.{firstEntry, branchIn, ends, inside, listsIn, tokenIn, width, tokensIn}
 use Rattle.entries.proofs.StepLaws.{branch-end, branch-step, lists-end, lists-step, tokens-end, tokens-step, by-entries}

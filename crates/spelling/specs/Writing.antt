@@ -4,9 +4,9 @@ use mathlib.Core.Path.{_≡_}
 use mathlib.Core.List.{List, _++_}
 use Prim.Native.Nat.{ℕ, _≤_, _<_}
 use lib.ListN.{length, drop}
-use Rattle.meaning.specs.Limits.{literalLimit}
-use Rattle.meaning.specs.Tokens.{Token}
-use Rattle.picking.specs.Numbers.{countOf, endingOf}
+use Rattle.def_meaning.specs.Limits.{literalLimit}
+use Rattle.def_meaning.specs.Tokens.{Token}
+use Rattle.def_picking.specs.Numbers.{countOf, endingOf}
 
 -- so many bytes are written at the front, and they are the literal; the others stay
 pub record Written (r : ℕ) (literal was is : List ℕ) : Type 0 where

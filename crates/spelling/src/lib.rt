@@ -2,8 +2,8 @@
 // The writing of literal number k of token entries.
 ghost use Prim.Native.Nat.{_≤_, _<_};
 ghost use lib.ListN.{length};
-ghost use Rattle.meaning.specs.Limits.{literalLimit};
-ghost use Rattle.picking.specs.Numbers.{count, countIn, endingOf, endingIn, literalAt};
+ghost use Rattle.def_meaning.specs.Limits.{literalLimit};
+ghost use Rattle.def_picking.specs.Numbers.{count, countIn, endingOf, endingIn, literalAt};
 ghost use Rattle.entries.specs.Words.{branchIn, listsIn, tokenIn, tokensIn};
 ghost use Rattle.spelling.specs.Writing.{Written, Writable};
 

@@ -6,16 +6,16 @@ use mathlib.Core.Option.{Option, none}
 use mathlib.Core.List.{List, [], _∷_}
 use Prim.Native.Nat.{ℕ, _-_}
 use lib.ListN.{length, take, drop}
-use Rattle.meaning.specs.Programs.{Prog, Branches, alt, _▹_, _⧺_}
-use Rattle.meaning.specs.Choices.{Order}
-use Rattle.meaning.specs.Rows.{Row, orElse, andThen, rest, found, rows, run}
-use Rattle.meaning.specs.Words.{kindOf, firstOf, mark, shape, prog, branches, branchesOf, SoundBranches, flatWords}
-use Rattle.meaning.proofs.KindLaws.{Seen, seen, kind-mark}
-use Rattle.meaning.proofs.ProgLaws.{rows-join}
-use Rattle.meaning.proofs.RunLaws.{run-alt, run-alt-stop, found-single, or-none}
-use Rattle.meaning.proofs.WordLaws.{branches-mark}
-use Rattle.meaning.proofs.SoundLaws.{Marked, sound-branch, branch-shape, flat-row}
-use Rattle.meaning.proofs.PartLaws.{from, to-end}
+use Rattle.def_meaning.specs.Programs.{Prog, Branches, alt, _▹_, _⧺_}
+use Rattle.def_meaning.specs.Choices.{Order}
+use Rattle.def_meaning.specs.Rows.{Row, orElse, andThen, rest, found, rows, run}
+use Rattle.def_meaning.specs.Words.{kindOf, firstOf, mark, shape, prog, branches, branchesOf, SoundBranches, flatWords}
+use Rattle.def_meaning.proofs.KindLaws.{Seen, seen, kind-mark}
+use Rattle.def_meaning.proofs.ProgLaws.{rows-join}
+use Rattle.def_meaning.proofs.RunLaws.{run-alt, run-alt-stop, found-single, or-none}
+use Rattle.def_meaning.proofs.WordLaws.{branches-mark}
+use Rattle.def_meaning.proofs.SoundLaws.{Marked, sound-branch, branch-shape, flat-row}
+use Rattle.def_meaning.proofs.PartLaws.{from, to-end}
 use Rattle.steps.specs.declared.Found.the-variants.{Left, Nothing}
 use Rattle.nodes.specs.declared.NextWord.the-variants.{Word, NoWord}
 use Rattle.nodes.specs.Nodes.{firstWord}

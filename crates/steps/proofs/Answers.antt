@@ -6,10 +6,10 @@ use Prim.Native.Nat.{ℕ, _-_, _≤_}
 use native.Mathlib.Omega.{arith}
 use lib.ListN.{length, drop, length-append}
 use lib.Seq.{drop-append-seam}
-use Rattle.meaning.specs.Programs.{Prog}
-use Rattle.meaning.specs.Choices.{Order}
-use Rattle.meaning.specs.Rows.{Row, orElse, rest, found, rows, run}
-use Rattle.meaning.proofs.RowLaws.{rest-split}
+use Rattle.def_meaning.specs.Programs.{Prog}
+use Rattle.def_meaning.specs.Choices.{Order}
+use Rattle.def_meaning.specs.Rows.{Row, orElse, rest, found, rows, run}
+use Rattle.def_meaning.proofs.RowLaws.{rest-split}
 use Rattle.steps.specs.declared.Found.the-variants.{Left, Nothing}
 use Rattle.steps.specs.Steps.{answer}
 

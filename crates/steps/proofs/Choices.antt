@@ -4,14 +4,14 @@ use mathlib.Core.Logic.{_⊎_, ⊎-elim}
 use mathlib.Core.List.{List, _∷_}
 use Prim.Native.Nat.{ℕ}
 use lib.ListN.{take, drop}
-use Rattle.meaning.specs.Programs.{Prog, range, alt, _▹_}
-use Rattle.meaning.specs.Choices.{Order}
-use Rattle.meaning.specs.Rows.{run}
-use Rattle.meaning.specs.Words.{kindOf, firstOf, secondOf, countOf, prog, branchesOf, Sound}
-use Rattle.meaning.proofs.KindLaws.{kind-opens, kind-range}
-use Rattle.meaning.proofs.WordLaws.{prog-item, prog-opens}
-use Rattle.meaning.proofs.SoundLaws.{Opened, sound-item, sound-opens}
-use Rattle.meaning.proofs.PartLaws.{from, to-end}
+use Rattle.def_meaning.specs.Programs.{Prog, range, alt, _▹_}
+use Rattle.def_meaning.specs.Choices.{Order}
+use Rattle.def_meaning.specs.Rows.{run}
+use Rattle.def_meaning.specs.Words.{kindOf, firstOf, secondOf, countOf, prog, branchesOf, Sound}
+use Rattle.def_meaning.proofs.KindLaws.{kind-opens, kind-range}
+use Rattle.def_meaning.proofs.WordLaws.{prog-item, prog-opens}
+use Rattle.def_meaning.proofs.SoundLaws.{Opened, sound-item, sound-opens}
+use Rattle.def_meaning.proofs.PartLaws.{from, to-end}
 use Rattle.nodes.specs.declared.NextWord.the-variants.{Word}
 use Rattle.nodes.specs.Nodes.{firstWord}
 use Rattle.nodes.proofs.WordHeads.{word-cons}

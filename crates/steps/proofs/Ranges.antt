@@ -9,11 +9,11 @@ use native.Mathlib.Omega.{arith}
 use lib.Dec.{leb}
 use borrow.Author.Tests.{leb-true, leb-false}
 use lib.ListN.{length, drop}
-use Rattle.meaning.specs.Programs.{Prog, Branches, range, alt, _▹_}
-use Rattle.meaning.specs.Choices.{Order, short, long}
-use Rattle.meaning.specs.Rows.{Row, orElse, found, _⊗_, rising, lengths, rows, rowsIn, run}
-use Rattle.meaning.proofs.RowLaws.{one-times}
-use Rattle.meaning.proofs.RunLaws.{run-jump, run-jump-none, run-range, run-range-empty, below, below-step}
+use Rattle.def_meaning.specs.Programs.{Prog, Branches, range, alt, _▹_}
+use Rattle.def_meaning.specs.Choices.{Order, short, long}
+use Rattle.def_meaning.specs.Rows.{Row, orElse, found, _⊗_, rising, lengths, rows, rowsIn, run}
+use Rattle.def_meaning.proofs.RowLaws.{one-times}
+use Rattle.def_meaning.proofs.RunLaws.{run-jump, run-jump-none, run-range, run-range-empty, below, below-step}
 use Rattle.steps.specs.declared.Found.the-variants.{Left, Nothing}
 use Rattle.steps.specs.Steps.{answer}
 use Rattle.steps.proofs.Answers.{answer-none, answer-some}

@@ -5,8 +5,8 @@ use Prim.Native.Nat.{ℕ}
 use lib.Dec.{eqb}
 use borrow.Author.Tests.{ne-eqb}
 use native.Mathlib.Omega.{arith}
-use Rattle.meaning.specs.Programs.{Test, pass, one, jump, range, alt}
-use Rattle.meaning.specs.Words.{countBy, Shape, item, opens, mark, wrong, shapeBy, shape}
+use Rattle.def_meaning.specs.Programs.{Test, pass, one, jump, range, alt}
+use Rattle.def_meaning.specs.Words.{countBy, Shape, item, opens, mark, wrong, shapeBy, shape}
 use Rattle.steps.specs.Steps.{isTest, passShape}
 
 -- a word of none of the four kinds is no test

@@ -7,15 +7,15 @@ use mathlib.Core.Option.{Option, none, some}
 use mathlib.Core.List.{List, _∷_}
 use Prim.Native.Nat.{ℕ, _-_, _≤_, _<_}
 use lib.ListN.{length, drop}
-use Rattle.meaning.specs.Programs.{Test, pass, Item, Prog, one, jump, range, alt, _▹_}
-use Rattle.meaning.specs.Choices.{Order}
-use Rattle.meaning.specs.Rows.{run}
-use Rattle.meaning.specs.Words.{kindOf, Shape, item, opens, mark, wrong, shape, prog, Sound, isFlat, flatWords}
-use Rattle.meaning.proofs.KindLaws.{Seen, seen}
-use Rattle.meaning.proofs.RunLaws.{run-end, run-one, run-one-none, run-jump, run-jump-none}
-use Rattle.meaning.proofs.WordLaws.{prog-nil, prog-item}
-use Rattle.meaning.proofs.SoundLaws.{sound-item, sound-mark, sound-wrong, flat-item, false-true}
-use Rattle.meaning.proofs.PartLaws.{from, to-end}
+use Rattle.def_meaning.specs.Programs.{Test, pass, Item, Prog, one, jump, range, alt, _▹_}
+use Rattle.def_meaning.specs.Choices.{Order}
+use Rattle.def_meaning.specs.Rows.{run}
+use Rattle.def_meaning.specs.Words.{kindOf, Shape, item, opens, mark, wrong, shape, prog, Sound, isFlat, flatWords}
+use Rattle.def_meaning.proofs.KindLaws.{Seen, seen}
+use Rattle.def_meaning.proofs.RunLaws.{run-end, run-one, run-one-none, run-jump, run-jump-none}
+use Rattle.def_meaning.proofs.WordLaws.{prog-nil, prog-item}
+use Rattle.def_meaning.proofs.SoundLaws.{sound-item, sound-mark, sound-wrong, flat-item, false-true}
+use Rattle.def_meaning.proofs.PartLaws.{from, to-end}
 use Rattle.nodes.specs.declared.NextWord.the-variants.{Word, NoWord}
 use Rattle.nodes.specs.Nodes.{firstWord}
 use Rattle.nodes.proofs.WordHeads.{word-cons, word-nil}

@@ -9,8 +9,8 @@ use Rattle.steps.specs.declared.NextByte.{NextByte}
 use Rattle.steps.specs.declared.NextByte.the-variants.{Next, NoByte}
 use Rattle.steps.specs.declared.Found.{Found}
 use Rattle.steps.specs.declared.Found.the-variants.{Left, Nothing}
-use Rattle.meaning.specs.Programs.{pass, Item, one, jump, range, alt}
-use Rattle.meaning.specs.Words.{Shape, item, opens, mark, wrong}
+use Rattle.def_meaning.specs.Programs.{pass, Item, one, jump, range, alt}
+use Rattle.def_meaning.specs.Words.{Shape, item, opens, mark, wrong}
 
 -- the first of the bytes, if there is one
 abbrev pub firstByte : List ℕ → NextByte

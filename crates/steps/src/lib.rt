@@ -2,7 +2,7 @@
 // What both checks do at one word and one byte.
 ghost use mathlib.Core.Path.{_≡_};
 ghost use mathlib.Core.List.{reverse};
-ghost use Rattle.meaning.specs.Words.{shape};
+ghost use Rattle.def_meaning.specs.Words.{shape};
 ghost use Rattle.steps.specs.Steps.{firstByte, isTest, passShape};
 use nodes::BYTE;
 use nodes::DOT;

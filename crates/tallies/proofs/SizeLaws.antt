@@ -8,17 +8,17 @@ use native.Mathlib.Nat.{le-refl}
 use lib.Dec.{eqb, ltb}
 use lib.ListN.{length, getD, drop, length-drop}
 use borrow.Author.Tests.{eqb-true, eqb-false, ltb-true, ltb-false}
-use Rattle.meaning.specs.Tokens.{totalIn, total, totals}
+use Rattle.def_meaning.specs.Tokens.{totalIn, total, totals}
 use Rattle.classes.specs.Entry.{entryToken}
 use Rattle.entries.specs.Words.{branchIn, ends, inside, listsIn, tokenIn, width, tokensIn}
 use Rattle.entries.proofs.StepLaws.{branch-end, branch-step, lists-end, lists-step, tokens-end, tokens-step, ends-le, ends-long, width-long, width-le, width-inside, by-entries}
 use Rattle.entries.proofs.PlainLaws.{token-alternatives, token-entry}
 use Rattle.classes.proofs.KindLaws.{entry-cases}
 use Rattle.tallies.proofs.TallyLaws.{length-inside}
-use Rattle.picking.specs.Literals.{literals}
-use Rattle.picking.specs.Numbers.{count, literalAt}
-use Rattle.picking.proofs.NumberLaws.{count-literals, literal-numbered}
-use Rattle.picking.proofs.LengthLaws.{literal-lengths}
+use Rattle.def_picking.specs.Literals.{literals}
+use Rattle.def_picking.specs.Numbers.{count, literalAt}
+use Rattle.def_picking.proofs.NumberLaws.{count-literals, literal-numbered}
+use Rattle.def_picking.proofs.LengthLaws.{literal-lengths}
 
 entry-size : (k v m : ℕ) → totalIn (entryToken k v m) ≡ 1
 unfolding totalIn

@@ -9,8 +9,8 @@ use native.Mathlib.Nat.{mul-zero, mul-one, mul-comm, mul-assoc, le-mul-of-pos-ri
 use lib.Dec.{ltb}
 use lib.ListN.{length, getD, take, drop, length-take, length-drop}
 use Rattle.tallies.specs.Tallies.{countTop}
-use Rattle.picking.specs.Literals.{taken, combinationsOf, combinations, combinationsIn, lengthOf, lengthIn, shortest, shorter}
-use Rattle.picking.specs.Numbers.{countOf, count, countIn}
+use Rattle.def_picking.specs.Literals.{taken, combinationsOf, combinations, combinationsIn, lengthOf, lengthIn, shortest, shorter}
+use Rattle.def_picking.specs.Numbers.{countOf, count, countIn}
 use Rattle.classes.specs.Entry.{entryToken}
 use Rattle.entries.specs.Words.{firstEntry, branchIn, ends, inside, listsIn, tokenIn, width, tokensIn}
 use Rattle.tallies.specs.declared.Tally.{Tally}

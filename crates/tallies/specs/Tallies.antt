@@ -2,7 +2,7 @@
 -- To be believed: nothing.
 use mathlib.Core.Path.{_≡_}
 use Prim.Native.Nat.{ℕ, suc, min}
-use Rattle.meaning.specs.Limits.{literalLimit}
+use Rattle.def_meaning.specs.Limits.{literalLimit}
 use Rattle.tallies.specs.declared.Tally.{Tally}
 
 -- counts above the limit are all one to the picker, so they stop right above it

@@ -5,8 +5,8 @@ use mathlib.Core.List.{List}
 use Prim.Native.Nat.{ℕ, _-_, _≤_}
 use native.Mathlib.Omega.{arith}
 use lib.ListN.{length}
-use Rattle.meaning.specs.Rows.{forward}
-use Rattle.meaning.specs.Words.{prog}
+use Rattle.def_meaning.specs.Rows.{forward}
+use Rattle.def_meaning.specs.Words.{prog}
 use Rattle.checkdoors.specs.Doors.{CheckSaid, found, noMatch, refuses, window, refusal, unless, endAt, forwardSays, leftSays, leftFrom, leftAt}
 use Rattle.checkdoors.proofs.DoorLaws.{fine, forward-refused, left-refused}
 use Rattle.checkdoors.proofs.Theorems.{left-tail, left-nothing}

@@ -4,8 +4,8 @@ use mathlib.Core.Path.{refl, sym, ap, _∙_, subst}
 use native.Mathlib.Omega.{arith}
 use Prim.Native.Nat.{_%_, _<_}
 use Rattle.classes.proofs.ClassLaws as class
-use Rattle.meaning.specs.Tokens.{Token}
-use Rattle.picking.specs.Literals.{taken}
+use Rattle.def_meaning.specs.Tokens.{Token}
+use Rattle.def_picking.specs.Literals.{taken}
 use lib.ListN.{length, getD}
 use borrow.Author.Needs.{needs}
 use Rattle.classes.proofs.taken_at.Statement.{statement}

@@ -1,5 +1,5 @@
 -- `compiledoor::compile_text` meets its contract. Assumes nothing.
-use Rattle.meaning.specs.Limits.{tokenPool}
+use Rattle.def_meaning.specs.Limits.{tokenPool}
 use Rattle.compiledoor.proofs.DoorLaws as law
 use Rattle.compiledoor.specs.Door.{compileSaid}
 use lib.ListN.{length}

@@ -1,5 +1,5 @@
 -- `compiler::clear` meets its contract. Assumes nothing.
-use Rattle.meaning.specs.Limits.{nodePool}
+use Rattle.def_meaning.specs.Limits.{nodePool}
 use Rattle.base.proofs.PoolLaws as pool
 use mathlib.Core.Path.{_∙_}
 use borrow.Author.Needs.{needs}

@@ -1,8 +1,8 @@
 -- `compiler::compile_simple` meets its contract. Assumes nothing.
-use Rattle.meaning.specs.Limits.{entryLimit}
+use Rattle.def_meaning.specs.Limits.{entryLimit}
 use Rattle.compiler.proofs.ProgramLaws as law
 use Rattle.compiler.specs.Made.{Fills}
-use Rattle.compiling.specs.Compile.{Compiled}
+use Rattle.def_compiling.specs.Compile.{Compiled}
 use lib.ListN.{length}
 use mathlib.Core.Bool.{true, false}
 use mathlib.Core.Path.{_≡_, subst}

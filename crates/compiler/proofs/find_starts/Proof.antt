@@ -1,8 +1,8 @@
 -- `compiler::find_starts` meets its contract. Assumes nothing.
 use Rattle.compiler.proofs.WalkLaws as law
 use Rattle.emit.proofs.AltLaws as alts
-use Rattle.meaning.specs.Entries.{entries}
-use Rattle.meaning.specs.Tokens.{Tokens}
+use Rattle.def_meaning.specs.Entries.{entries}
+use Rattle.def_meaning.specs.Tokens.{Tokens}
 use lib.ListN.{length, set, length-set}
 use Prim.Native.Nat.{ℕ, _+_, _-_}
 use mathlib.Core.Path.{_≡_, refl, sym, _∙_, subst}

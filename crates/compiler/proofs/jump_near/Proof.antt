@@ -1,5 +1,5 @@
 -- `compiler::jump_near` meets its contract. Assumes nothing.
-use Rattle.compiling.specs.Compile.{simpleToken}
+use Rattle.def_compiling.specs.Compile.{simpleToken}
 use Rattle.compiler.specs.Walks.{toOf}
 use borrow.Author.Tests.{ne-eqb}
 use Rattle.compiler.proofs.jump_near.Statement.{statement}

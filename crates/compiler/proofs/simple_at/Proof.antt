@@ -1,5 +1,5 @@
 -- `compiler::simple_at` meets its contract. Assumes nothing.
-use Rattle.compiling.specs.Compile.{simpleToken}
+use Rattle.def_compiling.specs.Compile.{simpleToken}
 use Rattle.compiler.specs.Walks.{toldBy, simpleAt, flatEntries}
 use Rattle.emit.proofs.AltLaws as alts
 use borrow.Author.Tests.{eq-eqb, ne-eqb}

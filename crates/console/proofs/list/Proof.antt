@@ -1,7 +1,7 @@
 -- What was read lies within the buffer. Assumes nothing.
 use Prim.Native.Nat.{_+_}
 use native.Mathlib.Omega.{arith}
-use Rattle.meaning.specs.Limits.{textLimit}
+use Rattle.def_meaning.specs.Limits.{textLimit}
 use Rattle.console.proofs.InputLaws.{bytes-within}
 use borrow.Author.Needs.{needs}
 use Rattle.console.proofs.list.Statement.{statement}

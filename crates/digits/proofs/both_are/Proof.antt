@@ -1,6 +1,6 @@
 -- Each way out gives what the definition gives there. Assumes nothing.
 use borrow.Author.Tests.{eq-eqb, ne-eqb}
-use Rattle.meaning.specs.Tokens.{left}
+use Rattle.def_meaning.specs.Tokens.{left}
 use Rattle.digits.proofs.both_are.Statement.{statement}
 use Rattle.digits.proofs.both_are.Tie as tie
 

@@ -2,11 +2,11 @@
 use mathlib.Core.Path.{sym, ap, _∙_}
 use Prim.Native.Nat.{ℕ, _+_, _*_}
 use lib.ListN.{getD}
-use Rattle.reading.specs.Pieces.{found, digit}
-use Rattle.reading.proofs.PieceLaws.{here-in, digit-small}
+use Rattle.def_reading.specs.Pieces.{found, digit}
+use Rattle.def_reading.proofs.PieceLaws.{here-in, digit-small}
 use Rattle.digits.specs.Answers.{valueOf}
-use Rattle.reading.proofs.PieceSteps.{byte-none, byte-half, byte-both}
-use Rattle.reading.specs.Pieces.{whole}
+use Rattle.def_reading.proofs.PieceSteps.{byte-none, byte-half, byte-both}
+use Rattle.def_reading.specs.Pieces.{whole}
 use native.Mathlib.Omega.{arith}
 use borrow.Author.Needs.{needs}
 use Rattle.digits.proofs.byte.Statement.{statement}

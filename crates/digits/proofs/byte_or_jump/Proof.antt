@@ -1,8 +1,8 @@
 -- Each way out gives what the definition gives there. Assumes nothing.
 use mathlib.Core.Path.{sym, ap, _∙_}
-use Rattle.reading.specs.Pieces.{hexToken, rangeAt, jumped, _else_}
+use Rattle.def_reading.specs.Pieces.{hexToken, rangeAt, jumped, _else_}
 use Rattle.digits.specs.Answers.{spelled}
-use Rattle.reading.proofs.PieceSteps.{hex-byte, byte-else}
+use Rattle.def_reading.proofs.PieceSteps.{hex-byte, byte-else}
 use borrow.Author.Needs.{needs}
 use Rattle.digits.proofs.byte_or_jump.Statement.{statement}
 use Rattle.digits.proofs.byte_or_jump.Tie as tie

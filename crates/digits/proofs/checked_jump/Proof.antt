@@ -2,11 +2,11 @@
 use mathlib.Core.Path.{sym, ap, _∙_}
 use mathlib.Core.Option.{none, some}
 use Prim.Native.Nat.{ℕ}
-use Rattle.reading.specs.Pieces.{found, checked}
+use Rattle.def_reading.specs.Pieces.{found, checked}
 use Rattle.digits.specs.Answers.{upperOf}
-use Rattle.reading.proofs.PieceSteps.{checked-open, checked-empty, checked-wrong, checked-both}
-use Rattle.reading.specs.Pieces.{between}
-use Rattle.meaning.specs.Tokens.{left}
+use Rattle.def_reading.proofs.PieceSteps.{checked-open, checked-empty, checked-wrong, checked-both}
+use Rattle.def_reading.specs.Pieces.{between}
+use Rattle.def_meaning.specs.Tokens.{left}
 use Rattle.digits.specs.declared.Upper.{Upper}
 use borrow.Author.Needs.{needs}
 use Rattle.digits.proofs.checked_jump.Statement.{statement}

@@ -1,10 +1,10 @@
 -- Each way out gives what the definition gives there. Assumes nothing.
 use mathlib.Core.Path.{sym, _∙_}
 use Prim.Native.Char.{code}
-use Rattle.reading.proofs.PieceLaws.{here-at}
+use Rattle.def_reading.proofs.PieceLaws.{here-at}
 use Rattle.digits.specs.Answers.{upperOf}
-use Rattle.reading.proofs.PieceSteps.{closed-else, closed-at}
-use Rattle.meaning.specs.Tokens.{left}
+use Rattle.def_reading.proofs.PieceSteps.{closed-else, closed-at}
+use Rattle.def_meaning.specs.Tokens.{left}
 use native.Mathlib.Omega.{arith}
 use borrow.Author.Needs.{needs}
 use Rattle.digits.proofs.closed_jump.Statement.{statement}

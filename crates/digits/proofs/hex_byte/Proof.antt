@@ -1,7 +1,7 @@
 -- Each way out gives what the definition gives there. Assumes nothing.
 use mathlib.Core.Path.{sym, ap, _∙_}
 use Rattle.digits.specs.Answers.{spelled}
-use Rattle.reading.proofs.PieceSteps.{hex-byte, hex-masked}
+use Rattle.def_reading.proofs.PieceSteps.{hex-byte, hex-masked}
 use borrow.Author.Needs.{needs}
 use Rattle.digits.proofs.hex_byte.Statement.{statement}
 use Rattle.digits.proofs.hex_byte.Tie as tie

@@ -1,9 +1,9 @@
 -- Each way out gives what the definition gives there. Assumes nothing.
 use mathlib.Core.Path.{sym, _∙_}
 use Prim.Native.Char.{code}
-use Rattle.reading.specs.Pieces.{digit}
-use Rattle.reading.proofs.PieceLaws.{within-true}
-use Rattle.meaning.specs.Tokens.{left}
+use Rattle.def_reading.specs.Pieces.{digit}
+use Rattle.def_reading.proofs.PieceLaws.{within-true}
+use Rattle.def_meaning.specs.Tokens.{left}
 use native.Mathlib.Omega.{arith}
 use borrow.Author.Needs.{needs}
 use Rattle.digits.proofs.hex_digit.Statement.{statement}

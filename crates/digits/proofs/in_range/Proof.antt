@@ -1,7 +1,7 @@
 -- Each way out gives what the definition gives there. Assumes nothing.
 use borrow.Author.Tests.{le-leb, lt-leb}
-use Rattle.reading.specs.Pieces.{within}
-use Rattle.meaning.specs.Tokens.{left}
+use Rattle.def_reading.specs.Pieces.{within}
+use Rattle.def_meaning.specs.Tokens.{left}
 use Rattle.digits.proofs.in_range.Statement.{statement}
 use Rattle.digits.proofs.in_range.Tie as tie
 

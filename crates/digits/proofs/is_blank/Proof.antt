@@ -1,8 +1,8 @@
 -- Each way out gives what the definition gives there. Assumes nothing.
 use Prim.Native.Char.{code}
 use borrow.Author.Tests.{ne-eqb}
-use Rattle.reading.specs.Blanks.{blank}
-use Rattle.meaning.specs.Tokens.{left}
+use Rattle.def_reading.specs.Blanks.{blank}
+use Rattle.def_meaning.specs.Tokens.{left}
 use Rattle.digits.proofs.is_blank.Statement.{statement}
 use Rattle.digits.proofs.is_blank.Tie as tie
 

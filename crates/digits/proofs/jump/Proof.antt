@@ -1,10 +1,10 @@
 -- Each way out gives what the definition gives there. Assumes nothing.
 use mathlib.Core.Path.{sym, ap, _∙_}
-use Rattle.reading.specs.Pieces.{found, jumped}
+use Rattle.def_reading.specs.Pieces.{found, jumped}
 use Rattle.digits.specs.Answers.{upperOf, ranged}
-use Rattle.reading.proofs.PieceSteps.{jumped-unbounded, jumped-open, jumped-big, jumped-found}
-use Rattle.reading.specs.Pieces.{between}
-use Rattle.meaning.specs.Tokens.{Token, left}
+use Rattle.def_reading.proofs.PieceSteps.{jumped-unbounded, jumped-open, jumped-big, jumped-found}
+use Rattle.def_reading.specs.Pieces.{between}
+use Rattle.def_meaning.specs.Tokens.{Token, left}
 use Rattle.digits.specs.declared.Upper.{Upper}
 use borrow.Author.Needs.{needs}
 use Rattle.digits.proofs.jump.Statement.{statement}

@@ -1,8 +1,8 @@
 -- Each way out gives what the definition gives there. Assumes nothing.
 use mathlib.Core.Path.{sym, ap, _∙_}
-use Rattle.reading.specs.Pieces.{_else_}
+use Rattle.def_reading.specs.Pieces.{_else_}
 use Rattle.digits.specs.Answers.{leafSeen}
-use Rattle.reading.proofs.PieceSteps.{leaf-not}
+use Rattle.def_reading.proofs.PieceSteps.{leaf-not}
 use borrow.Author.Needs.{needs}
 use Rattle.digits.proofs.leaf_token.Statement.{statement}
 use Rattle.digits.proofs.leaf_token.Tie as tie

@@ -3,12 +3,12 @@ use mathlib.Core.Path.{sym, ap, _∙_}
 use Prim.Native.Char.{code}
 use Prim.Native.Nat.{ℕ, _+_}
 use lib.ListN.{getD}
-use Rattle.reading.specs.Pieces.{found, digit}
-use Rattle.reading.proofs.PieceLaws.{here-in, here-at, digit-small}
+use Rattle.def_reading.specs.Pieces.{found, digit}
+use Rattle.def_reading.proofs.PieceLaws.{here-in, here-at, digit-small}
 use Rattle.digits.specs.Answers.{valueOf}
-use Rattle.reading.proofs.PieceSteps.{masked-all, masked-left, masked-no-left, masked-right, masked-no-right, masked-other}
-use Rattle.reading.specs.Pieces.{masked}
-use Rattle.meaning.specs.Tokens.{left, right, all}
+use Rattle.def_reading.proofs.PieceSteps.{masked-all, masked-left, masked-no-left, masked-right, masked-no-right, masked-other}
+use Rattle.def_reading.specs.Pieces.{masked}
+use Rattle.def_meaning.specs.Tokens.{left, right, all}
 use native.Mathlib.Omega.{arith}
 use borrow.Author.Needs.{needs}
 use Rattle.digits.proofs.masked_byte.Statement.{statement}

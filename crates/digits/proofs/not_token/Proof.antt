@@ -1,11 +1,11 @@
 -- Each way out gives what the definition gives there. Assumes nothing.
 use mathlib.Core.Path.{sym, ap, _∙_}
 use Prim.Native.Char.{code}
-use Rattle.reading.specs.Pieces.{negated}
-use Rattle.reading.proofs.PieceLaws.{here-at}
+use Rattle.def_reading.specs.Pieces.{negated}
+use Rattle.def_reading.proofs.PieceLaws.{here-at}
 use Rattle.digits.specs.Answers.{spelled}
-use Rattle.reading.proofs.PieceSteps.{hex-byte, not-else, not-hex}
-use Rattle.meaning.specs.Tokens.{left}
+use Rattle.def_reading.proofs.PieceSteps.{hex-byte, not-else, not-hex}
+use Rattle.def_meaning.specs.Tokens.{left}
 use Rattle.digits.specs.declared.Mask.{Mask}
 use Rattle.digits.specs.declared.Spelling.the-variants as spelling
 use native.Mathlib.Omega.{arith}

@@ -4,11 +4,11 @@ use Prim.Native.Char.{code}
 use Prim.Native.Nat.{ℕ, _+_, _-_, _*_, _≤_, _<_}
 use lib.ListN.{length, drop, getD}
 use borrow.Author.Tests.{not-true, not-false}
-use Rattle.reading.specs.Pieces.{found, decimals, numeral, decimal}
-use Rattle.reading.proofs.PieceLaws.{here-in, within-true, number-none, number-next, numeral-from}
-use Rattle.reading.proofs.PieceSteps.{number-absent, number-found, number-big}
-use Rattle.meaning.specs.Limits.{numberLimit}
-use Rattle.meaning.specs.Tokens.{left}
+use Rattle.def_reading.specs.Pieces.{found, decimals, numeral, decimal}
+use Rattle.def_reading.proofs.PieceLaws.{here-in, within-true, number-none, number-next, numeral-from}
+use Rattle.def_reading.proofs.PieceSteps.{number-absent, number-found, number-big}
+use Rattle.def_meaning.specs.Limits.{numberLimit}
+use Rattle.def_meaning.specs.Tokens.{left}
 use native.Mathlib.Omega.{arith}
 use borrow.Author.Needs.{needs}
 use Rattle.digits.proofs.number.Statement.{statement}

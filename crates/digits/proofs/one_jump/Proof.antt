@@ -1,7 +1,7 @@
 -- Each way out gives what the definition gives there. Assumes nothing.
 use mathlib.Core.Path.{sym, _∙_}
-use Rattle.reading.specs.Pieces.{jumpToken}
-use Rattle.meaning.specs.Tokens.{left}
+use Rattle.def_reading.specs.Pieces.{jumpToken}
+use Rattle.def_meaning.specs.Tokens.{left}
 use borrow.Author.Needs.{needs}
 use Rattle.digits.proofs.one_jump.Statement.{statement}
 use Rattle.digits.proofs.one_jump.Tie as tie

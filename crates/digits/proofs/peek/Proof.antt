@@ -1,7 +1,7 @@
 -- Each way out gives what the definition gives there. Assumes nothing.
 use mathlib.Core.Path.{sym}
 use lib.ListN.{List·getD-eq-default}
-use Rattle.meaning.specs.Tokens.{left}
+use Rattle.def_meaning.specs.Tokens.{left}
 use borrow.Author.Needs.{needs}
 use Rattle.digits.proofs.peek.Statement.{statement}
 use Rattle.digits.proofs.peek.Tie as tie

@@ -1,11 +1,11 @@
 -- Each way out gives what the definition gives there. Assumes nothing.
 use mathlib.Core.Path.{sym, ap, _∙_}
 use Prim.Native.Char.{code}
-use Rattle.reading.specs.Pieces.{lowerAt}
-use Rattle.reading.proofs.PieceLaws.{here-at}
+use Rattle.def_reading.specs.Pieces.{lowerAt}
+use Rattle.def_reading.proofs.PieceLaws.{here-at}
 use Rattle.digits.specs.Answers.{numbered}
-use Rattle.reading.proofs.PieceSteps.{range-else, range-at, lower-closed, lower-dash}
-use Rattle.meaning.specs.Tokens.{left}
+use Rattle.def_reading.proofs.PieceSteps.{range-else, range-at, lower-closed, lower-dash}
+use Rattle.def_meaning.specs.Tokens.{left}
 use native.Mathlib.Omega.{arith}
 use borrow.Author.Needs.{needs}
 use Rattle.digits.proofs.range.Statement.{statement}

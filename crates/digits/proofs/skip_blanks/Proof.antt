@@ -3,9 +3,9 @@ use mathlib.Core.Path.{_≡_, refl, sym, ap, _∙_}
 use Prim.Native.Nat.{_-_}
 use lib.ListN.{length, getD}
 use borrow.Author.Tests.{not-true, not-false}
-use Rattle.reading.specs.Blanks.{blank, skip}
-use Rattle.reading.proofs.PieceLaws.{here-in, blank-pos, skip-none, skip-next}
-use Rattle.meaning.specs.Tokens.{left}
+use Rattle.def_reading.specs.Blanks.{blank, skip}
+use Rattle.def_reading.proofs.PieceLaws.{here-in, blank-pos, skip-none, skip-next}
+use Rattle.def_meaning.specs.Tokens.{left}
 use native.Mathlib.Omega.{arith}
 use borrow.Author.Needs.{needs}
 use Rattle.digits.proofs.skip_blanks.Statement.{statement}

@@ -1,7 +1,7 @@
 -- `entries::plain_alternatives` meets its contract. Assumes nothing.
 use mathlib.Core.Logic.{⊎-elim}
-use Rattle.picking.specs.Runs.{plainAlternatives}
-use Rattle.picking.specs.Literals.{plainLists}
+use Rattle.def_picking.specs.Runs.{plainAlternatives}
+use Rattle.def_picking.specs.Literals.{plainLists}
 use Rattle.entries.specs.Words.{listsIn, tokensIn}
 use Rattle.entries.proofs.StepLaws as step
 use Prim.Native.Nat.{ℕ, _-_, _≤_}
@@ -13,7 +13,7 @@ use Rattle.entries.proofs.PlainLaws as law
 use native.Mathlib.Omega.{arith}
 use borrow.Author.Needs.{needs}
 use borrow.Author.Tests.{not-true, not-false}
-use Rattle.meaning.proofs.PartLaws.{to-end}
+use Rattle.def_meaning.proofs.PartLaws.{to-end}
 use Rattle.entries.proofs.plain_alternatives.Statement.{statement}
 use Rattle.entries.proofs.plain_alternatives.Tie as tie
 

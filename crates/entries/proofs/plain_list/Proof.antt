@@ -3,14 +3,14 @@ use Prim.Native.Nat.{ℕ}
 use mathlib.Core.List.{List}
 use Rattle.entries.proofs.PartLaws as part
 use Rattle.entries.specs.Words.{branchIn}
-use Rattle.picking.specs.Literals.{plainList}
+use Rattle.def_picking.specs.Literals.{plainList}
 use lib.ListN.{length}
 use mathlib.Core.Path.{_≡_, sym, ap, _∙_}
 use Rattle.entries.proofs.PlainLaws as law
 use native.Mathlib.Omega.{arith}
 use borrow.Author.Needs.{needs}
 use borrow.Author.Tests.{not-true, not-false}
-use Rattle.meaning.proofs.PartLaws.{to-end}
+use Rattle.def_meaning.proofs.PartLaws.{to-end}
 use Rattle.entries.proofs.plain_list.Statement.{statement}
 use Rattle.entries.proofs.plain_list.Tie as tie
 

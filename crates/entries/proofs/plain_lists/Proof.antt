@@ -1,6 +1,6 @@
 -- `entries::plain_lists` meets its contract. Assumes nothing.
 use Prim.Native.Nat.{ℕ, _-_, _≤_}
-use Rattle.picking.specs.Literals.{plainList, plainLists}
+use Rattle.def_picking.specs.Literals.{plainList, plainLists}
 use Rattle.entries.specs.Words.{branchIn, listsIn}
 use Rattle.entries.proofs.StepLaws as step
 use mathlib.Core.List.{List}
@@ -11,7 +11,7 @@ use Rattle.entries.proofs.PlainLaws as law
 use native.Mathlib.Omega.{arith}
 use borrow.Author.Needs.{needs}
 use borrow.Author.Tests.{not-true, not-false}
-use Rattle.meaning.proofs.PartLaws.{to-end}
+use Rattle.def_meaning.proofs.PartLaws.{to-end}
 use Rattle.entries.proofs.plain_lists.Statement.{statement}
 use Rattle.entries.proofs.plain_lists.Tie as tie
 

@@ -8,12 +8,12 @@ use native.Mathlib.Omega.{arith}
 use lib.ListN.{length}
 use lib.Seq.{length-take-le}
 use borrow.Author.Needs.{needs}
-use Rattle.meaning.specs.Programs.{range, alt, _▹_}
-use Rattle.meaning.specs.Choices.{short}
-use Rattle.meaning.specs.Rows.{forward}
-use Rattle.meaning.specs.Words.{prog, branchesOf, Sound, SoundBranches}
-use Rattle.meaning.proofs.KindLaws.{kind-jump}
-use Rattle.meaning.proofs.RunLaws.{run-range-empty}
+use Rattle.def_meaning.specs.Programs.{range, alt, _▹_}
+use Rattle.def_meaning.specs.Choices.{short}
+use Rattle.def_meaning.specs.Rows.{forward}
+use Rattle.def_meaning.specs.Words.{prog, branchesOf, Sound, SoundBranches}
+use Rattle.def_meaning.proofs.KindLaws.{kind-jump}
+use Rattle.def_meaning.proofs.RunLaws.{run-range-empty}
 use Rattle.steps.specs.Steps.{answer}
 use Rattle.nodes.proofs.WordHeads.{word-pos}
 use Rattle.steps.proofs.Heads.{byte-pos, whole, word-whole}
@@ -26,7 +26,7 @@ use Rattle.steps.proofs.Choices as choice
 use Prim.Native.Nat.{ℕ, _<_}
 use borrow.Fn.Kinds.{In}
 use borrow.Fn.PlainCycle.{Measures, is, falls, and}
-use Rattle.meaning.proofs.PartLaws.{from, to-end, length-from}
+use Rattle.def_meaning.proofs.PartLaws.{from, to-end, length-from}
 use Rattle.forward.proofs.branches.Reads as branches
 use Rattle.forward.proofs.branches.Kinds as branches-kinds
 use Rattle.forward.proofs.+branches+check+choices+jumps.Lts-branches as branches-lts

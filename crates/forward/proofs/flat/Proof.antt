@@ -2,10 +2,10 @@
 use mathlib.Core.Path.{_≡_, sym, ap, _∙_}
 use mathlib.Core.Bool.{true}
 use lib.ListN.{length}
-use Rattle.meaning.specs.Choices.{short}
-use Rattle.meaning.specs.Rows.{forward}
-use Rattle.meaning.specs.Words.{prog, flatWords}
-use Rattle.meaning.proofs.KindLaws.{kind-jump}
+use Rattle.def_meaning.specs.Choices.{short}
+use Rattle.def_meaning.specs.Rows.{forward}
+use Rattle.def_meaning.specs.Words.{prog, flatWords}
+use Rattle.def_meaning.proofs.KindLaws.{kind-jump}
 use Rattle.steps.specs.Steps.{answer}
 use Rattle.nodes.proofs.WordHeads.{word-pos}
 use Rattle.steps.proofs.Heads.{byte-pos}
@@ -13,7 +13,7 @@ use Rattle.steps.proofs.Tests.{passes-as}
 use Rattle.steps.proofs.Turns as turns
 use native.Mathlib.Omega.{arith}
 use borrow.Author.Needs.{needs}
-use Rattle.meaning.proofs.PartLaws.{to-end, length-from}
+use Rattle.def_meaning.proofs.PartLaws.{to-end, length-from}
 use Rattle.forward.proofs.flat.Statement.{statement}
 use Rattle.forward.proofs.flat.Tie as tie
 

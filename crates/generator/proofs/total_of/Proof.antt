@@ -3,8 +3,8 @@ use mathlib.Core.List.{flatten}
 use Prim.Native.Nat.{_+_, _-_, _*_, _≤_}
 use mathlib.Core.Path.{_≡_}
 use lib.ListN.{length, drop}
-use Rattle.meaning.specs.Limits.{entryLimit}
-use Rattle.picking.specs.Literals.{literals}
+use Rattle.def_meaning.specs.Limits.{entryLimit}
+use Rattle.def_picking.specs.Literals.{literals}
 use Rattle.entries.specs.Words.{tokensIn}
 use Rattle.generator.proofs.OutputLaws as law
 use native.Mathlib.Omega.{arith}

@@ -1,6 +1,6 @@
 -- `generator::write_all` meets its contract. Assumes nothing.
 use mathlib.Core.Logic.{inl, inr}
-use Rattle.picking.specs.Literals.{literals}
+use Rattle.def_picking.specs.Literals.{literals}
 use Rattle.entries.specs.Words.{tokensIn}
 use Rattle.generator.proofs.OutputLaws as law
 use native.Mathlib.Omega.{arith}

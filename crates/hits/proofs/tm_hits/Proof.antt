@@ -3,15 +3,15 @@ use borrow.Author.Tests.{not-true, not-false}
 use mathlib.Core.Path.{_≡_, refl, sym, ap, _∙_}
 use Prim.Native.Nat.{_≤_, _-_}
 use lib.ListN.{length}
-use Rattle.meaning.specs.Rows.{forward}
-use Rattle.meaning.specs.Words.{prog}
-use Rattle.meaning.proofs.WordSpans.{sound-words}
+use Rattle.def_meaning.specs.Rows.{forward}
+use Rattle.def_meaning.specs.Words.{prog}
+use Rattle.def_meaning.proofs.WordSpans.{sound-words}
 use Rattle.steps.specs.Steps.{answer}
 use Rattle.hits.specs.Hits.{startIn}
 use Rattle.hits.proofs.HitLaws as law
 use native.Mathlib.Omega.{arith}
 use borrow.Author.Needs.{needs}
-use Rattle.meaning.proofs.PartLaws.{to-end}
+use Rattle.def_meaning.proofs.PartLaws.{to-end}
 use Rattle.hits.proofs.tm_hits.Statement.{statement}
 use Rattle.hits.proofs.tm_hits.Tie as tie
 

@@ -4,7 +4,7 @@ use mathlib.Core.Path.{_≡_, refl, sym, ap, _∙_}
 use Prim.Native.Nat.{_≤_, _-_}
 use lib.ListN.{length}
 use lib.Seq.{length-take-le}
-use Rattle.meaning.proofs.WordSpans.{sound-words}
+use Rattle.def_meaning.proofs.WordSpans.{sound-words}
 use Rattle.hits.specs.Hits.{endIn}
 use Rattle.hits.proofs.HitLaws as law
 use native.Mathlib.Omega.{arith}

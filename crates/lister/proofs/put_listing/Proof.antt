@@ -1,9 +1,9 @@
 -- What the compiling door answers is what the definition compiles. Assumes nothing.
 use mathlib.Core.Path.{ap, _∙_}
 use Prim.Native.Nat.{ℕ}
-use Rattle.meaning.specs.Limits.{nodePool}
+use Rattle.def_meaning.specs.Limits.{nodePool}
 use Rattle.base.specs.Refusals.{numberOf}
-use Rattle.reading.specs.Lists.{reading}
+use Rattle.def_reading.specs.Lists.{reading}
 use Rattle.lines.specs.Lines.{refusedLine}
 use Rattle.printing.proofs.LaidLaws.{put-then, put-same}
 use Rattle.lister.specs.Listings.{listingOf}

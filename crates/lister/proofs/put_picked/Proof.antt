@@ -2,7 +2,7 @@
 use mathlib.Core.Path.{_≡_, ap, _∙_}
 use lib.ListN.{length}
 use Rattle.base.specs.Refusals.{numberOf}
-use Rattle.reading.specs.Lists.{reading}
+use Rattle.def_reading.specs.Lists.{reading}
 use Rattle.lines.specs.Lines.{literalsRefusedLine, gotLines}
 use Rattle.printing.proofs.LaidLaws.{put-same}
 use Rattle.lister.specs.Listings.{gotOf, lentBytes, lentLengths}

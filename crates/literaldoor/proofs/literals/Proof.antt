@@ -1,7 +1,7 @@
 -- `literaldoor::literals` meets its contract. Assumes nothing.
 use native.Mathlib.Omega.{arith}
 use borrow.Author.Needs.{needs}
-use Rattle.meaning.specs.Limits.{tokenPool}
+use Rattle.def_meaning.specs.Limits.{tokenPool}
 use Rattle.literaldoor.proofs.DoorLaws as law
 use Rattle.literaldoor.proofs.ToldLaws as told
 use Rattle.literaldoor.specs.Door.{literalsSaid}

@@ -1,7 +1,7 @@
 -- `literaldoor::write_taken` meets its contract. Assumes nothing.
 use borrow.Author.Needs.{needs}
 use Rattle.literaldoor.proofs.DoorLaws as law
-use Rattle.picking.specs.Literals.{literals as literalsOf}
+use Rattle.def_picking.specs.Literals.{literals as literalsOf}
 use Rattle.entries.specs.Words.{tokensIn}
 use Prim.Native.Nat.{_-_}
 use Rattle.literaldoor.proofs.write_taken.Statement.{statement}

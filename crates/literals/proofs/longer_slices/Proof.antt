@@ -8,7 +8,7 @@ use mathlib.Core.Path.{refl, sym, _∙_}
 use Prim.Native.Nat.{_+_, _-_}
 use native.Mathlib.Omega.{arith}
 use borrow.Author.Needs.{needs}
-use Rattle.meaning.proofs.PartLaws.{length-from}
+use Rattle.def_meaning.proofs.PartLaws.{length-from}
 use Rattle.literals.proofs.longer_slices.Statement.{statement}
 use Rattle.literals.proofs.longer_slices.Tie as tie
 

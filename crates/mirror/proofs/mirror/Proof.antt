@@ -1,7 +1,7 @@
 -- Each way out is a case of the definitions. Assumes nothing.
 use mathlib.Core.Path.{sym, _∙_}
 use borrow.Author.Tests.{not-true, not-false}
-use Rattle.meaning.proofs.WordSpans.{sound-words}
+use Rattle.def_meaning.proofs.WordSpans.{sound-words}
 use Rattle.mirror.proofs.DoorLaws as law
 use borrow.Author.Needs.{needs}
 use Rattle.mirror.proofs.mirror.Statement.{statement}

@@ -1,7 +1,7 @@
 -- Each arm of the match is a kind of the definition. Assumes nothing.
 use mathlib.Core.Path.{sym, _∙_}
 use borrow.Author.Tests.{ne-eqb}
-use Rattle.meaning.specs.Words.{shape, shapeBy}
+use Rattle.def_meaning.specs.Words.{shape, shapeBy}
 use borrow.Author.Needs.{needs}
 use Rattle.nodes.proofs.node_of.Statement.{statement}
 use Rattle.nodes.proofs.node_of.Tie as tie

@@ -1,7 +1,7 @@
 -- Each arm of the match is a kind of the definition. Assumes nothing.
 use mathlib.Core.Path.{sym, _∙_}
 use borrow.Author.Tests.{eq-eqb, ne-eqb, lt-ltb, le-ltb}
-use Rattle.meaning.specs.Words.{proper, properBy}
+use Rattle.def_meaning.specs.Words.{proper, properBy}
 use borrow.Author.Needs.{needs}
 use Rattle.nodes.proofs.proper_word.Statement.{statement}
 use Rattle.nodes.proofs.proper_word.Tie as tie

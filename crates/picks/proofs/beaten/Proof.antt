@@ -1,5 +1,5 @@
 -- `picks::beaten` meets its contract. Assumes nothing.
-use Rattle.meaning.proofs.SoundLaws.{false-true}
+use Rattle.def_meaning.proofs.SoundLaws.{false-true}
 use Rattle.picks.proofs.WinnerLaws as winner
 use borrow.Author.Needs.{needs}
 use Rattle.picks.proofs.beaten.Statement.{statement}

@@ -1,6 +1,6 @@
 -- `picks::is_full` meets its contract. Assumes nothing.
 use mathlib.Core.Path.{ap}
-use Rattle.meaning.proofs.SoundLaws.{false-true}
+use Rattle.def_meaning.proofs.SoundLaws.{false-true}
 use Rattle.picks.specs.Ranks.{winnerSays}
 use borrow.Author.Needs.{needs}
 use Rattle.picks.proofs.is_full.Statement.{statement}

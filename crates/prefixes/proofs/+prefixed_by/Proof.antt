@@ -2,7 +2,7 @@
 use Rattle.prefixes.specs.Numbers.{Numerable}
 use Prim.Native.Nat.{_*_, _-_}
 use native.Mathlib.Nat.{mul-le-mul}
-use Rattle.picking.specs.Numbers.{count, prefixOf, prefixed}
+use Rattle.def_picking.specs.Numbers.{count, prefixOf, prefixed}
 use Rattle.prefixes.proofs.PrefixLaws as prefix
 use Rattle.entries.proofs.StepLaws as step
 use Rattle.entries.specs.Words.{tokenIn, tokensIn}
@@ -15,7 +15,7 @@ use borrow.Author.Needs.{needs}
 use Prim.Native.Nat.{ℕ, _<_}
 use borrow.Fn.Kinds.{In}
 use borrow.Fn.PlainCycle.{Measures, is, falls, and}
-use Rattle.meaning.proofs.PartLaws.{to-end}
+use Rattle.def_meaning.proofs.PartLaws.{to-end}
 use Rattle.prefixes.proofs.prefixed_by.Reads as prefixed-by
 use Rattle.prefixes.proofs.prefixed_by.Kinds as prefixed-by-kinds
 use Rattle.prefixes.proofs.+prefixed_by.Lts-prefixed_by as prefixed-by-lts

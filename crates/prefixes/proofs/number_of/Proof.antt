@@ -1,7 +1,7 @@
 -- `prefixes::number_of` meets its contract. Assumes nothing.
 use Rattle.prefixes.specs.Numbers.{Numerable}
 use native.Mathlib.Nat.{mul-le-mul}
-use Rattle.picking.specs.Numbers.{count, prefixed, endingOf}
+use Rattle.def_picking.specs.Numbers.{count, prefixed, endingOf}
 use Rattle.prefixes.proofs.PrefixLaws as prefix
 use Rattle.entries.proofs.StepLaws as step
 use Rattle.entries.specs.Words.{tokenIn, tokensIn}
@@ -11,7 +11,7 @@ use mathlib.Core.List.{List}
 use Prim.Native.Nat.{ℕ, _*_}
 use native.Mathlib.Omega.{arith}
 use borrow.Author.Needs.{needs}
-use Rattle.meaning.proofs.PartLaws.{to-end}
+use Rattle.def_meaning.proofs.PartLaws.{to-end}
 use Rattle.prefixes.proofs.number_of.Statement.{statement}
 use Rattle.prefixes.proofs.number_of.Tie as tie
 

@@ -4,7 +4,7 @@ use Rattle.prefixes.proofs.PrefixLaws as prefix
 use Rattle.prefixes.specs.Numbers.{Past}
 use lib.ListN.{length}
 use borrow.Author.Needs.{needs}
-use Rattle.meaning.proofs.PartLaws.{to-end}
+use Rattle.def_meaning.proofs.PartLaws.{to-end}
 use Rattle.prefixes.proofs.past_bytes.Statement.{statement}
 use Rattle.prefixes.proofs.past_bytes.Tie as tie
 

@@ -1,8 +1,8 @@
 -- `prefixes::prefix_in` meets its contract. Assumes nothing.
-use Rattle.meaning.specs.Limits.{literalLimit}
-use Rattle.picking.proofs.NumberLaws.{pos-right}
+use Rattle.def_meaning.specs.Limits.{literalLimit}
+use Rattle.def_picking.proofs.NumberLaws.{pos-right}
 use native.Mathlib.Nat.{mul-le-mul}
-use Rattle.picking.specs.Numbers.{countIn, prefixIn}
+use Rattle.def_picking.specs.Numbers.{countIn, prefixIn}
 use Rattle.prefixes.proofs.PrefixLaws as prefix
 use Rattle.entries.proofs.StepLaws as step
 use Rattle.entries.specs.Words.{listsIn}
@@ -13,7 +13,7 @@ use mathlib.Core.List.{List}
 use Prim.Native.Nat.{ℕ, _-_, _*_, _≤_}
 use native.Mathlib.Omega.{arith}
 use borrow.Author.Needs.{needs}
-use Rattle.meaning.proofs.PartLaws.{to-end}
+use Rattle.def_meaning.proofs.PartLaws.{to-end}
 use Rattle.prefixes.proofs.prefix_in.Statement.{statement}
 use Rattle.prefixes.proofs.prefix_in.Tie as tie
 

@@ -1,6 +1,6 @@
 -- `prefixes::prefix_of` meets its contract. Assumes nothing.
 use native.Mathlib.Nat.{div-zero}
-use Rattle.picking.specs.Numbers.{prefixIn}
+use Rattle.def_picking.specs.Numbers.{prefixIn}
 use Rattle.prefixes.proofs.PrefixLaws as prefix
 use Rattle.entries.proofs.StepLaws as step
 use Rattle.entries.specs.Words.{listsIn}

@@ -1,7 +1,7 @@
 -- `ranking::worth` meets its contract. Assumes nothing.
 use Rattle.entries.specs.Words.{tokensIn}
-use Rattle.picking.specs.Candidates.{lowest, least}
-use Rattle.picking.specs.Literals.{literals}
+use Rattle.def_picking.specs.Candidates.{lowest, least}
+use Rattle.def_picking.specs.Literals.{literals}
 use Rattle.atoms.specs.Score.{literalScore}
 use lib.ListN.{drop}
 use mathlib.Core.Path.{_≡_, sym, ap, _∙_}

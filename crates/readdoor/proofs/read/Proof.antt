@@ -2,7 +2,7 @@
 use mathlib.Core.Path.{_≡_, _∙_}
 use lib.ListN.{length, drop, length-append}
 use lib.Seq.{length-take-le}
-use Rattle.meaning.specs.Limits.{tokenPool}
+use Rattle.def_meaning.specs.Limits.{tokenPool}
 use Rattle.readdoor.proofs.DoorLaws.{door-small, words-fit, door-read, door-refused}
 use native.Mathlib.Omega.{arith}
 use borrow.Author.Needs.{needs}

@@ -2,9 +2,9 @@
 use mathlib.Core.Path.{sym, _∙_}
 use Prim.Native.Char.{code}
 use Rattle.base.specs.declared.Refusal.the-variants.{TextTooLong, Unexpected}
-use Rattle.reading.specs.Lists.{reading}
-use Rattle.reading.proofs.PieceLaws.{here-at, skip-in}
-use Rattle.reading.proofs.TextLaws.{text-long, text-unopened}
+use Rattle.def_reading.specs.Lists.{reading}
+use Rattle.def_reading.proofs.PieceLaws.{here-at, skip-in}
+use Rattle.def_reading.proofs.TextLaws.{text-long, text-unopened}
 use Rattle.readdoor.proofs.DoorLaws.{text-refused, text-done, text-open, text-missing, text-stopped}
 use native.Mathlib.Omega.{arith}
 use borrow.Author.Needs.{needs}

@@ -7,11 +7,11 @@ use native.Mathlib.Omega.{arith}
 use borrow.Author.Needs.{needs}
 use lib.ListN.{length}
 use Rattle.base.specs.declared.Refusal.the-variants.{HexStringTooDeep, TooManyTokens}
-use Rattle.meaning.specs.Limits.{tokenPool}
-use Rattle.meaning.specs.Entries.{entriesOf}
-use Rattle.reading.specs.Lists.{token, list}
-use Rattle.reading.proofs.PieceLaws.{here-at, skip-from}
-use Rattle.reading.proofs.ListSteps.{list-deep}
+use Rattle.def_meaning.specs.Limits.{tokenPool}
+use Rattle.def_meaning.specs.Entries.{entriesOf}
+use Rattle.def_reading.specs.Lists.{token, list}
+use Rattle.def_reading.proofs.PieceLaws.{here-at, skip-from}
+use Rattle.def_reading.proofs.ListSteps.{list-deep}
 use Rattle.digits.specs.Answers.{leafSeen, tokenOf}
 use Rattle.reader.specs.declared.ListGot.{ListGot}
 use Rattle.reader.specs.Says.{ListSays, alternatives}

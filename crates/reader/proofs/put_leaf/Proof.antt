@@ -2,8 +2,8 @@
 use mathlib.Core.Path.{refl, sym, ap, ap₂, _∙_}
 use mathlib.Core.List.{[], _∷_}
 use Prim.Native.Nat.{ℕ}
-use Rattle.meaning.specs.Entries.{entriesOf}
-use Rattle.reading.specs.Lists.{isJump}
+use Rattle.def_meaning.specs.Entries.{entriesOf}
+use Rattle.def_reading.specs.Lists.{isJump}
 use Rattle.digits.specs.declared.Leaf.{Leaf}
 use Rattle.digits.specs.Answers.{tokenOf}
 use Rattle.reader.specs.Written.{written}

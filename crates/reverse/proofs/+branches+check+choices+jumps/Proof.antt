@@ -8,12 +8,12 @@ use native.Mathlib.Omega.{arith}
 use lib.ListN.{length, take, length-reverse}
 use lib.Seq.{length-take-le}
 use borrow.Author.Needs.{needs}
-use Rattle.meaning.specs.Programs.{range, alt, _▹_}
-use Rattle.meaning.specs.Choices.{long}
-use Rattle.meaning.specs.Rows.{backward}
-use Rattle.meaning.specs.Words.{prog, branchesOf, Sound, SoundBranches}
-use Rattle.meaning.proofs.KindLaws.{kind-jump}
-use Rattle.meaning.proofs.RunLaws.{below, range-below, below-none}
+use Rattle.def_meaning.specs.Programs.{range, alt, _▹_}
+use Rattle.def_meaning.specs.Choices.{long}
+use Rattle.def_meaning.specs.Rows.{backward}
+use Rattle.def_meaning.specs.Words.{prog, branchesOf, Sound, SoundBranches}
+use Rattle.def_meaning.proofs.KindLaws.{kind-jump}
+use Rattle.def_meaning.proofs.RunLaws.{below, range-below, below-none}
 use Rattle.steps.specs.declared.Found.the-variants.{Left}
 use Rattle.steps.specs.Steps.{answer}
 use Rattle.nodes.proofs.WordHeads.{word-pos}
@@ -27,7 +27,7 @@ use Rattle.steps.proofs.Choices as choice
 use Prim.Native.Nat.{ℕ, _<_}
 use borrow.Fn.Kinds.{In}
 use borrow.Fn.PlainCycle.{Measures, is, falls, and}
-use Rattle.meaning.proofs.PartLaws.{from, length-from}
+use Rattle.def_meaning.proofs.PartLaws.{from, length-from}
 use Rattle.reverse.proofs.branches.Reads as branches
 use Rattle.reverse.proofs.branches.Kinds as branches-kinds
 use Rattle.reverse.proofs.+branches+check+choices+jumps.Lts-branches as branches-lts

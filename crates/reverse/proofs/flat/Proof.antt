@@ -4,10 +4,10 @@ use mathlib.Core.Bool.{true}
 use mathlib.Core.List.{reverse}
 use lib.ListN.{length, length-reverse}
 use lib.Seq.{length-take-le}
-use Rattle.meaning.specs.Choices.{long}
-use Rattle.meaning.specs.Rows.{backward}
-use Rattle.meaning.specs.Words.{prog, flatWords}
-use Rattle.meaning.proofs.KindLaws.{kind-jump}
+use Rattle.def_meaning.specs.Choices.{long}
+use Rattle.def_meaning.specs.Rows.{backward}
+use Rattle.def_meaning.specs.Words.{prog, flatWords}
+use Rattle.def_meaning.proofs.KindLaws.{kind-jump}
 use Rattle.steps.specs.declared.Found.the-variants.{Left}
 use Rattle.steps.specs.Steps.{answer}
 use Rattle.nodes.proofs.WordHeads.{word-pos}
@@ -16,7 +16,7 @@ use Rattle.steps.proofs.Tests.{passes-as}
 use Rattle.steps.proofs.Turns as turns
 use native.Mathlib.Omega.{arith}
 use borrow.Author.Needs.{needs}
-use Rattle.meaning.proofs.PartLaws.{length-from}
+use Rattle.def_meaning.proofs.PartLaws.{length-from}
 use Rattle.reverse.proofs.flat.Statement.{statement}
 use Rattle.reverse.proofs.flat.Tie as tie
 

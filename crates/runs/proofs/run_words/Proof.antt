@@ -10,7 +10,7 @@ use mathlib.Core.List.{List}
 use Prim.Native.Nat.{ℕ, _+_, _-_, _≤_}
 use native.Mathlib.Omega.{arith}
 use borrow.Author.Needs.{needs}
-use Rattle.meaning.proofs.PartLaws.{length-from, to-end}
+use Rattle.def_meaning.proofs.PartLaws.{length-from, to-end}
 use Rattle.runs.proofs.run_words.Statement.{statement}
 use Rattle.runs.proofs.run_words.Tie as tie
 

@@ -1,5 +1,5 @@
 -- Each arm of the match is a case of the definition. Assumes nothing.
-use Rattle.meaning.specs.Words.{isFlat}
+use Rattle.def_meaning.specs.Words.{isFlat}
 use borrow.Author.Needs.{needs}
 use Rattle.sound.proofs.flat_node.Statement.{statement}
 use Rattle.sound.proofs.flat_node.Tie as tie

@@ -2,12 +2,12 @@
 use mathlib.Core.Path.{_≡_, refl, sym, _∙_}
 use lib.ListN.{length}
 use borrow.Author.Tests.{not-true, not-false}
-use Rattle.meaning.specs.Words.{flatWords}
+use Rattle.def_meaning.specs.Words.{flatWords}
 use Rattle.nodes.proofs.WordHeads as heads
 use Rattle.sound.proofs.SoundSteps as law
 use native.Mathlib.Omega.{arith}
 use borrow.Author.Needs.{needs}
-use Rattle.meaning.proofs.PartLaws.{length-from}
+use Rattle.def_meaning.proofs.PartLaws.{length-from}
 use Rattle.sound.proofs.flat_words.Statement.{statement}
 use Rattle.sound.proofs.flat_words.Tie as tie
 

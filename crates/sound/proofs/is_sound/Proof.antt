@@ -1,7 +1,7 @@
 -- More than 512 words are not sound; else the items tell. Assumes nothing.
 use mathlib.Core.Path.{_∙_}
 use borrow.Author.Tests.{le-leb, lt-leb}
-use Rattle.meaning.specs.Words.{sound}
+use Rattle.def_meaning.specs.Words.{sound}
 use borrow.Author.Needs.{needs}
 use Rattle.sound.proofs.is_sound.Statement.{statement}
 use Rattle.sound.proofs.is_sound.Tie as tie

@@ -1,10 +1,10 @@
 -- `spelling::write_branch` meets its contract. Assumes nothing.
 use Prim.Native.Nat.{_%_}
-use Rattle.meaning.specs.Limits.{literalLimit}
+use Rattle.def_meaning.specs.Limits.{literalLimit}
 use Rattle.spelling.specs.Writing.{Written}
-use Rattle.picking.proofs.NumberLaws.{pos-right}
+use Rattle.def_picking.proofs.NumberLaws.{pos-right}
 use native.Mathlib.Nat.{mul-le-mul}
-use Rattle.picking.specs.Numbers.{countIn, endingIn, literalAt}
+use Rattle.def_picking.specs.Numbers.{countIn, endingIn, literalAt}
 use Rattle.spelling.proofs.WriteLaws as write
 use Rattle.prefixes.proofs.PrefixLaws as prefix
 use Rattle.spelling.proofs.SpellLaws as spell
@@ -17,7 +17,7 @@ use mathlib.Core.List.{List}
 use Prim.Native.Nat.{ℕ, _-_, _*_, _≤_}
 use native.Mathlib.Omega.{arith}
 use borrow.Author.Needs.{needs}
-use Rattle.meaning.proofs.PartLaws.{to-end}
+use Rattle.def_meaning.proofs.PartLaws.{to-end}
 use Rattle.spelling.proofs.write_branch.Statement.{statement}
 use Rattle.spelling.proofs.write_branch.Tie as tie
 

@@ -1,8 +1,8 @@
 -- `spelling::write_list` meets its contract. Assumes nothing.
 use lib.ListN.{set}
-use Rattle.meaning.specs.Limits.{literalLimit}
+use Rattle.def_meaning.specs.Limits.{literalLimit}
 use Rattle.spelling.proofs.WriteLaws.{Halfway}
-use Rattle.picking.specs.Numbers.{count, literalAt}
+use Rattle.def_picking.specs.Numbers.{count, literalAt}
 use Rattle.spelling.proofs.WriteLaws as write
 use Rattle.spelling.proofs.SpellLaws as spell
 use Rattle.entries.specs.Words.{branchIn}
@@ -13,7 +13,7 @@ use mathlib.Core.List.{List}
 use Prim.Native.Nat.{ℕ, _+_, _-_, _≤_, _<_}
 use native.Mathlib.Omega.{arith}
 use borrow.Author.Needs.{needs}
-use Rattle.meaning.proofs.PartLaws.{to-end}
+use Rattle.def_meaning.proofs.PartLaws.{to-end}
 use Rattle.spelling.proofs.write_list.Statement.{statement}
 use Rattle.spelling.proofs.write_list.Tie as tie
 

@@ -5,7 +5,7 @@ use mathlib.Core.Path.{subst₂}
 use native.Mathlib.Nat.{mul-le-mul}
 use Rattle.spelling.proofs.WriteLaws.{Halfway}
 use Rattle.prefixes.specs.Numbers.{Numerable}
-use Rattle.picking.specs.Numbers.{countOf, count, endingOf, ending, literalAt}
+use Rattle.def_picking.specs.Numbers.{countOf, count, endingOf, ending, literalAt}
 use Rattle.spelling.proofs.WriteLaws as write
 use Rattle.prefixes.proofs.PrefixLaws as prefix
 use Rattle.spelling.proofs.SpellLaws as spell
@@ -18,7 +18,7 @@ use mathlib.Core.List.{List}
 use Prim.Native.Nat.{ℕ, _+_, _-_, _*_, _≤_, _<_}
 use native.Mathlib.Omega.{arith}
 use borrow.Author.Needs.{needs}
-use Rattle.meaning.proofs.PartLaws.{to-end}
+use Rattle.def_meaning.proofs.PartLaws.{to-end}
 use Rattle.spelling.proofs.write_literal.Statement.{statement}
 use Rattle.spelling.proofs.write_literal.Tie as tie
 

@@ -1,7 +1,7 @@
 -- `spelling::write_token` meets its contract. Assumes nothing.
 use lib.ListN.{set}
 use Rattle.spelling.specs.Writing.{Written}
-use Rattle.picking.specs.Numbers.{endingIn}
+use Rattle.def_picking.specs.Numbers.{endingIn}
 use Rattle.spelling.proofs.WriteLaws as write
 use Rattle.prefixes.proofs.PrefixLaws as prefix
 use Rattle.spelling.proofs.SpellLaws as spell

@@ -1,7 +1,7 @@
 -- `steps::tests_byte` meets its contract. Assumes nothing.
 use mathlib.Core.Path.{sym, _∙_}
 use borrow.Author.Needs.{needs}
-use Rattle.meaning.specs.Words.{shape, shapeBy}
+use Rattle.def_meaning.specs.Words.{shape, shapeBy}
 use Rattle.steps.proofs.Tests.{no-test}
 use Rattle.steps.proofs.tests_byte.Statement.{statement}
 use Rattle.steps.proofs.tests_byte.Tie as tie

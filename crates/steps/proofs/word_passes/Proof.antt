@@ -1,8 +1,8 @@
 -- `steps::word_passes` meets its contract. Assumes nothing.
 use mathlib.Core.Path.{sym, _∙_}
 use borrow.Author.Needs.{needs}
-use Rattle.meaning.specs.Programs.{pass}
-use Rattle.meaning.specs.Words.{shape, shapeBy}
+use Rattle.def_meaning.specs.Programs.{pass}
+use Rattle.def_meaning.specs.Words.{shape, shapeBy}
 use Rattle.steps.proofs.Tests.{no-pass}
 use Rattle.steps.proofs.word_passes.Statement.{statement}
 use Rattle.steps.proofs.word_passes.Tie as tie

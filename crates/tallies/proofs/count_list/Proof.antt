@@ -1,7 +1,7 @@
 -- `tallies::count_list` meets its contract. Assumes nothing.
 use native.Mathlib.Nat.{one-mul}
 use Rattle.tallies.specs.Tallies.{countTop}
-use Rattle.picking.specs.Numbers.{count}
+use Rattle.def_picking.specs.Numbers.{count}
 use Rattle.entries.specs.Words.{branchIn}
 use lib.ListN.{length}
 use mathlib.Core.Path.{_≡_, sym, ap, ap₂, _∙_}
@@ -11,7 +11,7 @@ use mathlib.Core.List.{List}
 use Prim.Native.Nat.{ℕ, _-_, _*_, _≤_, min}
 use native.Mathlib.Omega.{arith}
 use borrow.Author.Needs.{needs}
-use Rattle.meaning.proofs.PartLaws.{to-end}
+use Rattle.def_meaning.proofs.PartLaws.{to-end}
 use Rattle.tallies.proofs.count_list.Statement.{statement}
 use Rattle.tallies.proofs.count_list.Tie as tie
 

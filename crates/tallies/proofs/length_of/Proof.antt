@@ -1,6 +1,6 @@
 -- `tallies::length_of` meets its contract. Assumes nothing.
 use native.Mathlib.Nat.{zero-add, add-zero, add-assoc}
-use Rattle.picking.specs.Literals.{lengthOf, lengthIn}
+use Rattle.def_picking.specs.Literals.{lengthOf, lengthIn}
 use Rattle.entries.proofs.StepLaws as step
 use Rattle.entries.specs.Words.{tokenIn, tokensIn, width}
 use lib.ListN.{length, drop}
@@ -11,7 +11,7 @@ use mathlib.Core.List.{List}
 use Prim.Native.Nat.{ℕ, _+_, _-_, _≤_}
 use native.Mathlib.Omega.{arith}
 use borrow.Author.Needs.{needs}
-use Rattle.meaning.proofs.PartLaws.{length-from, to-end}
+use Rattle.def_meaning.proofs.PartLaws.{length-from, to-end}
 use Rattle.tallies.proofs.length_of.Statement.{statement}
 use Rattle.tallies.proofs.length_of.Tie as tie
 

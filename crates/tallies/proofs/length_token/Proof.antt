@@ -1,5 +1,5 @@
 -- `tallies::length_token` meets its contract. Assumes nothing.
-use Rattle.picking.specs.Literals.{shortest}
+use Rattle.def_picking.specs.Literals.{shortest}
 use Rattle.entries.proofs.StepLaws as step
 use Rattle.entries.specs.Words.{listsIn}
 use lib.ListN.{take, drop}

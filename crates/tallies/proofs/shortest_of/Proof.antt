@@ -1,5 +1,5 @@
 -- `tallies::shortest_of` meets its contract. Assumes nothing.
-use Rattle.picking.specs.Literals.{shortest, shorter}
+use Rattle.def_picking.specs.Literals.{shortest, shorter}
 use Rattle.entries.proofs.StepLaws as step
 use Rattle.entries.specs.Words.{listsIn}
 use lib.ListN.{length, drop}
@@ -10,7 +10,7 @@ use mathlib.Core.List.{List}
 use Prim.Native.Nat.{ℕ, _-_, _/_, _≤_, min}
 use native.Mathlib.Omega.{arith}
 use borrow.Author.Needs.{needs}
-use Rattle.meaning.proofs.PartLaws.{to-end}
+use Rattle.def_meaning.proofs.PartLaws.{to-end}
 use Rattle.tallies.proofs.shortest_of.Statement.{statement}
 use Rattle.tallies.proofs.shortest_of.Tie as tie
 

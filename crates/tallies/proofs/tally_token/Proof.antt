@@ -1,7 +1,7 @@
 -- `tallies::tally_token` meets its contract. Assumes nothing.
 use Rattle.tallies.specs.Tallies.{Tallied}
-use Rattle.picking.specs.Numbers.{countIn}
-use Rattle.picking.specs.Literals.{combinationsIn}
+use Rattle.def_picking.specs.Numbers.{countIn}
+use Rattle.def_picking.specs.Literals.{combinationsIn}
 use Rattle.entries.proofs.StepLaws as step
 use Rattle.entries.specs.Words.{listsIn}
 use lib.ListN.{take, drop}

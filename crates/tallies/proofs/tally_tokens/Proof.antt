@@ -1,8 +1,8 @@
 -- `tallies::tally_tokens` meets its contract. Assumes nothing.
 use native.Mathlib.Nat.{one-mul}
 use Rattle.tallies.specs.Tallies.{countTop}
-use Rattle.picking.specs.Numbers.{count}
-use Rattle.picking.specs.Literals.{combinations as combinations·}
+use Rattle.def_picking.specs.Numbers.{count}
+use Rattle.def_picking.specs.Literals.{combinations as combinations·}
 use Rattle.entries.proofs.StepLaws as step
 use Rattle.entries.specs.Words.{tokensIn}
 use lib.ListN.{length, drop}
@@ -13,7 +13,7 @@ use mathlib.Core.List.{List}
 use Prim.Native.Nat.{ℕ, _-_, _*_, _≤_, min}
 use native.Mathlib.Omega.{arith}
 use borrow.Author.Needs.{needs}
-use Rattle.meaning.proofs.PartLaws.{to-end}
+use Rattle.def_meaning.proofs.PartLaws.{to-end}
 use Rattle.tallies.proofs.tally_tokens.Statement.{statement}
 use Rattle.tallies.proofs.tally_tokens.Tie as tie
 

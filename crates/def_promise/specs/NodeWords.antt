@@ -1,0 +1,43 @@
+-- Sound words as 01 lists them, kind by kind, and the program that they say. Assumes nothing: these are definitions.
+-- To be believed: all.
+use mathlib.Core.Path.{_≡_}
+use mathlib.Core.List.{List, [], _∷_, _++_}
+use Prim.Native.Nat.{ℕ, _+_, _*_, _≤_, _<_}
+use lib.ListN.{length}
+use Rattle.def_meaning.specs.Limits.{nodeLimit}
+use Rattle.def_meaning.specs.Programs.{byte, mask, negatedMask, dot, Item, Prog, Branches, one, jump, range, alt, end, _▹_, stop, or}
+
+-- 01's word
+abbrev pub word : ℕ → ℕ → ℕ → ℕ
+word kind first second = kind + 256 * first + 65536 * second
+
+-- the kinds that a branch may hold, each with its fields; those not named are 0
+pub data Flat : ℕ → Item → Type 0 where
+  kind-0 : {v : ℕ} → v < 256 → Flat (word 0 v 0) (one (byte v))
+  kind-1 : {v m : ℕ} → v < 256 → m < 256 → Flat (word 1 v m) (one (mask v m))
+  kind-2 : {v m : ℕ} → v < 256 → m < 256 → Flat (word 2 v m) (one (negatedMask v m))
+  kind-3 : {n : ℕ} → n < 256 → Flat (word 3 n 0) (jump n)
+  kind-5 : Flat (word 5 0 0) (one dot)
+
+-- what a branch holds
+pub data Flats : List ℕ → Prog → Type 0 where
+  no-node : Flats [] end
+  a-node : {w : ℕ} {ws : List ℕ} {i : Item} {p : Prog} → Flat w i → Flats ws p → Flats (w ∷ ws) (i ▹ p)
+
+-- one or more branches: kind 7, with the count of its nodes
+pub data Branched : List ℕ → Branches → Type 0 where
+  last : {ns : List ℕ} {p : Prog} → length ns < 256 → Flats ns p → Branched (word 7 (length ns) 0 ∷ ns) (or p stop)
+  more : {ns bs : List ℕ} {p : Prog} {b : Branches} → length ns < 256 → Flats ns p → Branched bs b → Branched (word 7 (length ns) 0 ∷ (ns ++ bs)) (or p b)
+
+-- a program; kind 4 has min at most max, and kind 6 counts the words of its branches
+pub data Nodes : List ℕ → Prog → Type 0 where
+  nothing : Nodes [] end
+  flat : {w : ℕ} {ws : List ℕ} {i : Item} {p : Prog} → Flat w i → Nodes ws p → Nodes (w ∷ ws) (i ▹ p)
+  kind-4 : {a b : ℕ} {ws : List ℕ} {p : Prog} → a ≤ b → b < 256 → Nodes ws p → Nodes (word 4 a b ∷ ws) (range a b ▹ p)
+  kind-6 : {a b : ℕ} {bs ws : List ℕ} {br : Branches} {p : Prog} → a < 256 → b < 256 → length bs ≡ a + 256 * b → Branched bs br → Nodes ws p → Nodes (word 6 a b ∷ (bs ++ ws)) (alt br ▹ p)
+
+-- sound: at most 512 words, which say a program
+pub record SoundWords (ws : List ℕ) : Type 0 where
+  pub few : length ws ≤ nodeLimit
+  pub program : Prog
+  pub nodes : Nodes ws program
