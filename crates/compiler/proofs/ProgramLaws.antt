@@ -65,7 +65,9 @@ module _ (ws : List ℕ) (ts : Tokens) (e : ws ≡ entries ts) where
     compile-is = rw y
 
     -- what was emitted, tested and copied
-    pub emitted : (first second o₁ o₂ : List ℕ) (n m : ℕ) (lf lr long : Bool) → n ≡ nodes (tokensProgram false ws starts) → m ≡ nodes (tokensProgram true ws starts) → lf ≡ not (short (tokensProgram false ws starts)) → lr ≡ not (short (tokensProgram true ws starts)) → long ≡ (lf || lr) → first ≡ wordsOf (tokensProgram false ws starts) ++ drop n o₁ → second ≡ wordsOf (tokensProgram true ws starts) ++ drop m o₂ → limited (not long) (leb n nodeLimit && leb m nodeLimit) (take n first) (take m second) ≡ compile ts
+    pub emitted : (first second o₁ o₂ : List ℕ) (n m : ℕ) (lf lr long : Bool) → n ≡ nodes (tokensProgram false ws starts) → m ≡ nodes (tokensProgram true ws starts)
+        → lf ≡ not (short (tokensProgram false ws starts)) → lr ≡ not (short (tokensProgram true ws starts)) → long ≡ (lf || lr) → first ≡ wordsOf (tokensProgram false ws starts) ++ drop n o₁
+        → second ≡ wordsOf (tokensProgram true ws starts) ++ drop m o₂ → limited (not long) (leb n nodeLimit && leb m nodeLimit) (take n first) (take m second) ≡ compile ts
     emitted first second o₁ o₂ n m lf lr long en em ef er el e₁ e₂ =
         let F = tokensProgram false ws starts in
         let R = tokensProgram true ws starts in

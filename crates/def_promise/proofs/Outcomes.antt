@@ -128,7 +128,8 @@ pub mirrors : (ws p : List ℕ) → Mirrors ws p (mirrordoor.mirrorSays ws p) (m
 unfolding mirrordoor.mirrorSays mirrordoor.mirrorLeaves
 mirrors ws p = go (ltb (length p) nodePool) refl (ltb nodeLimit (length ws)) refl (sound ws) refl
   where
-    go : (a : Bool) → ltb (length p) nodePool ≡ a → (b : Bool) → ltb nodeLimit (length ws) ≡ b → (c : Bool) → sound ws ≡ c → Mirrors ws p (cond a (mirrordoor.refuses 18 0) (cond b (mirrordoor.refuses 13 0) (cond c (mirrordoor.mirrored (length (mirrorWords ws))) (mirrordoor.refuses 15 0)))) (cond a p (cond b (cleared nodePool p) (cond c (filled nodePool (mirrorWords ws) p) (cleared nodePool p))))
+    go : (a : Bool) → ltb (length p) nodePool ≡ a → (b : Bool) → ltb nodeLimit (length ws) ≡ b → (c : Bool) → sound ws ≡ c
+        → Mirrors ws p (cond a (mirrordoor.refuses 18 0) (cond b (mirrordoor.refuses 13 0) (cond c (mirrordoor.mirrored (length (mirrorWords ws))) (mirrordoor.refuses 15 0)))) (cond a p (cond b (cleared nodePool p) (cond c (filled nodePool (mirrorWords ws) p) (cleared nodePool p))))
     go true h b g c e = table.Mirrors.no-room (ltb-true (length p) nodePool h)
     go false h true g c e = table.Mirrors.too-many (ltb-false (length p) nodePool h) (ltb-true nodeLimit (length ws) g)
     go false h false g true e = table.Mirrors.mirrored (ltb-false (length p) nodePool h) (ltb-false nodeLimit (length ws) g) (sound-says ws e) (mirror-wording ws e)

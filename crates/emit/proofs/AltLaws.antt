@@ -94,7 +94,9 @@ module _ (ws : List ℕ) (at : ℕ) where
     alt-few b = subst (λ (x : Branches). suc (length (wordsIn x)) ≤ getD ws (at + 2) 0 + 1) (handed-alt b) (omega (arith, handed-few b))
 
     -- the alternation's word before its branches
-    pub alternation : (b : Bool) (out ys : List ℕ) (count w : ℕ) (long : Bool) → 1 ≤ length out → count ≡ length (wordsIn (branchesAt b (getD ws (at + 1) 0) handed)) → long ≡ not (shortIn (branchesAt b (getD ws (at + 1) 0) handed)) → ys ≡ wordsIn (branchesAt b (getD ws (at + 1) 0) handed) ++ drop count (take (length out - 1) (drop 1 out)) → w ≡ countWord count → (count + 1 ≡ length (wordsFor (alt (altAt b ws at)))) × (long ≡ not (shortIn (altAt b ws at))) × (set (putMid 1 (length out - 1) out ys) 0 w ≡ wordsFor (alt (altAt b ws at)) ++ drop (count + 1) out)
+    pub alternation : (b : Bool) (out ys : List ℕ) (count w : ℕ) (long : Bool) → 1 ≤ length out → count ≡ length (wordsIn (branchesAt b (getD ws (at + 1) 0) handed))
+        → long ≡ not (shortIn (branchesAt b (getD ws (at + 1) 0) handed)) → ys ≡ wordsIn (branchesAt b (getD ws (at + 1) 0) handed) ++ drop count (take (length out - 1) (drop 1 out)) → w ≡ countWord count
+        → (count + 1 ≡ length (wordsFor (alt (altAt b ws at)))) × (long ≡ not (shortIn (altAt b ws at))) × (set (putMid 1 (length out - 1) out ys) 0 w ≡ wordsFor (alt (altAt b ws at)) ++ drop (count + 1) out)
     unfolding wordsFor opening
     alternation b out ys count w long r ec el ey ew =
         let bs = branchesAt b (getD ws (at + 1) 0) handed in

@@ -38,7 +38,8 @@ pub entry-single : (k a b : ℕ) → Single (entryItem k a b)
 unfolding entryItem maskItem notMaskItem jumpItem
 entry-single k a b = go (eqb k 0) (eqb k 1) (eqb k 2) (eqb k 3) (eqb b 0) (eqb b 1) (ltb (a % fieldSize) (b % fieldSize))
   where
-    go : (x y z u v s t : Bool) → Single (cond x (one (byte (byteIn a))) (cond y (one (negatedMask (byteIn a) 0xFF)) (cond z (cond v (one (mask (a % 16) 0x0F)) (cond s (one (mask (16 * (a % 16)) 0xF0)) (jump 1))) (cond u (cond v (one (negatedMask (a % 16) 0x0F)) (cond s (one (negatedMask (16 * (a % 16)) 0xF0)) (one (negatedMask 0 0)))) (cond t (range (a % fieldSize) (b % fieldSize)) (jump (a % fieldSize)))))))
+    go : (x y z u v s t : Bool)
+        → Single (cond x (one (byte (byteIn a))) (cond y (one (negatedMask (byteIn a) 0xFF)) (cond z (cond v (one (mask (a % 16) 0x0F)) (cond s (one (mask (16 * (a % 16)) 0xF0)) (jump 1))) (cond u (cond v (one (negatedMask (a % 16) 0x0F)) (cond s (one (negatedMask (16 * (a % 16)) 0xF0)) (one (negatedMask 0 0)))) (cond t (range (a % fieldSize) (b % fieldSize)) (jump (a % fieldSize)))))))
     go true y z u v s t = tt
     go false true z u v s t = tt
     go false false true u true s t = tt

@@ -26,7 +26,9 @@ returns c =
     let at-skip-blanks = c .skip-blanks in
     let at-enum-told = c .before .enum-told in
     let at-start = c .before .before .before .before in
-    ap (λ (e : ℕ). found (between (at-start .args .from) none) (at-start .args .stop) e) (at-skip-blanks .ensures) ∙ sym (checked-open (at-start .args .text .now) (at-start .args .at) (at-start .args .from) (at-start .args .stop)) ∙ ap (λ (u : Upper). checked (at-start .args .text .now) (at-start .args .at) (at-start .args .from) (upperOf u) (at-start .args .stop)) (sym (at-enum-told .given .1))
+    ap (λ (e : ℕ). found (between (at-start .args .from) none) (at-start .args .stop) e) (at-skip-blanks .ensures)
+    ∙ sym (checked-open (at-start .args .text .now) (at-start .args .at) (at-start .args .from) (at-start .args .stop))
+    ∙ ap (λ (u : Upper). checked (at-start .args .text .now) (at-start .args .at) (at-start .args .from) (upperOf u) (at-start .args .stop)) (sym (at-enum-told .given .1))
 
 both-are-requires : tie.Need-both-are-requires
 both-are-requires c κs = search needs

@@ -28,7 +28,8 @@ made-here : (c : lts.After-got claims reads.Pre reads.Post) → Made (reading (c
 made-here c =
     let k = c .before .before .before .before .compile in
     let g = c .got .given in
-    made-door (c .before .before .before .before .before .before .before .before .before .args .text .now) (zeros nodePool) (zeros nodePool) (k .last .1 .0) (k .last .1 .1 .0) (g .0 .0) (g .0 .1 .0) (g .0 .1 .1 .0) (k .result) (length-zeros nodePool) (length-zeros nodePool) (k .kept .1 .0 ∙ length-zeros nodePool) (k .kept .1 .1 .0 ∙ length-zeros nodePool) (g .1) (k .ensures .0) (k .ensures .1) (k .ensures .2)
+    made-door (c .before .before .before .before .before .before .before .before .before .args .text .now) (zeros nodePool) (zeros nodePool) (k .last .1 .0) (k .last .1 .1 .0) (g .0 .0) (g .0 .1 .0) (g .0 .1 .1 .0) (k .result) (length-zeros nodePool) (length-zeros nodePool)
+    (k .kept .1 .0 ∙ length-zeros nodePool) (k .kept .1 .1 .0 ∙ length-zeros nodePool) (g .1) (k .ensures .0) (k .ensures .1) (k .ensures .2)
 
 slice-aggregate-compile : tie.Need-slice-aggregate-compile
 slice-aggregate-compile c = search needs

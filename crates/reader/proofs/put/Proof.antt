@@ -45,7 +45,8 @@ mul-pool-4 c = search needs
 slice-write-pool-4 : tie.Need-slice-write-pool-4
 slice-write-pool-4 c =
     let at-start = c in
-    lt-length-set (set (set (at-start .args .pool .now) (at-start .args .n) (at-start .args .kind)) ((at-start .args .n) + 1) (at-start .args .a)) ((at-start .args .n) + 2) (at-start .args .b) (lt-length-set (set (at-start .args .pool .now) (at-start .args .n) (at-start .args .kind)) ((at-start .args .n) + 1) (at-start .args .a) (lt-length-set (at-start .args .pool .now) (at-start .args .n) (at-start .args .kind) (omega arith)))
+    lt-length-set (set (set (at-start .args .pool .now) (at-start .args .n) (at-start .args .kind)) ((at-start .args .n) + 1) (at-start .args .a)) ((at-start .args .n) + 2) (at-start .args .b)
+    (lt-length-set (set (at-start .args .pool .now) (at-start .args .n) (at-start .args .kind)) ((at-start .args .n) + 1) (at-start .args .a) (lt-length-set (at-start .args .pool .now) (at-start .args .n) (at-start .args .kind) (omega arith)))
 
 same-length : tie.Need-same-length
 same-length c = search needs
