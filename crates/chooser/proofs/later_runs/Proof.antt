@@ -79,27 +79,30 @@ add-to : tie.Need-add-to Inv-loop μ-loop
 add-to c =
     let at-run-words = c .run-words in
     let at-width-of = c .before .before .width-of in
-    let at-loop-test = c .before .before .before .before .loop-test in
-    let at-loop = c .before .before .before .before .before .loop in
-    let at-start = c .before .before .before .before .before .before .before in
+    let to-loop-test = c .before .before .before .before in
+    let at-loop-test = to-loop-test .loop-test in
+    let at-loop = to-loop-test .before .loop in
+    let at-start = to-loop-test .before .before .before in
     let s = run.run-stretch (at-start .args .ws .now) (at-start .args .first) (at-loop .at) _ (at-loop .top) (at-loop .inv) (at-start .pre .0) (at-loop-test .taken) (ap (λ (x : ℕ). at-loop .at + x) (at-width-of .ensures)) _ _ refl (at-run-words .ensures .0) in omega (arith, s .few, s .inside)
 
 with-run-requires : tie.Need-with-run-requires Inv-loop μ-loop
 with-run-requires c κs =
     let at-run-words = c .run-words in
     let at-width-of = c .before .before .width-of in
-    let at-loop-test = c .before .before .before .before .loop-test in
-    let at-loop = c .before .before .before .before .before .loop in
-    let at-start = c .before .before .before .before .before .before .before in
+    let to-loop-test = c .before .before .before .before in
+    let at-loop-test = to-loop-test .loop-test in
+    let at-loop = to-loop-test .before .loop in
+    let at-start = to-loop-test .before .before .before in
     (run.run-stretch (at-start .args .ws .now) (at-start .args .first) (at-loop .at) _ (at-loop .top) (at-loop .inv) (at-start .pre .0) (at-loop-test .taken) (ap (λ (x : ℕ). at-loop .at + x) (at-width-of .ensures)) _ _ refl (at-run-words .ensures .0), (at-loop .inv) .kept)
 
 loop-less : tie.Need-loop-less Inv-loop μ-loop
 loop-less c =
     let at-run-words = c .before .run-words in
     let at-width-of = c .before .before .before .width-of in
-    let at-loop-test = c .before .before .before .before .before .loop-test in
-    let at-loop = c .before .before .before .before .before .before .loop in
-    let at-start = c .before .before .before .before .before .before .before .before in
+    let to-loop-test = c .before .before .before .before .before in
+    let at-loop-test = to-loop-test .loop-test in
+    let at-loop = to-loop-test .before .loop in
+    let at-start = to-loop-test .before .before .before in
     let f = run.from-fits (at-start .args .ws .now) (at-start .args .first) (at-loop .at) _ (at-loop .top) (at-loop .inv) (at-start .pre .0) (at-loop-test .taken)
     (ap (λ (x : ℕ). at-loop .at + x) (at-width-of .ensures)) in
     let s = run.run-stretch (at-start .args .ws .now) (at-start .args .first) (at-loop .at) _ (at-loop .top) (at-loop .inv) (at-start .pre .0) (at-loop-test .taken)
@@ -110,9 +113,10 @@ loop-again c =
     let at-with-run = c .with-run in
     let at-run-words = c .before .run-words in
     let at-width-of = c .before .before .before .width-of in
-    let at-loop-test = c .before .before .before .before .before .loop-test in
-    let at-loop = c .before .before .before .before .before .before .loop in
-    let at-start = c .before .before .before .before .before .before .before .before in
+    let to-loop-test = c .before .before .before .before .before in
+    let at-loop-test = to-loop-test .loop-test in
+    let at-loop = to-loop-test .before .loop in
+    let at-start = to-loop-test .before .before .before in
     run.asked-more (at-start .args .ws .now) (at-start .args .first) (at-loop .at) _ (at-loop .top) (at-loop .inv) (at-start .pre .0) (at-loop-test .taken) (ap (λ (x : ℕ). at-loop .at + x) (at-width-of .ensures)) _ _ refl (at-run-words .ensures .0) (at-with-run .result) (at-with-run .ensures .0) (at-with-run .ensures .1)
 
 returns : tie.Need-returns Inv-loop μ-loop

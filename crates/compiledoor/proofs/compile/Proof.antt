@@ -29,9 +29,10 @@ same-length-2 c = search needs
 returns-3 : tie.Need-returns-3
 returns-3 c =
     let at-compile-text = c .before .before .before .before .compile-text in
-    let at-if2 = c .before .before .before .before .before .before .before .if2 in
-    let at-if1 = c .before .before .before .before .before .before .before .before .if1 in
-    let at-start = c .before .before .before .before .before .before .before .before .before .before .before .before in
+    let to-if2 = c .before .before .before .before .before .before .before in
+    let at-if2 = to-if2 .if2 in
+    let at-if1 = to-if2 .before .if1 in
+    let at-start = to-if2 .before .before .before .before .before in
     law.door-text (at-start .args .text .now) (compileSaid (at-compile-text .result))
     (at-start .args .forward .now) (at-compile-text .last .1 .0)
     (at-start .args .reverse .now) (at-compile-text .last .1 .1 .0)

@@ -68,9 +68,10 @@ returns : tie.Need-returns
 returns c =
     let at-answer-of = c .answer-of in
     let at-compile-tokens = c .before .before .before .before .before .compile-tokens in
-    let at-r = c .before .before .before .before .before .before .before .before .before .before .before .r in
-    let at-read = c .before .before .before .before .before .before .before .before .before .before .before .before .before .before .read in
-    let at-start = c .before .before .before .before .before .before .before .before .before .before .before .before .before .before .before .before .before .before .before in
+    let to-r = c .before .before .before .before .before .before .before .before .before .before .before in
+    let at-r = to-r .r in
+    let at-read = to-r .before .before .before .read in
+    let at-start = to-r .before .before .before .before .before .before .before .before in
     let g = law.got (at-start .args .text .now) _
     (at-read .last .1 .0)
     (at-read .result)
@@ -96,9 +97,10 @@ same-length-4 c = search needs
 returns-2 : tie.Need-returns-2
 returns-2 c =
     let at-clear = c .before .before .before .before .clear in
-    let at-r2 = c .before .before .before .before .before .before .before .before .r2 in
-    let at-read = c .before .before .before .before .before .before .before .before .before .before .before .read in
-    let at-start = c .before .before .before .before .before .before .before .before .before .before .before .before .before .before .before .before in
+    let to-r2 = c .before .before .before .before .before .before .before .before in
+    let at-r2 = to-r2 .r2 in
+    let at-read = to-r2 .before .before .before .read in
+    let at-start = to-r2 .before .before .before .before .before .before .before .before in
     law.text-refused (at-start .args .text .now)
     (at-r2 .given .0 .0) (at-r2 .given .0 .1 .0)
     (at-start .args .forward .now)

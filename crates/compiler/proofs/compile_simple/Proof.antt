@@ -51,8 +51,9 @@ part-add-tokens-start-2 c = search needs
 
 part-add-tokens-end-2 : tie.Need-part-add-tokens-end-2
 part-add-tokens-end-2 c =
-    let at-find-starts = c .before .before .before .before .before .before .before .find-starts in
-    let at-start = c .before .before .before .before .before .before .before .before .before .before .before .before in
+    let to-find-starts = c .before .before .before .before .before .before .before in
+    let at-find-starts = to-find-starts .find-starts in
+    let at-start = to-find-starts .before .before .before .before .before in
     let k : length (at-find-starts .last .1 .0) ≡ entryLimit = at-find-starts .kept .1 .0 in let c = law.count-fits (at-start .args .tokens .now) ((at-start .pre .0) .tokens) ((at-start .pre .0) .entered) ((at-start .pre .0) .short) (at-find-starts .result) ((at-find-starts .ensures ((at-start .pre .0) .tokens) ((at-start .pre .0) .entered)) .0) in omega arith
 
 slice-aggregate-add-tokens-2 : tie.Need-slice-aggregate-add-tokens-2
@@ -81,9 +82,10 @@ slice-aggregate-finish-2 c = search needs
 finish-requires : tie.Need-finish-requires
 finish-requires c κs =
     let at-add-tokens2 = c .before .before .before .before .before .before .add-tokens2 in
-    let at-add-tokens = c .before .before .before .before .before .before .before .before .before .before .before .add-tokens in
-    let at-find-starts = c .before .before .before .before .before .before .before .before .before .before .before .before .before .before .before .before .find-starts in
-    let at-start = c .before .before .before .before .before .before .before .before .before .before .before .before .before .before .before .before .before .before .before .before .before in
+    let to-add-tokens = c .before .before .before .before .before .before .before .before .before .before .before in
+    let at-add-tokens = to-add-tokens .add-tokens in
+    let at-find-starts = to-add-tokens .before .before .before .before .before .find-starts in
+    let at-start = to-add-tokens .before .before .before .before .before .before .before .before .before .before in
     let l = (at-start .pre .0) .short in
     let a = law.program-few (at-start .args .tokens .now) ((at-start .pre .0) .tokens) ((at-start .pre .0) .entered) ((at-start .pre .0) .spelled)
     (at-start .pre .1 ((at-start .pre .0) .tokens) ((at-start .pre .0) .entered)) (at-find-starts .result) _ _
@@ -103,11 +105,13 @@ same-length-2 c = search needs
 returns : tie.Need-returns
 returns c =
     let at-finish = c .before .before .before .before .finish in
-    let at-either = c .before .before .before .before .before .before .before .before .before .either in
-    let at-add-tokens2 = c .before .before .before .before .before .before .before .before .before .before .before .add-tokens2 in
-    let at-add-tokens = c .before .before .before .before .before .before .before .before .before .before .before .before .before .before .before .before .add-tokens in
-    let at-find-starts = c .before .before .before .before .before .before .before .before .before .before .before .before .before .before .before .before .before .before .before .before .before .find-starts in
-    let at-start = c .before .before .before .before .before .before .before .before .before .before .before .before .before .before .before .before .before .before .before .before .before .before .before .before .before .before in
+    let to-either = c .before .before .before .before .before .before .before .before .before in
+    let at-either = to-either .either in
+    let at-add-tokens2 = to-either .before .before .add-tokens2 in
+    let to-add-tokens = to-either .before .before .before .before .before .before .before in
+    let at-add-tokens = to-add-tokens .add-tokens in
+    let at-find-starts = to-add-tokens .before .before .before .before .before .find-starts in
+    let at-start = to-add-tokens .before .before .before .before .before .before .before .before .before .before in
     λ ts e s. let q = at-find-starts .ensures ts e in subst
     (λ (x : Compiled). Fills x (at-finish .result) (at-start .args .forward .now) (at-finish .last .1 .1 .1 .1 .1 .0) (at-start .args .reverse .now) (at-finish .last .1 .1 .1 .1 .1 .1 .0))
     (law.emitted (at-start .args .tokens .now) ts e s (at-start .pre .1 ts e) (at-find-starts .result) _ _ (q .0) (q .1) _ _ _ _ (at-add-tokens .result .count) (at-add-tokens2 .result .count)

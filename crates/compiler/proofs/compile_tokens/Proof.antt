@@ -20,9 +20,10 @@ same-length-2 c = search needs
 returns : tie.Need-returns
 returns c =
     let at-clear = c .before .before .before .before .clear in
-    let at-if1 = c .before .before .before .before .before .before .before .if1 in
-    let at-simple-tokens = c .before .before .before .before .before .before .before .before .simple-tokens in
-    let at-start = c .before .before .before .before .before .before .before .before .before .before .before .before in
+    let to-if1 = c .before .before .before .before .before .before .before in
+    let at-if1 = to-if1 .if1 in
+    let at-simple-tokens = to-if1 .before .simple-tokens in
+    let at-start = to-if1 .before .before .before .before .before in
     λ ts e s. law.not-simple-made ts (at-start .args .forward .now) _ (at-start .args .reverse .now) _ (sym (at-simple-tokens .ensures ts e) ∙ at-if1 .left) (at-clear .ensures .0) (at-clear .ensures .1)
 
 compile-simple-requires : tie.Need-compile-simple-requires

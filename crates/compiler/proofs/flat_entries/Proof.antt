@@ -58,8 +58,9 @@ loop-again : tie.Need-loop-again Inv-loop μ-loop
 loop-again c =
     let at-if1 = c .before .if1 in
     let at-flat-entry = c .before .before .flat-entry in
-    let at-loop-test = c .before .before .before .before .before .before .before .loop-test in
-    let at-loop = c .before .before .before .before .before .before .before .before .loop in
+    let to-loop-test = c .before .before .before .before .before .before .before in
+    let at-loop-test = to-loop-test .loop-test in
+    let at-loop = to-loop-test .before .loop in
     (simp (length-take, length-drop) (omega arith), at-loop .inv .1 ∙ law.flat-step (at-loop .rest .now) (at-loop-test .taken) ∙ ap (λ (t : Bool). t && (flatEntries (take (length (at-loop .rest .now) - 4) (drop 4 (at-loop .rest .now))))) (sym (sym (at-if1 .taken) ∙ at-flat-entry .ensures)))
 
 returns-2 : tie.Need-returns-2 Inv-loop μ-loop

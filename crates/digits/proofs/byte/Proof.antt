@@ -57,29 +57,33 @@ returns-2 c =
     let at-enum-told2 = c .enum-told2 in
     let at-hex-digit2 = c .before .before .hex-digit2 in
     let at-peek2 = c .before .before .before .peek2 in
-    let at-high = c .before .before .before .before .before .high in
-    let at-hex-digit = c .before .before .before .before .before .before .before .hex-digit in
-    let at-peek = c .before .before .before .before .before .before .before .before .peek in
-    let at-start = c .before .before .before .before .before .before .before .before .before .before in
+    let to-high = c .before .before .before .before .before in
+    let at-high = to-high .high in
+    let at-hex-digit = to-high .before .before .hex-digit in
+    let at-peek = to-high .before .before .before .peek in
+    let at-start = to-high .before .before .before .before .before in
     sym (byte-half (at-start .args .text .now) (at-start .args .at) (ap digit (sym (at-peek .ensures)) ∙ sym (at-hex-digit .ensures) ∙ ap valueOf (at-high .given .1)) (ap digit (sym (at-peek2 .ensures)) ∙ sym (at-hex-digit2 .ensures) ∙ ap valueOf (at-enum-told2 .given .1)))
 
 mul-t6 : tie.Need-mul-t6
 mul-t6 c =
-    let at-high = c .before .before .before .before .before .before .high in
-    let at-hex-digit = c .before .before .before .before .before .before .before .before .hex-digit in
-    let at-peek = c .before .before .before .before .before .before .before .before .before .peek in
-    let at-start = c .before .before .before .before .before .before .before .before .before .before .before in
+    let to-high = c .before .before .before .before .before .before in
+    let at-high = to-high .high in
+    let at-hex-digit = to-high .before .before .hex-digit in
+    let at-peek = to-high .before .before .before .peek in
+    let at-start = to-high .before .before .before .before .before in
     omega (arith, digit-small (getD (at-start .args .text .now) (at-start .args .at) 0) (at-high .given .0 .0) (ap digit (sym (at-peek .ensures)) ∙ sym (at-hex-digit .ensures) ∙ ap valueOf (at-high .given .1)))
 
 add-t9 : tie.Need-add-t9
 add-t9 c =
     let at-low = c .before .low in
-    let at-hex-digit2 = c .before .before .before .hex-digit2 in
-    let at-peek2 = c .before .before .before .before .peek2 in
-    let at-high = c .before .before .before .before .before .before .high in
-    let at-hex-digit = c .before .before .before .before .before .before .before .before .hex-digit in
-    let at-peek = c .before .before .before .before .before .before .before .before .before .peek in
-    let at-start = c .before .before .before .before .before .before .before .before .before .before .before in
+    let to-hex-digit2 = c .before .before .before in
+    let at-hex-digit2 = to-hex-digit2 .hex-digit2 in
+    let at-peek2 = to-hex-digit2 .before .peek2 in
+    let at-high = to-hex-digit2 .before .before .before .high in
+    let to-hex-digit = to-hex-digit2 .before .before .before .before .before in
+    let at-hex-digit = to-hex-digit .hex-digit in
+    let at-peek = to-hex-digit .before .peek in
+    let at-start = to-hex-digit .before .before .before in
     omega (
       arith,
       digit-small (getD (at-start .args .text .now) (at-start .args .at) 0) (at-high .given .0 .0)
@@ -111,12 +115,14 @@ returns-3 : tie.Need-returns-3
 returns-3 c =
     let at-skip-blanks = c .skip-blanks in
     let at-low = c .before .before .low in
-    let at-hex-digit2 = c .before .before .before .before .hex-digit2 in
-    let at-peek2 = c .before .before .before .before .before .peek2 in
-    let at-high = c .before .before .before .before .before .before .before .high in
-    let at-hex-digit = c .before .before .before .before .before .before .before .before .before .hex-digit in
-    let at-peek = c .before .before .before .before .before .before .before .before .before .before .peek in
-    let at-start = c .before .before .before .before .before .before .before .before .before .before .before .before in
+    let to-hex-digit2 = c .before .before .before .before in
+    let at-hex-digit2 = to-hex-digit2 .hex-digit2 in
+    let at-peek2 = to-hex-digit2 .before .peek2 in
+    let at-high = to-hex-digit2 .before .before .before .high in
+    let to-hex-digit = to-hex-digit2 .before .before .before .before .before in
+    let at-hex-digit = to-hex-digit .hex-digit in
+    let at-peek = to-hex-digit .before .peek in
+    let at-start = to-hex-digit .before .before .before in
     ap (λ (e : ℕ). found (whole (16 * (at-high .given .0 .0) + at-low .given .0 .0)) ((at-start .args .at) + 2) e) (at-skip-blanks .ensures)
     ∙ sym (byte-both (at-start .args .text .now) (at-start .args .at) (ap digit (sym (at-peek .ensures)) ∙ sym (at-hex-digit .ensures) ∙ ap valueOf (at-high .given .1))
     (ap digit (sym (at-peek2 .ensures)) ∙ sym (at-hex-digit2 .ensures) ∙ ap valueOf (at-low .given .1)))

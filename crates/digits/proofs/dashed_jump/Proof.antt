@@ -54,11 +54,12 @@ unfolding upperAt
 returns-2 c =
     let at-closed-jump = c .closed-jump in
     let at-to = c .before .before .to in
-    let at-number = c .before .before .before .before .number in
-    let at-skip-blanks = c .before .before .before .before .before .skip-blanks in
-    let at-if1 = c .before .before .before .before .before .before .if1 in
-    let at-peek = c .before .before .before .before .before .before .before .peek in
-    let at-start = c .before .before .before .before .before .before .before .before .before in
+    let to-number = c .before .before .before .before in
+    let at-number = to-number .number in
+    let at-skip-blanks = to-number .before .skip-blanks in
+    let at-if1 = to-number .before .before .if1 in
+    let at-peek = to-number .before .before .before .peek in
+    let at-start = to-number .before .before .before .before .before in
     at-closed-jump .ensures ∙ sym (dash-at (at-start .args .text .now) (at-start .args .at) (at-start .args .from) (at-start .args .x) (at-skip-blanks .result) (sym (at-peek .ensures) ∙ at-if1 .left) (at-skip-blanks .ensures) (sym (at-number .ensures) ∙ ap (numbered (at-skip-blanks .result)) (at-to .given .1)))
 
 returns-3 : tie.Need-returns-3
@@ -66,11 +67,12 @@ unfolding upperAt
 returns-3 c =
     let at-closed-jump2 = c .closed-jump2 in
     let at-enum-told = c .before .enum-told in
-    let at-number = c .before .before .before .number in
-    let at-skip-blanks = c .before .before .before .before .skip-blanks in
-    let at-if1 = c .before .before .before .before .before .if1 in
-    let at-peek = c .before .before .before .before .before .before .peek in
-    let at-start = c .before .before .before .before .before .before .before .before in
+    let to-number = c .before .before .before in
+    let at-number = to-number .number in
+    let at-skip-blanks = to-number .before .skip-blanks in
+    let at-if1 = to-number .before .before .if1 in
+    let at-peek = to-number .before .before .before .peek in
+    let at-start = to-number .before .before .before .before .before in
     at-closed-jump2 .ensures ∙ sym (dash-at (at-start .args .text .now) (at-start .args .at) (at-start .args .from) (at-start .args .x) (at-skip-blanks .result) (sym (at-peek .ensures) ∙ at-if1 .left) (at-skip-blanks .ensures) (sym (at-number .ensures) ∙ ap (numbered (at-skip-blanks .result)) (at-enum-told .given .1)))
 
 returns-4 : tie.Need-returns-4
@@ -78,10 +80,11 @@ unfolding upperAt
 returns-4 c =
     let at-enum-told2 = c .enum-told2 in
     let at-number = c .before .before .number in
-    let at-skip-blanks = c .before .before .before .skip-blanks in
-    let at-if1 = c .before .before .before .before .if1 in
-    let at-peek = c .before .before .before .before .before .peek in
-    let at-start = c .before .before .before .before .before .before .before in
+    let to-skip-blanks = c .before .before .before in
+    let at-skip-blanks = to-skip-blanks .skip-blanks in
+    let at-if1 = to-skip-blanks .before .if1 in
+    let at-peek = to-skip-blanks .before .before .peek in
+    let at-start = to-skip-blanks .before .before .before .before in
     sym (dash-at (at-start .args .text .now) (at-start .args .at) (at-start .args .from) (at-start .args .x) (at-skip-blanks .result) (sym (at-peek .ensures) ∙ at-if1 .left) (at-skip-blanks .ensures) (sym (at-number .ensures) ∙ ap (numbered (at-skip-blanks .result)) (at-enum-told2 .given .1)))
 
 pub dashed-jump-spec : {M : Type 1} → statement M

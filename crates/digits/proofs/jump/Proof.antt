@@ -26,9 +26,10 @@ returns : tie.Need-returns
 returns c =
     let at-if1 = c .if1 in
     let at-enum-told = c .before .enum-told in
-    let at-b = c .before .before .before .before .b in
-    let at-range = c .before .before .before .before .before .before .range in
-    let at-start = c .before .before .before .before .before .before .before .before in
+    let to-b = c .before .before .before .before in
+    let at-b = to-b .b in
+    let at-range = to-b .before .before .range in
+    let at-start = to-b .before .before .before .before in
     sym (ap (jumped (at-start .args .inside) (at-start .args .at))
     (sym (at-range .ensures) ∙ ap ranged (at-b .given .1)
     ∙ ap (λ (u : Upper). found (between (at-b .given .0 .0) (upperOf u)) (at-b .given .0 .1 .1 .0) (at-b .given .0 .1 .1 .1 .0)) (at-enum-told .given .1))
@@ -38,9 +39,10 @@ returns-2 : tie.Need-returns-2
 returns-2 c =
     let at-if1 = c .if1 in
     let at-enum-told = c .before .enum-told in
-    let at-b = c .before .before .before .before .b in
-    let at-range = c .before .before .before .before .before .before .range in
-    let at-start = c .before .before .before .before .before .before .before .before in
+    let to-b = c .before .before .before .before in
+    let at-b = to-b .b in
+    let at-range = to-b .before .before .range in
+    let at-start = to-b .before .before .before .before in
     sym (ap (jumped (at-start .args .inside) (at-start .args .at))
     (sym (at-range .ensures) ∙ ap ranged (at-b .given .1)
     ∙ ap (λ (u : Upper). found (between (at-b .given .0 .0) (upperOf u)) (at-b .given .0 .1 .1 .0) (at-b .given .0 .1 .1 .1 .0)) (at-enum-told .given .1))
@@ -54,9 +56,10 @@ returns-3 c =
     let at-if2 = c .if2 in
     let at-inside-too-big = c .before .inside-too-big in
     let at-to = c .before .before .before .to in
-    let at-b = c .before .before .before .before .before .before .b in
-    let at-range = c .before .before .before .before .before .before .before .before .range in
-    let at-start = c .before .before .before .before .before .before .before .before .before .before in
+    let to-b = c .before .before .before .before .before .before in
+    let at-b = to-b .b in
+    let at-range = to-b .before .before .range in
+    let at-start = to-b .before .before .before .before in
     sym (ap (jumped (at-start .args .inside) (at-start .args .at))
     (sym (at-range .ensures) ∙ ap ranged (at-b .given .1)
     ∙ ap (λ (u : Upper). found (between (at-b .given .0 .0) (upperOf u)) (at-b .given .0 .1 .1 .0) (at-b .given .0 .1 .1 .1 .0)) (at-to .given .1))
@@ -78,9 +81,10 @@ returns-4 c =
     let at-if2 = c .before .if2 in
     let at-inside-too-big = c .before .before .inside-too-big in
     let at-to = c .before .before .before .before .to in
-    let at-b = c .before .before .before .before .before .before .before .b in
-    let at-range = c .before .before .before .before .before .before .before .before .before .range in
-    let at-start = c .before .before .before .before .before .before .before .before .before .before .before in
+    let to-b = c .before .before .before .before .before .before .before in
+    let at-b = to-b .b in
+    let at-range = to-b .before .before .range in
+    let at-start = to-b .before .before .before .before in
     ap (λ (k : Token). found k (at-b .given .0 .1 .1 .0) (at-b .given .0 .1 .1 .1 .0)) (at-one-jump .ensures)
     ∙ sym (ap (jumped (at-start .args .inside) (at-start .args .at))
     (sym (at-range .ensures) ∙ ap ranged (at-b .given .1)

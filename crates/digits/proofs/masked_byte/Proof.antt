@@ -67,11 +67,12 @@ returns-2 : tie.Need-returns-2
 returns-2 c =
     let at-enum-told = c .enum-told in
     let at-hex-digit = c .before .before .hex-digit in
-    let at-if2 = c .before .before .before .if2 in
-    let at-peek2 = c .before .before .before .before .peek2 in
-    let at-if1 = c .before .before .before .before .before .if1 in
-    let at-peek = c .before .before .before .before .before .before .peek in
-    let at-start = c .before .before .before .before .before .before .before .before in
+    let to-if2 = c .before .before .before in
+    let at-if2 = to-if2 .if2 in
+    let at-peek2 = to-if2 .before .peek2 in
+    let at-if1 = to-if2 .before .before .if1 in
+    let at-peek = to-if2 .before .before .before .peek in
+    let at-start = to-if2 .before .before .before .before .before in
     sym (masked-no-left (at-start .args .text .now) (at-start .args .at) (sym (at-peek .ensures) ∙ at-if1 .taken) (λ z. at-if2 .left (at-peek2 .ensures ∙ z)) (ap digit (sym (at-peek2 .ensures)) ∙ sym (at-hex-digit .ensures) ∙ ap valueOf (at-enum-told .given .1)))
 
 add-t8 : tie.Need-add-t8
@@ -97,12 +98,13 @@ returns-3 : tie.Need-returns-3
 returns-3 c =
     let at-skip-blanks2 = c .skip-blanks2 in
     let at-low = c .before .before .low in
-    let at-hex-digit = c .before .before .before .before .hex-digit in
-    let at-if2 = c .before .before .before .before .before .if2 in
-    let at-peek2 = c .before .before .before .before .before .before .peek2 in
-    let at-if1 = c .before .before .before .before .before .before .before .if1 in
-    let at-peek = c .before .before .before .before .before .before .before .before .peek in
-    let at-start = c .before .before .before .before .before .before .before .before .before .before in
+    let to-hex-digit = c .before .before .before .before in
+    let at-hex-digit = to-hex-digit .hex-digit in
+    let at-if2 = to-hex-digit .before .if2 in
+    let at-peek2 = to-hex-digit .before .before .peek2 in
+    let at-if1 = to-hex-digit .before .before .before .if1 in
+    let at-peek = to-hex-digit .before .before .before .before .peek in
+    let at-start = to-hex-digit .before .before .before .before .before .before in
     ap (λ (e : ℕ). found (masked (at-low .given .0 .0) left) ((at-start .args .at) + 2) e) (at-skip-blanks2 .ensures) ∙ sym (masked-left (at-start .args .text .now) (at-start .args .at) (sym (at-peek .ensures) ∙ at-if1 .taken) (λ z. at-if2 .left (at-peek2 .ensures ∙ z)) (ap digit (sym (at-peek2 .ensures)) ∙ sym (at-hex-digit .ensures) ∙ ap valueOf (at-low .given .1)))
 
 hex-digit-requires-2 : tie.Need-hex-digit-requires-2
@@ -138,9 +140,10 @@ returns-5 : tie.Need-returns-5
 returns-5 c =
     let at-if3 = c .if3 in
     let at-peek3 = c .before .peek3 in
-    let at-if1 = c .before .before .before .before .before .before .if1 in
-    let at-peek = c .before .before .before .before .before .before .before .peek in
-    let at-start = c .before .before .before .before .before .before .before .before .before in
+    let to-if1 = c .before .before .before .before .before .before in
+    let at-if1 = to-if1 .if1 in
+    let at-peek = to-if1 .before .peek in
+    let at-start = to-if1 .before .before .before in
     sym (masked-other (at-start .args .text .now) (at-start .args .at) (λ z. at-if1 .left (at-peek .ensures ∙ z)) (λ z. at-if3 .taken (at-peek3 .ensures ∙ z)))
 
 add-t20 : tie.Need-add-t20
@@ -166,10 +169,11 @@ returns-6 c =
     let at-if3 = c .before .if3 in
     let at-peek3 = c .before .before .peek3 in
     let at-high = c .before .before .before .before .high in
-    let at-hex-digit2 = c .before .before .before .before .before .before .hex-digit2 in
-    let at-if1 = c .before .before .before .before .before .before .before .if1 in
-    let at-peek = c .before .before .before .before .before .before .before .before .peek in
-    let at-start = c .before .before .before .before .before .before .before .before .before .before in
+    let to-hex-digit2 = c .before .before .before .before .before .before in
+    let at-hex-digit2 = to-hex-digit2 .hex-digit2 in
+    let at-if1 = to-hex-digit2 .before .if1 in
+    let at-peek = to-hex-digit2 .before .before .peek in
+    let at-start = to-hex-digit2 .before .before .before .before in
     ap (λ (e : ℕ). found (masked (at-high .given .0 .0) right) ((at-start .args .at) + 2) e) (at-skip-blanks3 .ensures) ∙ sym (masked-right (at-start .args .text .now) (at-start .args .at) (λ z. at-if1 .left (at-peek .ensures ∙ z)) (ap digit (sym (at-peek .ensures)) ∙ sym (at-hex-digit2 .ensures) ∙ ap valueOf (at-high .given .1)) (sym (at-peek3 .ensures) ∙ at-if3 .left))
 
 pub masked-byte-spec : {M : Type 1} → statement M

@@ -62,10 +62,11 @@ returns-2 : tie.Need-returns-2
 unfolding negated
 returns-2 c =
     let at-h = c .before .h in
-    let at-hex-byte = c .before .before .before .hex-byte in
-    let at-if1 = c .before .before .before .before .if1 in
-    let at-peek = c .before .before .before .before .before .peek in
-    let at-start = c .before .before .before .before .before .before .before in
+    let to-hex-byte = c .before .before .before in
+    let at-hex-byte = to-hex-byte .hex-byte in
+    let at-if1 = to-hex-byte .before .if1 in
+    let at-peek = to-hex-byte .before .before .peek in
+    let at-start = to-hex-byte .before .before .before .before in
     sym (not-hex (at-start .args .text .now) (at-start .args .at) (sym (at-peek .ensures) ∙ at-if1 .left) (sym (at-hex-byte .ensures) ∙ ap spelled (at-h .given .1)))
 
 returns-3 : tie.Need-returns-3
@@ -73,10 +74,11 @@ unfolding negated
 returns-3 c =
     let at-enum-told = c .enum-told in
     let at-h2 = c .before .before .before .h2 in
-    let at-hex-byte = c .before .before .before .before .before .hex-byte in
-    let at-if1 = c .before .before .before .before .before .before .if1 in
-    let at-peek = c .before .before .before .before .before .before .before .peek in
-    let at-start = c .before .before .before .before .before .before .before .before .before in
+    let to-hex-byte = c .before .before .before .before .before in
+    let at-hex-byte = to-hex-byte .hex-byte in
+    let at-if1 = to-hex-byte .before .if1 in
+    let at-peek = to-hex-byte .before .before .peek in
+    let at-start = to-hex-byte .before .before .before .before in
     sym (not-hex (at-start .args .text .now) (at-start .args .at) (sym (at-peek .ensures) ∙ at-if1 .left) (sym (at-hex-byte .ensures) ∙ ap spelled (at-h2 .given .1 ∙ ap (λ (m : Mask). spelling.Masked (at-h2 .given .0 .0) m (at-h2 .given .0 .1 .1 .0) (at-h2 .given .0 .1 .1 .1 .0)) (at-enum-told .given .1))))
 
 returns-4 : tie.Need-returns-4
@@ -84,10 +86,11 @@ unfolding negated
 returns-4 c =
     let at-enum-told2 = c .enum-told2 in
     let at-h2 = c .before .before .before .h2 in
-    let at-hex-byte = c .before .before .before .before .before .hex-byte in
-    let at-if1 = c .before .before .before .before .before .before .if1 in
-    let at-peek = c .before .before .before .before .before .before .before .peek in
-    let at-start = c .before .before .before .before .before .before .before .before .before in
+    let to-hex-byte = c .before .before .before .before .before in
+    let at-hex-byte = to-hex-byte .hex-byte in
+    let at-if1 = to-hex-byte .before .if1 in
+    let at-peek = to-hex-byte .before .before .peek in
+    let at-start = to-hex-byte .before .before .before .before in
     sym (not-hex (at-start .args .text .now) (at-start .args .at) (sym (at-peek .ensures) ∙ at-if1 .left) (sym (at-hex-byte .ensures) ∙ ap spelled (at-h2 .given .1 ∙ ap (λ (m : Mask). spelling.Masked (at-h2 .given .0 .0) m (at-h2 .given .0 .1 .1 .0) (at-h2 .given .0 .1 .1 .1 .0)) (at-enum-told2 .given .1))))
 
 returns-5 : tie.Need-returns-5
@@ -95,10 +98,11 @@ unfolding negated
 returns-5 c =
     let at-enum-told3 = c .enum-told3 in
     let at-h2 = c .before .before .before .h2 in
-    let at-hex-byte = c .before .before .before .before .before .hex-byte in
-    let at-if1 = c .before .before .before .before .before .before .if1 in
-    let at-peek = c .before .before .before .before .before .before .before .peek in
-    let at-start = c .before .before .before .before .before .before .before .before .before in
+    let to-hex-byte = c .before .before .before .before .before in
+    let at-hex-byte = to-hex-byte .hex-byte in
+    let at-if1 = to-hex-byte .before .if1 in
+    let at-peek = to-hex-byte .before .before .peek in
+    let at-start = to-hex-byte .before .before .before .before in
     sym (not-hex (at-start .args .text .now) (at-start .args .at) (sym (at-peek .ensures) ∙ at-if1 .left) (sym (at-hex-byte .ensures) ∙ ap spelled (at-h2 .given .1 ∙ ap (λ (m : Mask). spelling.Masked (at-h2 .given .0 .0) m (at-h2 .given .0 .1 .1 .0) (at-h2 .given .0 .1 .1 .1 .0)) (at-enum-told3 .given .1))))
 
 returns-6 : tie.Need-returns-6

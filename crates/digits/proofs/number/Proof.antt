@@ -57,11 +57,12 @@ returns-2 c =
     let at-if2 = c .before .if2 in
     let at-in-range2 = c .before .before .in-range2 in
     let at-peek2 = c .before .before .before .peek2 in
-    let at-loop = c .before .before .before .before .loop in
-    let at-if1 = c .before .before .before .before .before .if1 in
-    let at-in-range = c .before .before .before .before .before .before .in-range in
-    let at-peek = c .before .before .before .before .before .before .before .peek in
-    let at-start = c .before .before .before .before .before .before .before .before .before in
+    let to-loop = c .before .before .before .before in
+    let at-loop = to-loop .loop in
+    let at-if1 = to-loop .before .if1 in
+    let at-in-range = to-loop .before .before .in-range in
+    let at-peek = to-loop .before .before .before .peek in
+    let at-start = to-loop .before .before .before .before .before in
     let z = number-none (at-start .args .text .now) (at-loop .value) (at-loop .i)
     (ap decimal (sym (at-peek2 .ensures)) ∙ sym (at-in-range2 .ensures) ∙ not-true (at-in-range2 .result) (at-if2 .taken)) in
     let w = at-loop .inv .1 in
@@ -102,13 +103,15 @@ returns-3 c =
     let at-if3 = c .if3 in
     let at-wide = c .before .wide in
     let at-if2 = c .before .before .if2 in
-    let at-in-range2 = c .before .before .before .in-range2 in
-    let at-peek2 = c .before .before .before .before .peek2 in
-    let at-loop = c .before .before .before .before .before .loop in
-    let at-if1 = c .before .before .before .before .before .before .if1 in
-    let at-in-range = c .before .before .before .before .before .before .before .in-range in
-    let at-peek = c .before .before .before .before .before .before .before .before .peek in
-    let at-start = c .before .before .before .before .before .before .before .before .before .before in
+    let to-in-range2 = c .before .before .before in
+    let at-in-range2 = to-in-range2 .in-range2 in
+    let at-peek2 = to-in-range2 .before .peek2 in
+    let at-loop = to-in-range2 .before .before .loop in
+    let to-if1 = to-in-range2 .before .before .before in
+    let at-if1 = to-if1 .if1 in
+    let at-in-range = to-if1 .before .in-range in
+    let at-peek = to-if1 .before .before .peek in
+    let at-start = to-if1 .before .before .before .before in
     let p = at-peek2 .ensures in
     let d = within-true (code "0") (code "9") (getD (at-start .args .text .now) (at-loop .i) 0)
     (ap decimal (sym (at-peek2 .ensures)) ∙ sym (at-in-range2 .ensures) ∙ not-false (at-in-range2 .result) (at-if2 .left)) in
@@ -125,19 +128,21 @@ returns-3 c =
 add-i : tie.Need-add-i Inv-loop μ-loop
 add-i c =
     let at-if2 = c .before .before .if2 in
-    let at-in-range2 = c .before .before .before .in-range2 in
-    let at-peek2 = c .before .before .before .before .peek2 in
-    let at-loop = c .before .before .before .before .before .loop in
-    let at-start = c .before .before .before .before .before .before .before .before .before .before in
+    let to-in-range2 = c .before .before .before in
+    let at-in-range2 = to-in-range2 .in-range2 in
+    let at-peek2 = to-in-range2 .before .peek2 in
+    let at-loop = to-in-range2 .before .before .loop in
+    let at-start = to-in-range2 .before .before .before .before .before .before .before in
     omega (arith, here-in (at-start .args .text .now) (at-loop .i) (omega (arith, within-true (code "0") (code "9") (getD (at-start .args .text .now) (at-loop .i) 0) (ap decimal (sym (at-peek2 .ensures)) ∙ sym (at-in-range2 .ensures) ∙ not-false (at-in-range2 .result) (at-if2 .left)))))
 
 loop-less : tie.Need-loop-less Inv-loop μ-loop
 loop-less c =
     let at-if2 = c .before .before .if2 in
-    let at-in-range2 = c .before .before .before .in-range2 in
-    let at-peek2 = c .before .before .before .before .peek2 in
-    let at-loop = c .before .before .before .before .before .loop in
-    let at-start = c .before .before .before .before .before .before .before .before .before .before in
+    let to-in-range2 = c .before .before .before in
+    let at-in-range2 = to-in-range2 .in-range2 in
+    let at-peek2 = to-in-range2 .before .peek2 in
+    let at-loop = to-in-range2 .before .before .loop in
+    let at-start = to-in-range2 .before .before .before .before .before .before .before in
     omega (arith, here-in (at-start .args .text .now) (at-loop .i) (omega (arith, within-true (code "0") (code "9") (getD (at-start .args .text .now) (at-loop .i) 0) (ap decimal (sym (at-peek2 .ensures)) ∙ sym (at-in-range2 .ensures) ∙ not-false (at-in-range2 .result) (at-if2 .left)))))
 
 loop-again : tie.Need-loop-again Inv-loop μ-loop
@@ -145,10 +150,11 @@ loop-again c =
     let at-if3 = c .if3 in
     let at-wide = c .before .wide in
     let at-if2 = c .before .before .if2 in
-    let at-in-range2 = c .before .before .before .in-range2 in
-    let at-peek2 = c .before .before .before .before .peek2 in
-    let at-loop = c .before .before .before .before .before .loop in
-    let at-start = c .before .before .before .before .before .before .before .before .before .before in
+    let to-in-range2 = c .before .before .before in
+    let at-in-range2 = to-in-range2 .in-range2 in
+    let at-peek2 = to-in-range2 .before .peek2 in
+    let at-loop = to-in-range2 .before .before .loop in
+    let at-start = to-in-range2 .before .before .before .before .before .before .before in
     let p = at-peek2 .ensures in
     let d = within-true (code "0") (code "9") (getD (at-start .args .text .now) (at-loop .i) 0)
     (ap decimal (sym (at-peek2 .ensures)) ∙ sym (at-in-range2 .ensures) ∙ not-false (at-in-range2 .result) (at-if2 .left)) in

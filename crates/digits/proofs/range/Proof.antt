@@ -57,11 +57,12 @@ returns-2 c =
     let at-if2 = c .before .if2 in
     let at-peek2 = c .before .before .peek2 in
     let at-from = c .before .before .before .before .from in
-    let at-number = c .before .before .before .before .before .before .number in
-    let at-skip-blanks = c .before .before .before .before .before .before .before .skip-blanks in
-    let at-if1 = c .before .before .before .before .before .before .before .before .if1 in
-    let at-peek = c .before .before .before .before .before .before .before .before .before .peek in
-    let at-start = c .before .before .before .before .before .before .before .before .before .before .before in
+    let to-number = c .before .before .before .before .before .before in
+    let at-number = to-number .number in
+    let at-skip-blanks = to-number .before .skip-blanks in
+    let at-if1 = to-number .before .before .if1 in
+    let at-peek = to-number .before .before .before .peek in
+    let at-start = to-number .before .before .before .before .before in
     at-checked-jump .ensures
     ∙ sym (range-at (at-start .args .text .now) (at-start .args .at) (at-skip-blanks .result) (sym (at-peek .ensures) ∙ at-if1 .left) (at-skip-blanks .ensures)
     (sym (at-number .ensures) ∙ ap (numbered (at-skip-blanks .result)) (at-from .given .1))
@@ -86,11 +87,12 @@ returns-3 c =
     let at-if2 = c .before .if2 in
     let at-peek2 = c .before .before .peek2 in
     let at-from = c .before .before .before .before .from in
-    let at-number = c .before .before .before .before .before .before .number in
-    let at-skip-blanks = c .before .before .before .before .before .before .before .skip-blanks in
-    let at-if1 = c .before .before .before .before .before .before .before .before .if1 in
-    let at-peek = c .before .before .before .before .before .before .before .before .before .peek in
-    let at-start = c .before .before .before .before .before .before .before .before .before .before .before in
+    let to-number = c .before .before .before .before .before .before in
+    let at-number = to-number .number in
+    let at-skip-blanks = to-number .before .skip-blanks in
+    let at-if1 = to-number .before .before .if1 in
+    let at-peek = to-number .before .before .before .peek in
+    let at-start = to-number .before .before .before .before .before in
     at-dashed-jump .ensures
     ∙ sym (range-at (at-start .args .text .now) (at-start .args .at) (at-skip-blanks .result) (sym (at-peek .ensures) ∙ at-if1 .left) (at-skip-blanks .ensures)
     (sym (at-number .ensures) ∙ ap (numbered (at-skip-blanks .result)) (at-from .given .1))
@@ -102,11 +104,12 @@ unfolding lowerAt
 returns-4 c =
     let at-dashed-jump2 = c .dashed-jump2 in
     let at-enum-told = c .before .enum-told in
-    let at-number = c .before .before .before .number in
-    let at-skip-blanks = c .before .before .before .before .skip-blanks in
-    let at-if1 = c .before .before .before .before .before .if1 in
-    let at-peek = c .before .before .before .before .before .before .peek in
-    let at-start = c .before .before .before .before .before .before .before .before in
+    let to-number = c .before .before .before in
+    let at-number = to-number .number in
+    let at-skip-blanks = to-number .before .skip-blanks in
+    let at-if1 = to-number .before .before .if1 in
+    let at-peek = to-number .before .before .before .peek in
+    let at-start = to-number .before .before .before .before .before in
     at-dashed-jump2 .ensures ∙ sym (range-at (at-start .args .text .now) (at-start .args .at) (at-skip-blanks .result) (sym (at-peek .ensures) ∙ at-if1 .left) (at-skip-blanks .ensures) (sym (at-number .ensures) ∙ ap (numbered (at-skip-blanks .result)) (at-enum-told .given .1)))
 
 returns-5 : tie.Need-returns-5
@@ -114,10 +117,11 @@ unfolding lowerAt
 returns-5 c =
     let at-enum-told2 = c .enum-told2 in
     let at-number = c .before .before .number in
-    let at-skip-blanks = c .before .before .before .skip-blanks in
-    let at-if1 = c .before .before .before .before .if1 in
-    let at-peek = c .before .before .before .before .before .peek in
-    let at-start = c .before .before .before .before .before .before .before in
+    let to-skip-blanks = c .before .before .before in
+    let at-skip-blanks = to-skip-blanks .skip-blanks in
+    let at-if1 = to-skip-blanks .before .if1 in
+    let at-peek = to-skip-blanks .before .before .peek in
+    let at-start = to-skip-blanks .before .before .before .before in
     sym (range-at (at-start .args .text .now) (at-start .args .at) (at-skip-blanks .result) (sym (at-peek .ensures) ∙ at-if1 .left) (at-skip-blanks .ensures) (sym (at-number .ensures) ∙ ap (numbered (at-skip-blanks .result)) (at-enum-told2 .given .1)))
 
 pub range-spec : {M : Type 1} → statement M

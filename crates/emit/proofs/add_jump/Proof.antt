@@ -41,9 +41,10 @@ same-length-2 c = search needs
 returns-2 : tie.Need-returns-2
 returns-2 c =
     let at-append-jump2 = c .before .before .append-jump2 in
-    let at-if1 = c .before .before .before .before .if1 in
-    let at-last = c .before .before .before .before .before .before .last in
-    let at-start = c .before .before .before .before .before .before .before .before .before in
+    let to-if1 = c .before .before .before .before in
+    let at-if1 = to-if1 .if1 in
+    let at-last = to-if1 .before .before .last in
+    let at-start = to-if1 .before .before .before .before .before in
     let q = law.put-over (at-start .args .out .now) (at-start .args .n) (at-start .args .last) (at-start .args .len) (at-last .given .0 .0) (at-last .given .1) (at-if1 .taken) in let e = at-append-jump2 .ensures in (e .0 ∙ q .0, e .1 ∙ q .1, e .2 ∙ q .2)
 
 sub-at : tie.Need-sub-at

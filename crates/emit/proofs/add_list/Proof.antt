@@ -56,8 +56,9 @@ entry-addend-requires c κs = search needs
 
 add-one-requires : tie.Need-add-one-requires Inv-loop μ-loop
 add-one-requires c κs =
-    let at-loop = c .before .before .before .before .before .before .before .loop in
-    let at-start = c .before .before .before .before .before .before .before .before .before .before in
+    let to-loop = c .before .before .before .before .before .before .before in
+    let at-loop = to-loop .loop in
+    let at-start = to-loop .before .before .before in
     (omega (arith, at-start .pre), hold.holds-behind _ (at-start .args .out .now) (at-loop .out) (at-loop .n) (at-loop .last) (at-loop .inv .3))
 
 add-k : tie.Need-add-k Inv-loop μ-loop
@@ -70,9 +71,10 @@ loop-again : tie.Need-loop-again Inv-loop μ-loop
 loop-again c =
     let at-add-one = c .before .before .add-one in
     let at-entry-addend = c .before .before .before .before .entry-addend in
-    let at-place = c .before .before .before .before .before .before .before .before .place in
-    let at-loop = c .before .before .before .before .before .before .before .before .before .before .loop in
-    let at-start = c .before .before .before .before .before .before .before .before .before .before .before .before .before in
+    let to-place = c .before .before .before .before .before .before .before .before in
+    let at-place = to-place .place in
+    let at-loop = to-place .before .before .loop in
+    let at-start = to-place .before .before .before .before .before in
     let l = at-loop in
     let p : at-entry-addend .result ≡ _ = law.list-addend (at-start .args .backwards) (at-start .args .entries .now) (l .k) (at-entry-addend .result) (4 * at-place .result) (at-place .result) refl (at-place .ensures .0) (at-entry-addend .ensures) in
     let r : l .n < length (l .out) = omega (arith, at-start .pre) in

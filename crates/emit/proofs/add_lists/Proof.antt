@@ -147,9 +147,10 @@ add-list-requires c κs =
 branch-word-requires : tie.Need-branch-word-requires Inv-loop μ-loop
 branch-word-requires c κs =
     let at-add-list = c .before .before .add-list in
-    let at-loop-test = c .before .before .before .before .before .before .loop-test in
-    let at-loop = c .before .before .before .before .before .before .before .loop in
-    let at-start = c .before .before .before .before .before .before .before .before .before .before in
+    let to-loop-test = c .before .before .before .before .before .before in
+    let at-loop-test = to-loop-test .loop-test in
+    let at-loop = to-loop-test .before .loop in
+    let at-start = to-loop-test .before .before .before .before in
     let f = law.list-fits (at-start .args .backwards) (at-start .args .lists) (at-start .args .entries .now) (at-start .args .out .now) (at-loop .out) (at-loop .x) (at-loop .n) (at-loop .l)
     (at-loop .long) (at-loop .inv) (at-loop-test .taken) in
     let g = at-loop .inv .few in
@@ -164,16 +165,18 @@ branch-word-requires c κs =
 
 mul-out : tie.Need-mul-out Inv-loop μ-loop
 mul-out c =
-    let at-loop-test = c .before .before .before .before .before .before .before .loop-test in
-    let at-loop = c .before .before .before .before .before .before .before .before .loop in
-    let at-start = c .before .before .before .before .before .before .before .before .before .before .before in
+    let to-loop-test = c .before .before .before .before .before .before .before in
+    let at-loop-test = to-loop-test .loop-test in
+    let at-loop = to-loop-test .before .loop in
+    let at-start = to-loop-test .before .before .before .before in
     let f = law.list-fits (at-start .args .backwards) (at-start .args .lists) (at-start .args .entries .now) (at-start .args .out .now) (at-loop .out) (at-loop .x) (at-loop .n) (at-loop .l) (at-loop .long) (at-loop .inv) (at-loop-test .taken) in let g = at-loop .inv .few in let w = at-loop .inv .within in let s = at-loop .inv .same in let pre = at-start .pre in omega arith
 
 slice-write-out : tie.Need-slice-write-out Inv-loop μ-loop
 slice-write-out c =
-    let at-loop-test = c .before .before .before .before .before .before .before .loop-test in
-    let at-loop = c .before .before .before .before .before .before .before .before .loop in
-    let at-start = c .before .before .before .before .before .before .before .before .before .before .before in
+    let to-loop-test = c .before .before .before .before .before .before .before in
+    let at-loop-test = to-loop-test .loop-test in
+    let at-loop = to-loop-test .before .loop in
+    let at-start = to-loop-test .before .before .before .before in
     let f = law.list-fits (at-start .args .backwards) (at-start .args .lists) (at-start .args .entries .now) (at-start .args .out .now) (at-loop .out) (at-loop .x) (at-loop .n) (at-loop .l) (at-loop .long) (at-loop .inv) (at-loop-test .taken) in let g = at-loop .inv .few in let w = at-loop .inv .within in let s = at-loop .inv .same in let pre = at-start .pre in omega arith
 
 longer-requires : tie.Need-longer-requires Inv-loop μ-loop
@@ -196,9 +199,10 @@ loop-again c =
     let at-longer = c .longer in
     let at-branch-word = c .before .branch-word in
     let at-add-list = c .before .before .before .before .add-list in
-    let at-loop-test = c .before .before .before .before .before .before .before .before .loop-test in
-    let at-loop = c .before .before .before .before .before .before .before .before .before .loop in
-    let at-start = c .before .before .before .before .before .before .before .before .before .before .before .before in
+    let to-loop-test = c .before .before .before .before .before .before .before .before in
+    let at-loop-test = to-loop-test .loop-test in
+    let at-loop = to-loop-test .before .loop in
+    let at-start = to-loop-test .before .before .before .before in
     law.left-more (at-start .args .backwards) (at-start .args .lists) (at-start .args .entries .now) (at-start .args .out .now) (at-loop .out) (at-loop .x) (at-loop .n) (at-loop .l) (at-loop .long)
     (at-loop .inv) (at-loop-test .taken) (at-add-list .last .1 .1 .0) (at-add-list .result) (at-branch-word .result) (at-longer .result) (at-start .pre .2) (at-add-list .ensures .0)
     (at-add-list .ensures .1) (at-branch-word .ensures) (at-longer .ensures)

@@ -60,9 +60,10 @@ same-length c = search needs
 returns : tie.Need-returns
 returns c =
     let at-either = c .either in
-    let at-add-alternation = c .before .before .before .before .add-alternation in
-    let at-if1 = c .before .before .before .before .before .before .if1 in
-    let at-start = c .before .before .before .before .before .before .before .before .before .before in
+    let to-add-alternation = c .before .before .before .before in
+    let at-add-alternation = to-add-alternation .add-alternation in
+    let at-if1 = to-add-alternation .before .before .if1 in
+    let at-start = to-add-alternation .before .before .before .before .before .before in
     let s = law.size-least (at-start .args .tokens .now) (at-start .args .at) in
     let f = at-start .pre .0 .fits in
     let pre = at-start .pre in law.step-alt (at-start .args .out .now) (at-start .args .n) (at-start .args .last) (at-start .args .long)
@@ -115,9 +116,10 @@ same-length-2 c = search needs
 returns-2 : tie.Need-returns-2
 returns-2 c =
     let at-add-one = c .before .before .add-one in
-    let at-entry-addend = c .before .before .before .before .entry-addend in
-    let at-if1 = c .before .before .before .before .before .before .before .if1 in
-    let at-start = c .before .before .before .before .before .before .before .before .before .before .before in
+    let to-entry-addend = c .before .before .before .before in
+    let at-entry-addend = to-entry-addend .entry-addend in
+    let at-if1 = to-entry-addend .before .before .before .if1 in
+    let at-start = to-entry-addend .before .before .before .before .before .before .before in
     law.step-single (at-start .args .out .now) (at-start .args .n) (at-start .args .last) (at-start .args .long)
     (tokenAt (at-start .args .backwards) (at-start .args .tokens .now) (at-start .args .at)) (entryAt (at-start .args .tokens .now) (at-start .args .at)) (at-entry-addend .result) _ _ _
     (law.token-other (at-start .args .tokens .now) (at-start .args .at) (at-start .args .backwards) (at-if1 .left)) (law.entry-at-single (at-start .args .tokens .now) (at-start .args .at))

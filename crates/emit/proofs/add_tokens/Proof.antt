@@ -66,10 +66,11 @@ loop-less c = search needs
 loop-again : tie.Need-loop-again Inv-loop μ-loop
 loop-again c =
     let at-add-token = c .before .before .add-token in
-    let at-place = c .before .before .before .before .before .place in
-    let at-loop-test = c .before .before .before .before .before .before .loop-test in
-    let at-loop = c .before .before .before .before .before .before .before .loop in
-    let at-start = c .before .before .before .before .before .before .before .before .before .before .before in
+    let to-place = c .before .before .before .before .before in
+    let at-place = to-place .place in
+    let at-loop-test = to-place .before .loop-test in
+    let at-loop = to-place .before .before .loop in
+    let at-start = to-place .before .before .before .before .before .before in
     law.done-more (at-start .args .backwards) (at-start .args .tokens .now) (at-start .args .starts .now) (at-start .args .out .now) (at-loop .out) (at-loop .n) (at-loop .last) (at-loop .long)
     (at-loop .k) (at-loop .inv) (at-start .pre .0) (at-start .pre .2) (at-loop-test .taken) (getD (at-start .args .starts .now) (at-place .result) 0)
     (ap (λ (i : ℕ). getD (at-start .args .starts .now) i 0) (at-place .ensures .0)) (at-add-token .result .count) (at-add-token .result .last) (at-add-token .result .long)

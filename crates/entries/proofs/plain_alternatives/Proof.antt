@@ -61,9 +61,10 @@ returns c =
     let at-if2 = c .if2 in
     let at-plain-lists = c .before .plain-lists in
     let at-if1 = c .before .before .before .if1 in
-    let at-width-of = c .before .before .before .before .before .width-of in
-    let at-loop-test = c .before .before .before .before .before .before .loop-test in
-    let at-loop = c .before .before .before .before .before .before .before .loop in
+    let to-width-of = c .before .before .before .before .before in
+    let at-width-of = to-width-of .width-of in
+    let at-loop-test = to-width-of .before .loop-test in
+    let at-loop = to-width-of .before .before .loop in
     sym (at-loop .inv .1 ∙ law.tokens-stop (at-loop .rest .now) (at-loop-test .taken) (at-if1 .taken) ((ap (λ (x : ℕ). plainLists (listsIn (take (x - 4) (drop 4 (at-loop .rest .now))))) (sym (step.width-inside (at-loop .rest .now) (at-if1 .taken)) ∙ sym (at-width-of .ensures)) ∙ sym (at-plain-lists .ensures) ∙ not-true _ (at-if2 .taken))))
 
 mul-rest : tie.Need-mul-rest Inv-loop μ-loop

@@ -43,11 +43,12 @@ same-length-2 c = search needs
 returns-3 : tie.Need-returns-3
 returns-3 c =
     let at-write-each = c .before .before .before .before .write-each in
-    let at-if2 = c .before .before .before .before .before .before .before .if2 in
-    let at-total-of = c .before .before .before .before .before .before .before .before .total-of in
-    let at-if1 = c .before .before .before .before .before .before .before .before .before .if1 in
-    let at-tally-tokens = c .before .before .before .before .before .before .before .before .before .before .tally-tokens in
-    let at-start = c .before .before .before .before .before .before .before .before .before .before .before .before .before .before in
+    let to-if2 = c .before .before .before .before .before .before .before in
+    let at-if2 = to-if2 .if2 in
+    let at-total-of = to-if2 .before .total-of in
+    let at-if1 = to-if2 .before .before .if1 in
+    let at-tally-tokens = to-if2 .before .before .before .tally-tokens in
+    let at-start = to-if2 .before .before .before .before .before .before .before in
     let s = at-start in
     let t = at-tally-tokens in
     let w = at-write-each .ensures in

@@ -54,9 +54,10 @@ write-literal-requires c κs =
 cast-lengths : tie.Need-cast-lengths Inv-loop μ-loop
 cast-lengths c =
     let at-write-literal = c .before .before .write-literal in
-    let at-loop-test = c .before .before .before .before .loop-test in
-    let at-loop = c .before .before .before .before .before .loop in
-    let at-start = c .before .before .before .before .before .before .before .before .before in
+    let to-loop-test = c .before .before .before .before in
+    let at-loop-test = to-loop-test .loop-test in
+    let at-loop = to-loop-test .before .loop in
+    let at-start = to-loop-test .before .before .before .before .before in
     let s = at-start in
     let l = at-loop in
     let t = at-loop-test .taken in
@@ -68,9 +69,10 @@ mul-lengths c = search needs
 
 slice-write-lengths : tie.Need-slice-write-lengths Inv-loop μ-loop
 slice-write-lengths c =
-    let at-loop-test = c .before .before .before .before .loop-test in
-    let at-loop = c .before .before .before .before .before .loop in
-    let at-start = c .before .before .before .before .before .before .before .before .before in
+    let to-loop-test = c .before .before .before .before in
+    let at-loop-test = to-loop-test .loop-test in
+    let at-loop = to-loop-test .before .loop in
+    let at-start = to-loop-test .before .before .before .before .before in
     let s = at-start in
     let l = at-loop in
     let t = at-loop-test .taken in
@@ -79,9 +81,10 @@ slice-write-lengths c =
 add-at : tie.Need-add-at Inv-loop μ-loop
 add-at c =
     let at-write-literal = c .before .before .write-literal in
-    let at-loop-test = c .before .before .before .before .loop-test in
-    let at-loop = c .before .before .before .before .before .loop in
-    let at-start = c .before .before .before .before .before .before .before .before .before in
+    let to-loop-test = c .before .before .before .before in
+    let at-loop-test = to-loop-test .loop-test in
+    let at-loop = to-loop-test .before .loop in
+    let at-start = to-loop-test .before .before .before .before .before in
     let s = at-start in
     let l = at-loop in
     let t = at-loop-test .taken in
@@ -97,9 +100,10 @@ loop-less c = search needs
 loop-again : tie.Need-loop-again Inv-loop μ-loop
 loop-again c =
     let at-write-literal = c .before .before .write-literal in
-    let at-loop-test = c .before .before .before .before .loop-test in
-    let at-loop = c .before .before .before .before .before .loop in
-    let at-start = c .before .before .before .before .before .before .before .before .before in
+    let to-loop-test = c .before .before .before .before in
+    let at-loop-test = to-loop-test .loop-test in
+    let at-loop = to-loop-test .before .loop in
+    let at-start = to-loop-test .before .before .before .before .before in
     let s = at-start in
     let l = at-loop in
     let t = at-loop-test .taken in

@@ -68,10 +68,11 @@ loop-less c = search needs
 loop-again : tie.Need-loop-again Inv-loop μ-loop
 loop-again c =
     let at-put-literal = c .before .before .put-literal in
-    let at-least = c .before .before .before .before .before .least in
-    let at-loop-test = c .before .before .before .before .before .before .before .loop-test in
-    let at-loop = c .before .before .before .before .before .before .before .before .loop in
-    let at-start = c .before .before .before .before .before .before .before .before .before .before .before .before in
+    let to-least = c .before .before .before .before .before in
+    let at-least = to-least .least in
+    let at-loop-test = to-least .before .before .loop-test in
+    let at-loop = to-least .before .before .before .loop in
+    let at-start = to-least .before .before .before .before .before .before .before in
     let l = at-loop in
     let a = at-start .args in
     let w = at-put-literal .ensures in

@@ -32,8 +32,9 @@ returns : tie.Need-returns
 unfolding maskLine
 returns c =
     let at-put-byte-line = c .before .before .put-byte-line in
-    let at-put-hex = c .before .before .before .before .before .before .before .put-hex in
-    let at-put-bytes = c .before .before .before .before .before .before .before .before .before .before .before .put-bytes in
+    let to-put-hex = c .before .before .before .before .before .before .before in
+    let at-put-hex = to-put-hex .put-hex in
+    let at-put-bytes = to-put-hex .before .before .before .before .put-bytes in
     put-three (at-put-bytes .ensures) (at-put-hex .ensures) (at-put-byte-line .ensures)
 
 pub put-mask-line-spec : {M : Type 1} → statement M

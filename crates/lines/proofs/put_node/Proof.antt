@@ -78,9 +78,10 @@ same-length c = search needs
 returns : tie.Need-returns
 returns c =
     let at-put-test = c .before .before .put-test in
-    let at-node = c .before .before .before .before .before .node in
-    let at-node-of = c .before .before .before .before .before .before .before .node-of in
-    let at-start = c .before .before .before .before .before .before .before .before .before in
+    let to-node = c .before .before .before .before .before in
+    let at-node = to-node .node in
+    let at-node-of = to-node .before .before .node-of in
+    let at-start = to-node .before .before .before .before in
     let a = at-start .args in
     let n = at-node-of in
     put-same (nodeLine (a .w)) (at-put-test .ensures) (node-line (a .w) (n .result) _ (n .ensures) (at-node .given .1))
@@ -91,9 +92,10 @@ same-length-2 c = search needs
 returns-2 : tie.Need-returns-2
 returns-2 c =
     let at-put-number-line = c .before .before .put-number-line in
-    let at-node2 = c .before .before .before .before .before .before .node2 in
-    let at-node-of = c .before .before .before .before .before .before .before .before .node-of in
-    let at-start = c .before .before .before .before .before .before .before .before .before .before in
+    let to-node2 = c .before .before .before .before .before .before in
+    let at-node2 = to-node2 .node2 in
+    let at-node-of = to-node2 .before .before .node-of in
+    let at-start = to-node2 .before .before .before .before in
     let a = at-start .args in
     let n = at-node-of in
     put-same (nodeLine (a .w)) (at-put-number-line .ensures) (node-line (a .w) (n .result) _ (n .ensures) (at-node2 .given .1))
@@ -104,9 +106,10 @@ same-length-3 c = search needs
 returns-3 : tie.Need-returns-3
 returns-3 c =
     let at-put-numbers-line = c .before .before .put-numbers-line in
-    let at-node3 = c .before .before .before .before .before .before .before .node3 in
-    let at-node-of = c .before .before .before .before .before .before .before .before .before .node-of in
-    let at-start = c .before .before .before .before .before .before .before .before .before .before .before in
+    let to-node3 = c .before .before .before .before .before .before .before in
+    let at-node3 = to-node3 .node3 in
+    let at-node-of = to-node3 .before .before .node-of in
+    let at-start = to-node3 .before .before .before .before in
     let a = at-start .args in
     let n = at-node-of in
     put-same (nodeLine (a .w)) (at-put-numbers-line .ensures) (node-line (a .w) (n .result) _ (n .ensures) (at-node3 .given .1))
@@ -117,9 +120,10 @@ same-length-4 c = search needs
 returns-4 : tie.Need-returns-4
 returns-4 c =
     let at-put-number-line2 = c .before .before .put-number-line2 in
-    let at-node4 = c .before .before .before .before .before .before .node4 in
-    let at-node-of = c .before .before .before .before .before .before .before .before .node-of in
-    let at-start = c .before .before .before .before .before .before .before .before .before .before in
+    let to-node4 = c .before .before .before .before .before .before in
+    let at-node4 = to-node4 .node4 in
+    let at-node-of = to-node4 .before .before .node-of in
+    let at-start = to-node4 .before .before .before .before in
     let a = at-start .args in
     let n = at-node-of in
     put-same (nodeLine (a .w)) (at-put-number-line2 .ensures) (node-line (a .w) (n .result) _ (n .ensures) (at-node4 .given .1))
@@ -130,9 +134,10 @@ same-length-5 c = search needs
 returns-5 : tie.Need-returns-5
 returns-5 c =
     let at-put-number-line3 = c .before .before .put-number-line3 in
-    let at-node5 = c .before .before .before .before .before .before .node5 in
-    let at-node-of = c .before .before .before .before .before .before .before .before .node-of in
-    let at-start = c .before .before .before .before .before .before .before .before .before .before in
+    let to-node5 = c .before .before .before .before .before .before in
+    let at-node5 = to-node5 .node5 in
+    let at-node-of = to-node5 .before .before .node-of in
+    let at-start = to-node5 .before .before .before .before in
     let a = at-start .args in
     let n = at-node-of in
     put-same (nodeLine (a .w)) (at-put-number-line3 .ensures) (node-line (a .w) (n .result) _ (n .ensures) (at-node5 .given .1))

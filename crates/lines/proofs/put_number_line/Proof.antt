@@ -16,8 +16,9 @@ put-decimal-requires c κs = search needs
 put-byte-requires : tie.Need-put-byte-requires
 put-byte-requires c κs =
     let at-put-decimal = c .before .before .before .put-decimal in
-    let at-put-bytes = c .before .before .before .before .before .before .before .put-bytes in
-    let at-start = c .before .before .before .before .before .before .before .before .before .before .before in
+    let to-put-bytes = c .before .before .before .before .before .before .before in
+    let at-put-bytes = to-put-bytes .put-bytes in
+    let at-start = to-put-bytes .before .before .before .before in
     let n = at-start .args .n in
     let l = decimal-length 19 n (omega arith) in
     let m = at-put-bytes .ensures .next in

@@ -109,9 +109,10 @@ returns-2 : tie.Need-returns-2
 returns-2 c =
     let at-put-refused = c .before .before .put-refused in
     let at-number = c .before .before .before .number in
-    let at-got2 = c .before .before .before .before .before .before .got2 in
-    let at-compile = c .before .before .before .before .before .before .before .before .before .before .compile in
-    let at-start = c .before .before .before .before .before .before .before .before .before .before .before .before .before .before .before in
+    let to-got2 = c .before .before .before .before .before .before in
+    let at-got2 = to-got2 .got2 in
+    let at-compile = to-got2 .before .before .before .before .compile in
+    let at-start = to-got2 .before .before .before .before .before .before .before .before .before in
     let a = at-start .args in
     let k = at-compile in
     let g = at-got2 .given in

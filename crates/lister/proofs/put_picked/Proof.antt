@@ -97,9 +97,10 @@ returns-2 : tie.Need-returns-2
 returns-2 c =
     let at-put-literals-refused = c .before .before .put-literals-refused in
     let at-number = c .before .before .before .number in
-    let at-got2 = c .before .before .before .before .before .before .got2 in
-    let at-literals = c .before .before .before .before .before .before .before .before .before .before .literals in
-    let at-start = c .before .before .before .before .before .before .before .before .before .before .before .before .before .before .before in
+    let to-got2 = c .before .before .before .before .before .before in
+    let at-got2 = to-got2 .got2 in
+    let at-literals = to-got2 .before .before .before .before .literals in
+    let at-start = to-got2 .before .before .before .before .before .before .before .before .before in
     let a = at-start .args in
     let k = at-literals in
     let g = at-got2 .given in

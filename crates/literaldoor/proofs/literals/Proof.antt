@@ -37,9 +37,10 @@ part-pick-tokens-end c =
 
 pick-tokens-requires : tie.Need-pick-tokens-requires
 pick-tokens-requires c κs =
-    let at-r = c .before .before .before .before .before .r in
-    let at-read = c .before .before .before .before .before .before .before .before .read in
-    let at-start = c .before .before .before .before .before .before .before .before .before .before .before .before .before in
+    let to-r = c .before .before .before .before .before in
+    let at-r = to-r .r in
+    let at-read = to-r .before .before .before .read in
+    let at-start = to-r .before .before .before .before .before .before .before .before in
     let g = into.got (at-start .args .text .now) _ (at-read .last .1 .0) (at-read .result) (at-read .ensures .0) (at-read .ensures .1) (le-refl tokenPool) (at-r .given .0 .0) (at-r .given .0 .1 .0) (at-r .given .1) in told.entries-asked (at-start .args .text .now) _ (g .tokens) (g .verdict) _ (g .words) (g .few)
 
 enum-known-r-2 : tie.Need-enum-known-r-2
@@ -54,9 +55,10 @@ same-length-2 c = search needs
 returns : tie.Need-returns
 returns c =
     let at-pick-tokens = c .before .before .before .before .pick-tokens in
-    let at-r = c .before .before .before .before .before .before .before .before .before .before .r in
-    let at-read = c .before .before .before .before .before .before .before .before .before .before .before .before .before .read in
-    let at-start = c .before .before .before .before .before .before .before .before .before .before .before .before .before .before .before .before .before .before in
+    let to-r = c .before .before .before .before .before .before .before .before .before .before in
+    let at-r = to-r .r in
+    let at-read = to-r .before .before .before .read in
+    let at-start = to-r .before .before .before .before .before .before .before .before in
     let g = into.got (at-start .args .text .now) _ (at-read .last .1 .0) (at-read .result) (at-read .ensures .0) (at-read .ensures .1) (le-refl tokenPool) (at-r .given .0 .0) (at-r .given .0 .1 .0)
     (at-r .given .1) in law.text-picked (at-start .args .text .now) _ (g .tokens) _ (literalsSaid (at-pick-tokens .result)) (at-start .args .bytes .now) (at-start .args .lengths .now)
     (at-pick-tokens .last .1 .1 .0) (at-pick-tokens .last .1 .1 .1 .0) (g .verdict) (g .words) (at-pick-tokens .ensures)

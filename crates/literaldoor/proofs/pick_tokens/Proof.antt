@@ -42,10 +42,11 @@ same-length-2 c = search needs
 returns-2 : tie.Need-returns-2
 returns-2 c =
     let at-write-winner = c .before .before .before .before .write-winner in
-    let at-choose = c .before .before .before .before .before .before .before .choose in
-    let at-if1 = c .before .before .before .before .before .before .before .before .if1 in
-    let at-plain-alternatives = c .before .before .before .before .before .before .before .before .before .plain-alternatives in
-    let at-start = c .before .before .before .before .before .before .before .before .before .before .before .before .before in
+    let to-choose = c .before .before .before .before .before .before .before in
+    let at-choose = to-choose .choose in
+    let at-if1 = to-choose .before .if1 in
+    let at-plain-alternatives = to-choose .before .before .plain-alternatives in
+    let at-start = to-choose .before .before .before .before .before .before in
     law.plain-chosen (at-start .args .reached) (tokensIn (at-start .args .ws .now)) (winnerSays (at-start .args .ws .now) (at-choose .result)) (literalsSaid (at-write-winner .result))
     (at-start .args .bytes .now) (at-start .args .lengths .now) (at-write-winner .last .1 .1 .1 .0) (at-write-winner .last .1 .1 .1 .1 .0)
     (sym (at-plain-alternatives .ensures) ∙ not-false _ (at-if1 .left)) (at-choose .ensures .0) (at-write-winner .ensures)

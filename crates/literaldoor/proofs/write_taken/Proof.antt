@@ -25,8 +25,9 @@ same-length-2 c = search needs
 returns : tie.Need-returns
 returns c =
     let at-w = c .before .w in
-    let at-write-all = c .before .before .before .before .before .before .before .write-all in
-    let at-start = c .before .before .before .before .before .before .before .before .before .before .before .before .before in
+    let to-write-all = c .before .before .before .before .before .before .before in
+    let at-write-all = to-write-all .write-all in
+    let at-start = to-write-all .before .before .before .before .before .before in
     law.all-written (at-start .args .reached) (literalsOf (tokensIn (at-start .args .ws .now))) (at-start .args .rank) (at-write-all .result) (at-start .args .bytes .now) (at-start .args .lengths .now) (at-write-all .last .1 .0) (at-write-all .last .1 .1 .0) (at-write-all .ensures) _ (at-w .given .1)
 
 same-length-3 : tie.Need-same-length-3

@@ -64,8 +64,9 @@ same-length-2 c = search needs
 returns-2 : tie.Need-returns-2
 returns-2 c =
     let at-write-taken = c .before .before .before .before .write-taken in
-    let at-winner = c .before .before .before .before .before .before .before .before .before .winner in
-    let at-start = c .before .before .before .before .before .before .before .before .before .before .before .before .before .before in
+    let to-winner = c .before .before .before .before .before .before .before .before .before in
+    let at-winner = to-winner .winner in
+    let at-start = to-winner .before .before .before .before .before in
     law.words-chosen (at-start .args .reached) (at-start .args .ws .now) (at-start .args .winner) (at-start .args .bytes .now) (at-start .args .lengths .now) _ _ _ (literalsSaid (at-write-taken .result)) (at-write-taken .last .1 .1 .1 .0) (at-write-taken .last .1 .1 .1 .1 .0) (at-winner .given .1) (at-write-taken .ensures)
 
 returns-3 : tie.Need-returns-3

@@ -63,17 +63,19 @@ part-part-words-end c = search needs
 
 part-words-requires : tie.Need-part-words-requires Inv-loop μ-loop
 part-words-requires c κs =
-    let at-loop-test = c .before .before .before .before .loop-test in
-    let at-loop = c .before .before .before .before .before .loop in
-    let at-start = c .before .before .before .before .before .before .before in
+    let to-loop-test = c .before .before .before .before in
+    let at-loop-test = to-loop-test .loop-test in
+    let at-loop = to-loop-test .before .loop in
+    let at-start = to-loop-test .before .before .before in
     law.rest-long (at-start .args .run .now) (at-loop .at) (at-loop-test .taken)
 
 add-e : tie.Need-add-e Inv-loop μ-loop
 add-e c =
     let at-part-words = c .part-words in
-    let at-loop-test = c .before .before .before .before .before .loop-test in
-    let at-loop = c .before .before .before .before .before .before .loop in
-    let at-start = c .before .before .before .before .before .before .before .before in
+    let to-loop-test = c .before .before .before .before .before in
+    let at-loop-test = to-loop-test .loop-test in
+    let at-loop = to-loop-test .before .loop in
+    let at-start = to-loop-test .before .before .before in
     omega (arith, (law.here-inside (at-start .args .run .now) ((at-start .pre) .0) (at-loop .prior) (at-loop .at) (at-loop .top) (at-loop .inv) (at-loop-test .taken) (at-part-words .result) (at-part-words .ensures)) .0)
 
 mul-literal-start : tie.Need-mul-literal-start Inv-loop μ-loop
@@ -92,9 +94,10 @@ literal-start-requires c κs = search needs
 loop-less : tie.Need-loop-less Inv-loop μ-loop
 loop-less c =
     let at-part-words = c .before .before .part-words in
-    let at-loop-test = c .before .before .before .before .before .before .before .loop-test in
-    let at-loop = c .before .before .before .before .before .before .before .before .loop in
-    let at-start = c .before .before .before .before .before .before .before .before .before .before in
+    let to-loop-test = c .before .before .before .before .before .before .before in
+    let at-loop-test = to-loop-test .loop-test in
+    let at-loop = to-loop-test .before .loop in
+    let at-start = to-loop-test .before .before .before in
     omega (
       arith,
       (law.here-inside (at-start .args .run .now) ((at-start .pre) .0) (at-loop .prior) (at-loop .at) (at-loop .top) (at-loop .inv) (at-loop-test .taken) (at-part-words .result)
@@ -108,9 +111,10 @@ loop-again c =
     let at-literal-start = c .literal-start in
     let at-part-words = c .before .before .part-words in
     let at-longer-slices = c .before .before .before .before .longer-slices in
-    let at-loop-test = c .before .before .before .before .before .before .before .loop-test in
-    let at-loop = c .before .before .before .before .before .before .before .before .loop in
-    let at-start = c .before .before .before .before .before .before .before .before .before .before in
+    let to-loop-test = c .before .before .before .before .before .before .before in
+    let at-loop-test = to-loop-test .loop-test in
+    let at-loop = to-loop-test .before .loop in
+    let at-start = to-loop-test .before .before .before in
     law.weighed-on (at-start .args .run .now) ((at-start .pre) .0) (at-loop .prior) (at-loop .at) (at-loop .top) (at-loop .inv) (at-loop-test .taken) (at-part-words .result) (at-loop .at + at-part-words .result) (at-literal-start .result) (at-longer-slices .result) (at-part-words .ensures) refl (at-literal-start .ensures) (at-longer-slices .ensures)
 
 returns-2 : tie.Need-returns-2 Inv-loop μ-loop

@@ -115,9 +115,10 @@ returns c =
     let at-if1 = c .if1 in
     let at-ranked-against = c .before .ranked-against in
     let at-byte-words = c .before .before .byte-words in
-    let at-rank-of = c .before .before .before .before .rank-of in
-    let at-loop = c .before .before .before .before .before .before .loop in
-    let at-start = c .before .before .before .before .before .before .before .before .before .before in
+    let to-rank-of = c .before .before .before .before in
+    let at-rank-of = to-rank-of .rank-of in
+    let at-loop = to-rank-of .before .before .loop in
+    let at-start = to-rank-of .before .before .before .before .before .before in
     λ own ps k. sym
     ((law.weighed (at-start .args .run .now) (at-start .args .prior) (at-start .args .at) (at-loop .to) (at-loop .len) (winnerSays (at-start .args .run .now) (at-start .args .best))
     (at-loop .top) (at-start .pre) (at-loop .inv) (at-ranked-against .result) (at-byte-words .result) (at-rank-of .result) (at-byte-words .ensures .0) (at-rank-of .ensures)
@@ -133,9 +134,10 @@ returns-2 c =
     let at-if2 = c .if2 in
     let at-ranked-against = c .before .before .ranked-against in
     let at-byte-words = c .before .before .before .byte-words in
-    let at-rank-of = c .before .before .before .before .before .rank-of in
-    let at-loop = c .before .before .before .before .before .before .before .loop in
-    let at-start = c .before .before .before .before .before .before .before .before .before .before .before in
+    let to-rank-of = c .before .before .before .before .before in
+    let at-rank-of = to-rank-of .rank-of in
+    let at-loop = to-rank-of .before .before .loop in
+    let at-start = to-rank-of .before .before .before .before .before .before in
     λ own ps k. sym
     ((law.weighed (at-start .args .run .now) (at-start .args .prior) (at-start .args .at) (at-loop .to) (at-loop .len) (winnerSays (at-start .args .run .now) (at-start .args .best))
     (at-loop .top) (at-start .pre) (at-loop .inv) (at-ranked-against .result) (at-byte-words .result) (at-rank-of .result) (at-byte-words .ensures .0) (at-rank-of .ensures)
@@ -163,16 +165,18 @@ part-part-words-end-2 c = search needs
 part-words-requires-2 : tie.Need-part-words-requires-2 Inv-loop μ-loop
 part-words-requires-2 c κs =
     let at-if2 = c .before .if2 in
-    let at-loop = c .before .before .before .before .before .before .before .before .loop in
-    let at-start = c .before .before .before .before .before .before .before .before .before .before .before .before in
+    let to-loop = c .before .before .before .before .before .before .before .before in
+    let at-loop = to-loop .loop in
+    let at-start = to-loop .before .before .before .before in
     law.rest-there (at-start .args .run .now) (at-start .args .prior) (at-start .args .at) (at-loop .to) (at-loop .len) (winnerSays (at-start .args .run .now) (at-start .args .best)) (at-loop .top) (at-start .pre) (at-loop .inv) (at-if2 .left)
 
 add-e : tie.Need-add-e Inv-loop μ-loop
 add-e c =
     let at-part-words2 = c .part-words2 in
     let at-if2 = c .before .before .if2 in
-    let at-loop = c .before .before .before .before .before .before .before .before .before .loop in
-    let at-start = c .before .before .before .before .before .before .before .before .before .before .before .before .before in
+    let to-loop = c .before .before .before .before .before .before .before .before .before in
+    let at-loop = to-loop .loop in
+    let at-start = to-loop .before .before .before .before in
     omega (arith, law.part-inside (at-start .args .run .now) (at-start .args .prior) (at-start .args .at) (at-loop .to) (at-loop .len) (winnerSays (at-start .args .run .now) (at-start .args .best)) (at-loop .top) (at-start .pre) (at-loop .inv) (at-part-words2 .result) (at-part-words2 .ensures) (at-if2 .left) .0)
 
 mul-length-of : tie.Need-mul-length-of Inv-loop μ-loop
@@ -190,8 +194,9 @@ part-length-of-end : tie.Need-part-length-of-end Inv-loop μ-loop
 part-length-of-end c =
     let at-part-words2 = c .part-words2 in
     let at-if2 = c .before .before .if2 in
-    let at-loop = c .before .before .before .before .before .before .before .before .before .loop in
-    let at-start = c .before .before .before .before .before .before .before .before .before .before .before .before .before in
+    let to-loop = c .before .before .before .before .before .before .before .before .before in
+    let at-loop = to-loop .loop in
+    let at-start = to-loop .before .before .before .before in
     law.part-inside (at-start .args .run .now) (at-start .args .prior) (at-start .args .at) (at-loop .to) (at-loop .len) (winnerSays (at-start .args .run .now) (at-start .args .best)) (at-loop .top) (at-start .pre) (at-loop .inv) (at-part-words2 .result) (at-part-words2 .ensures) (at-if2 .left) .0
 
 length-of-requires : tie.Need-length-of-requires Inv-loop μ-loop
@@ -202,16 +207,18 @@ add-len c =
     let at-length-of = c .length-of in
     let at-part-words2 = c .before .before .part-words2 in
     let at-if1 = c .before .before .before .before .before .if1 in
-    let at-loop = c .before .before .before .before .before .before .before .before .before .before .before .loop in
-    let at-start = c .before .before .before .before .before .before .before .before .before .before .before .before .before .before .before in
+    let to-loop = c .before .before .before .before .before .before .before .before .before .before .before in
+    let at-loop = to-loop .loop in
+    let at-start = to-loop .before .before .before .before in
     omega (arith, at-if1 .left, at-length-of .ensures .1, length-take (at-loop .to + at-part-words2 .result - at-loop .to) (drop (at-loop .to) (at-start .args .run .now)), length-drop (at-loop .to) (at-start .args .run .now), (at-start .pre) .few)
 
 loop-less : tie.Need-loop-less Inv-loop μ-loop
 loop-less c =
     let at-part-words2 = c .before .before .part-words2 in
     let at-if2 = c .before .before .before .before .if2 in
-    let at-loop = c .before .before .before .before .before .before .before .before .before .before .before .loop in
-    let at-start = c .before .before .before .before .before .before .before .before .before .before .before .before .before .before .before in
+    let to-loop = c .before .before .before .before .before .before .before .before .before .before .before in
+    let at-loop = to-loop .loop in
+    let at-start = to-loop .before .before .before .before in
     omega (
       arith,
       law.part-inside (at-start .args .run .now) (at-start .args .prior) (at-start .args .at) (at-loop .to) (at-loop .len) (winnerSays (at-start .args .run .now) (at-start .args .best))
@@ -225,13 +232,15 @@ loop-again : tie.Need-loop-again Inv-loop μ-loop
 loop-again c =
     let at-length-of = c .length-of in
     let at-part-words2 = c .before .before .part-words2 in
-    let at-if2 = c .before .before .before .before .if2 in
-    let at-if1 = c .before .before .before .before .before .if1 in
-    let at-ranked-against = c .before .before .before .before .before .before .ranked-against in
-    let at-byte-words = c .before .before .before .before .before .before .before .byte-words in
-    let at-rank-of = c .before .before .before .before .before .before .before .before .before .rank-of in
-    let at-loop = c .before .before .before .before .before .before .before .before .before .before .before .loop in
-    let at-start = c .before .before .before .before .before .before .before .before .before .before .before .before .before .before .before in
+    let to-if2 = c .before .before .before .before in
+    let at-if2 = to-if2 .if2 in
+    let at-if1 = to-if2 .before .if1 in
+    let at-ranked-against = to-if2 .before .before .ranked-against in
+    let at-byte-words = to-if2 .before .before .before .byte-words in
+    let to-rank-of = to-if2 .before .before .before .before .before in
+    let at-rank-of = to-rank-of .rank-of in
+    let at-loop = to-rank-of .before .before .loop in
+    let at-start = to-rank-of .before .before .before .before .before .before in
     law.going-on (at-start .args .run .now) (at-start .args .prior) (at-start .args .at) (at-loop .to) (at-loop .len) (winnerSays (at-start .args .run .now) (at-start .args .best)) (at-loop .top)
     (at-start .pre) (at-loop .inv) (at-ranked-against .result) (at-part-words2 .result) (at-length-of .result) (at-loop .to + at-part-words2 .result) (at-part-words2 .ensures) (at-if2 .left)
     (at-if1 .left) refl (at-length-of .ensures .0) (at-length-of .ensures .1)

@@ -81,9 +81,10 @@ part-score-at-start c = omega arith
 part-score-at-end : tie.Need-part-score-at-end Inv-loop μ-loop
 part-score-at-end c =
     let at-part-words = c .before .before .part-words in
-    let at-loop-test = c .before .before .before .before .loop-test in
-    let at-loop = c .before .before .before .before .before .loop in
-    let at-start = c .before .before .before .before .before .before .before in
+    let to-loop-test = c .before .before .before .before in
+    let at-loop-test = to-loop-test .loop-test in
+    let at-loop = to-loop-test .before .loop in
+    let at-start = to-loop-test .before .before .before in
     (law.front-inside (at-start .args .run .now) ((at-start .pre) .0) (at-loop .at) (at-loop .inv) (at-loop-test .taken) (at-part-words .result) (at-part-words .ensures)) .0
 
 score-at-requires : tie.Need-score-at-requires Inv-loop μ-loop
@@ -105,18 +106,20 @@ returns c =
     let at-if2 = c .if2 in
     let at-score-at = c .before .score-at in
     let at-if1 = c .before .before .before .if1 in
-    let at-part-words = c .before .before .before .before .before .part-words in
-    let at-loop-test = c .before .before .before .before .before .before .before .loop-test in
-    let at-loop = c .before .before .before .before .before .before .before .before .loop in
-    let at-start = c .before .before .before .before .before .before .before .before .before .before in
+    let to-part-words = c .before .before .before .before .before in
+    let at-part-words = to-part-words .part-words in
+    let at-loop-test = to-part-words .before .before .loop-test in
+    let at-loop = to-part-words .before .before .before .loop in
+    let at-start = to-part-words .before .before .before .before .before in
     law.alone-wins (at-start .args .run .now) ((at-start .pre) .0) (at-loop .at) (at-loop .inv) (at-loop-test .taken) (at-part-words .result) (at-part-words .ensures) (at-if1 .taken) (at-score-at .result) (at-score-at .ensures) (at-if2 .taken)
 
 loop-less : tie.Need-loop-less Inv-loop μ-loop
 loop-less c =
-    let at-part-words = c .before .before .before .before .before .part-words in
-    let at-loop-test = c .before .before .before .before .before .before .before .loop-test in
-    let at-loop = c .before .before .before .before .before .before .before .before .loop in
-    let at-start = c .before .before .before .before .before .before .before .before .before .before in
+    let to-part-words = c .before .before .before .before .before in
+    let at-part-words = to-part-words .part-words in
+    let at-loop-test = to-part-words .before .before .loop-test in
+    let at-loop = to-part-words .before .before .before .loop in
+    let at-start = to-part-words .before .before .before .before .before in
     omega (arith, (law.front-inside (at-start .args .run .now) ((at-start .pre) .0) (at-loop .at) (at-loop .inv) (at-loop-test .taken) (at-part-words .result) (at-part-words .ensures)) .0, (law.front-inside (at-start .args .run .now) ((at-start .pre) .0) (at-loop .at) (at-loop .inv) (at-loop-test .taken) (at-part-words .result) (at-part-words .ensures)) .1)
 
 loop-again : tie.Need-loop-again Inv-loop μ-loop
@@ -124,27 +127,30 @@ loop-again c =
     let at-if2 = c .if2 in
     let at-score-at = c .before .score-at in
     let at-if1 = c .before .before .before .if1 in
-    let at-part-words = c .before .before .before .before .before .part-words in
-    let at-loop-test = c .before .before .before .before .before .before .before .loop-test in
-    let at-loop = c .before .before .before .before .before .before .before .before .loop in
-    let at-start = c .before .before .before .before .before .before .before .before .before .before in
+    let to-part-words = c .before .before .before .before .before in
+    let at-part-words = to-part-words .part-words in
+    let at-loop-test = to-part-words .before .before .loop-test in
+    let at-loop = to-part-words .before .before .before .loop in
+    let at-start = to-part-words .before .before .before .before .before in
     law.passed-weak (at-start .args .run .now) ((at-start .pre) .0) (at-loop .at) (at-loop .inv) (at-loop-test .taken) (at-part-words .result) (at-part-words .ensures) (at-if1 .taken) (at-score-at .result) (at-score-at .ensures) (at-if2 .left)
 
 loop-less-2 : tie.Need-loop-less-2 Inv-loop μ-loop
 loop-less-2 c =
     let at-part-words = c .before .before .part-words in
-    let at-loop-test = c .before .before .before .before .loop-test in
-    let at-loop = c .before .before .before .before .before .loop in
-    let at-start = c .before .before .before .before .before .before .before in
+    let to-loop-test = c .before .before .before .before in
+    let at-loop-test = to-loop-test .loop-test in
+    let at-loop = to-loop-test .before .loop in
+    let at-start = to-loop-test .before .before .before in
     omega (arith, (law.front-inside (at-start .args .run .now) ((at-start .pre) .0) (at-loop .at) (at-loop .inv) (at-loop-test .taken) (at-part-words .result) (at-part-words .ensures)) .0, (law.front-inside (at-start .args .run .now) ((at-start .pre) .0) (at-loop .at) (at-loop .inv) (at-loop-test .taken) (at-part-words .result) (at-part-words .ensures)) .1)
 
 loop-again-2 : tie.Need-loop-again-2 Inv-loop μ-loop
 loop-again-2 c =
     let at-if1 = c .if1 in
     let at-part-words = c .before .before .part-words in
-    let at-loop-test = c .before .before .before .before .loop-test in
-    let at-loop = c .before .before .before .before .before .loop in
-    let at-start = c .before .before .before .before .before .before .before in
+    let to-loop-test = c .before .before .before .before in
+    let at-loop-test = to-loop-test .loop-test in
+    let at-loop = to-loop-test .before .loop in
+    let at-start = to-loop-test .before .before .before in
     law.passed-other (at-start .args .run .now) ((at-start .pre) .0) (at-loop .at) (at-loop .inv) (at-loop-test .taken) (at-part-words .result) (at-part-words .ensures) (at-if1 .left)
 
 returns-2 : tie.Need-returns-2 Inv-loop μ-loop

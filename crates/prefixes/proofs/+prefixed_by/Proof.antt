@@ -125,9 +125,10 @@ prefixed-by-prefixed-by-requires t c κs =
 
 prefixed-by-prefix-of-requires : (t : ℕ) → prefixed-by-lts.Need-prefix-of-requires (prefixed-by-cl t) (prefixed-by-at t) prefixed-by.Post
 prefixed-by-prefix-of-requires t c κs =
-    let at-tally-token = c .before .before .before .before .tally-token in
-    let at-if1 = c .before .before .before .before .before .if1 in
-    let at-past-bytes = c .before .before .before .before .before .before .past-bytes in
+    let to-tally-token = c .before .before .before .before in
+    let at-tally-token = to-tally-token .tally-token in
+    let at-if1 = to-tally-token .before .if1 in
+    let at-past-bytes = to-tally-token .before .before .past-bytes in
     let at-start = c .before .before .before .before .before .before .before .before in (
       (at-if1 .left),
       prefix.prefixes-few (at-past-bytes .result .now) (at-if1 .left) (at-start .args .p) (numerable t (c .before .before .before .before .before .before))
@@ -140,11 +141,12 @@ prefixed-by-returns-2 : (t : ℕ) → prefixed-by-lts.Need-returns-2 (prefixed-b
 prefixed-by-returns-2 t c =
     let at-prefix-of = c .prefix-of in
     let at-prefixed-by = c .before .prefixed-by in
-    let at-width-of = c .before .before .before .before .width-of in
-    let at-tally-token = c .before .before .before .before .before .tally-token in
-    let at-if1 = c .before .before .before .before .before .before .if1 in
-    let at-past-bytes = c .before .before .before .before .before .before .before .past-bytes in
-    let at-start = c .before .before .before .before .before .before .before .before .before in
+    let to-width-of = c .before .before .before .before in
+    let at-width-of = to-width-of .width-of in
+    let at-tally-token = to-width-of .before .tally-token in
+    let at-if1 = to-width-of .before .before .if1 in
+    let at-past-bytes = to-width-of .before .before .before .past-bytes in
+    let at-start = to-width-of .before .before .before .before .before in
     at-prefix-of .ensures
     ∙ ap (prefixOf (tokenIn (at-past-bytes .result .now)) (at-start .args .p))
     (at-prefixed-by .ensures

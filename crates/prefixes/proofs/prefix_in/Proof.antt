@@ -71,10 +71,11 @@ returns : tie.Need-returns Inv-loop μ-loop
 returns c =
     let at-if1 = c .if1 in
     let at-count-list = c .before .count-list in
-    let at-end-of = c .before .before .before .end-of in
-    let at-loop-test = c .before .before .before .before .loop-test in
-    let at-loop = c .before .before .before .before .before .loop in
-    let at-start = c .before .before .before .before .before .before .before in
+    let to-end-of = c .before .before .before in
+    let at-end-of = to-end-of .end-of in
+    let at-loop-test = to-end-of .before .loop-test in
+    let at-loop = to-end-of .before .before .loop in
+    let at-start = to-end-of .before .before .before .before in
     sym (at-loop .inv .2 ∙ prefix.prefix-found (at-loop .rest .now) (at-loop-test .taken) _ _ (at-end-of .ensures) (at-count-list .ensures) (at-loop .inv .1) (at-start .args .p) (at-loop .left) (at-if1 .taken))
 
 mul-rest : tie.Need-mul-rest Inv-loop μ-loop
@@ -100,18 +101,20 @@ part-rest-end c = search needs
 
 loop-less : tie.Need-loop-less Inv-loop μ-loop
 loop-less c =
-    let at-end-of = c .before .before .before .before .end-of in
-    let at-loop-test = c .before .before .before .before .before .loop-test in
-    let at-loop = c .before .before .before .before .before .before .loop in
+    let to-end-of = c .before .before .before .before in
+    let at-end-of = to-end-of .end-of in
+    let at-loop-test = to-end-of .before .loop-test in
+    let at-loop = to-end-of .before .before .loop in
     part.part-less _ (at-loop .rest .now) (omega (arith, (at-end-of .ensures), (step.ends-long (at-loop .rest .now) (at-loop-test .taken)))) (at-loop-test .taken)
 
 loop-again : tie.Need-loop-again Inv-loop μ-loop
 loop-again c =
     let at-if1 = c .before .if1 in
     let at-count-list = c .before .before .count-list in
-    let at-end-of = c .before .before .before .before .end-of in
-    let at-loop-test = c .before .before .before .before .before .loop-test in
-    let at-loop = c .before .before .before .before .before .before .loop in
+    let to-end-of = c .before .before .before .before in
+    let at-end-of = to-end-of .end-of in
+    let at-loop-test = to-end-of .before .loop-test in
+    let at-loop = to-end-of .before .before .loop in
     let at-start = c .before .before .before .before .before .before .before .before in (
       omega (arith, part.part-le (at-end-of .result) (at-loop .rest .now)),
       subst (λ (l : List ℕ). countIn (listsIn l) ≤ literalLimit)

@@ -79,9 +79,10 @@ put-decimal-returns-2 : (t : ℕ) → put-decimal-lts.Need-returns-2 (put-decima
 put-decimal-returns-2 t c =
     let at-put-byte2 = c .before .before .put-byte2 in
     let at-digit-of2 = c .before .before .before .digit-of2 in
-    let at-put-decimal = c .before .before .before .before .before .before .before .put-decimal in
-    let at-if1 = c .before .before .before .before .before .before .before .before .before .if1 in
-    let at-start = c .before .before .before .before .before .before .before .before .before .before .before in
+    let to-put-decimal = c .before .before .before .before .before .before .before in
+    let at-put-decimal = to-put-decimal .put-decimal in
+    let at-if1 = to-put-decimal .before .before .if1 in
+    let at-start = to-put-decimal .before .before .before .before in
     let n = at-start .args .n in
     put-same (decimalOf n) (put-then (at-put-decimal .ensures) (at-put-byte2 .ensures)) (ap (λ (x : ℕ). decimalOf (n / 10) ++ (x ∷ [])) (at-digit-of2 .ensures) ∙ sym (decimal-more n (at-if1 .left)))
 

@@ -28,9 +28,10 @@ unfolding hexOf
 returns c =
     let at-put-byte2 = c .before .before .put-byte2 in
     let at-digit-of2 = c .before .before .before .digit-of2 in
-    let at-put-byte = c .before .before .before .before .before .before .before .put-byte in
-    let at-digit-of = c .before .before .before .before .before .before .before .before .digit-of in
-    let at-start = c .before .before .before .before .before .before .before .before .before .before .before in
+    let to-put-byte = c .before .before .before .before .before .before .before in
+    let at-put-byte = to-put-byte .put-byte in
+    let at-digit-of = to-put-byte .before .digit-of in
+    let at-start = to-put-byte .before .before .before .before in
     let b = at-start .args .b in
     let x = at-digit-of in
     let y = at-digit-of2 in

@@ -40,9 +40,10 @@ loop-again : tie.Need-loop-again Inv-loop μ-loop
 unfolding hexOf
 loop-again c =
     let at-put-hex = c .before .before .put-hex in
-    let at-loop-test = c .before .before .before .before .before .loop-test in
-    let at-loop = c .before .before .before .before .before .before .loop in
-    let at-start = c .before .before .before .before .before .before .before .before .before in
+    let to-loop-test = c .before .before .before .before .before in
+    let at-loop-test = to-loop-test .loop-test in
+    let at-loop = to-loop-test .before .loop in
+    let at-start = to-loop-test .before .before .before .before in
     let l = at-loop in
     let s = at-start .args .s .now in
     let w = at-put-hex .ensures in

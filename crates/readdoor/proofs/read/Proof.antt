@@ -33,9 +33,10 @@ enum-known-r c = search needs
 zero-words-requires : tie.Need-zero-words-requires
 zero-words-requires c κs =
     let at-r = c .before .before .r in
-    let at-read-text = c .before .before .before .before .before .before .read-text in
-    let at-if1 = c .before .before .before .before .before .before .before .before .if1 in
-    let at-start = c .before .before .before .before .before .before .before .before .before .before .before in
+    let to-read-text = c .before .before .before .before .before .before in
+    let at-read-text = to-read-text .read-text in
+    let at-if1 = to-read-text .before .before .if1 in
+    let at-start = to-read-text .before .before .before .before .before in
     let k : length (at-read-text .last .1 .0) ≡ tokenPool = (at-read-text .kept .1 .0 ∙ length-take-le tokenPool (at-start .args .pool .now) (at-if1 .left)) in
     let a = length-append (at-read-text .last .1 .0) (drop tokenPool (at-start .args .pool .now)) in (
       words-fit (at-start .args .text .now) (at-start .args .pool .now) (at-read-text .last .1 .0) (at-read-text .result) (at-if1 .left)
@@ -56,9 +57,10 @@ returns-2 : tie.Need-returns-2
 returns-2 c =
     let at-zero-words = c .before .before .zero-words in
     let at-r = c .before .before .before .before .before .r in
-    let at-read-text = c .before .before .before .before .before .before .before .before .before .read-text in
-    let at-if1 = c .before .before .before .before .before .before .before .before .before .before .before .if1 in
-    let at-start = c .before .before .before .before .before .before .before .before .before .before .before .before .before .before in
+    let to-read-text = c .before .before .before .before .before .before .before .before .before in
+    let at-read-text = to-read-text .read-text in
+    let at-if1 = to-read-text .before .before .if1 in
+    let at-start = to-read-text .before .before .before .before .before in
     door-read (at-start .args .text .now) (at-start .args .pool .now) (at-read-text .last .1 .0) (at-read-text .result) (at-if1 .left) (at-read-text .kept .1 .0 ∙ length-take-le tokenPool (at-start .args .pool .now) (at-if1 .left)) (at-read-text .ensures) (at-r .given .0 .0) (at-r .given .0 .1 .0) (at-zero-words .last .0) (at-r .given .1) (at-zero-words .ensures)
 
 same-length-2 : tie.Need-same-length-2
@@ -68,9 +70,10 @@ returns-3 : tie.Need-returns-3
 returns-3 c =
     let at-zero-words2 = c .before .before .zero-words2 in
     let at-r2 = c .before .before .before .before .before .r2 in
-    let at-read-text = c .before .before .before .before .before .before .before .before .before .read-text in
-    let at-if1 = c .before .before .before .before .before .before .before .before .before .before .before .if1 in
-    let at-start = c .before .before .before .before .before .before .before .before .before .before .before .before .before .before in
+    let to-read-text = c .before .before .before .before .before .before .before .before .before in
+    let at-read-text = to-read-text .read-text in
+    let at-if1 = to-read-text .before .before .if1 in
+    let at-start = to-read-text .before .before .before .before .before in
     door-refused (at-start .args .text .now) (at-start .args .pool .now) (at-read-text .last .1 .0) (at-read-text .result) (at-if1 .left) (at-read-text .kept .1 .0 ∙ length-take-le tokenPool (at-start .args .pool .now) (at-if1 .left)) (at-read-text .ensures) (at-r2 .given .0 .0) (at-r2 .given .0 .1 .0) (at-zero-words2 .last .0) (at-r2 .given .1) (at-zero-words2 .ensures)
 
 pub read-spec : {M : Type 1} → statement M

@@ -54,12 +54,14 @@ returns-3 c =
     let at-if3 = c .if3 in
     let at-peek2 = c .before .peek2 in
     let at-got = c .before .before .before .got in
-    let at-read-list = c .before .before .before .before .before .before .before .read-list in
-    let at-skip-blanks = c .before .before .before .before .before .before .before .before .before .skip-blanks in
-    let at-if2 = c .before .before .before .before .before .before .before .before .before .before .if2 in
-    let at-peek = c .before .before .before .before .before .before .before .before .before .before .before .peek in
-    let at-if1 = c .before .before .before .before .before .before .before .before .before .before .before .before .if1 in
-    let at-start = c .before .before .before .before .before .before .before .before .before .before .before .before .before .before .before in
+    let to-read-list = c .before .before .before .before .before .before .before in
+    let at-read-list = to-read-list .read-list in
+    let at-skip-blanks = to-read-list .before .before .skip-blanks in
+    let to-if2 = to-read-list .before .before .before in
+    let at-if2 = to-if2 .if2 in
+    let at-peek = to-if2 .before .peek in
+    let at-if1 = to-if2 .before .before .if1 in
+    let at-start = to-if2 .before .before .before .before .before in
     text-open (at-start .args .text .now) (at-skip-blanks .result) (at-if1 .left) (sym (at-peek .ensures) ∙ at-if2 .left) (at-skip-blanks .ensures) (at-read-list .result) (at-start .args .pool .now)
     (at-read-list .last .1 .1 .1 .1 .0) (at-read-list .ensures) (at-got .given .0 .0) (at-got .given .0 .1 .0) (at-got .given .0 .1 .1 .0) (at-got .given .0 .1 .1 .1 .0) (at-got .given .1)
     (λ z. at-if3 .taken (at-peek2 .ensures ∙ z))
@@ -90,12 +92,14 @@ returns-4 c =
     let at-if3 = c .before .if3 in
     let at-peek2 = c .before .before .peek2 in
     let at-got = c .before .before .before .before .got in
-    let at-read-list = c .before .before .before .before .before .before .before .before .read-list in
-    let at-skip-blanks = c .before .before .before .before .before .before .before .before .before .before .skip-blanks in
-    let at-if2 = c .before .before .before .before .before .before .before .before .before .before .before .if2 in
-    let at-peek = c .before .before .before .before .before .before .before .before .before .before .before .before .peek in
-    let at-if1 = c .before .before .before .before .before .before .before .before .before .before .before .before .before .if1 in
-    let at-start = c .before .before .before .before .before .before .before .before .before .before .before .before .before .before .before .before in
+    let to-read-list = c .before .before .before .before .before .before .before .before in
+    let at-read-list = to-read-list .read-list in
+    let at-skip-blanks = to-read-list .before .before .skip-blanks in
+    let to-if2 = to-read-list .before .before .before in
+    let at-if2 = to-if2 .if2 in
+    let at-peek = to-if2 .before .peek in
+    let at-if1 = to-if2 .before .before .if1 in
+    let at-start = to-if2 .before .before .before .before .before in
     text-done (at-start .args .text .now) (at-skip-blanks .result) (at-if1 .left) (sym (at-peek .ensures) ∙ at-if2 .left) (at-skip-blanks .ensures) (at-read-list .result) (at-start .args .pool .now)
     (at-read-list .last .1 .1 .1 .1 .0) (at-read-list .ensures) (at-got .given .0 .0) (at-got .given .0 .1 .0) (at-got .given .0 .1 .1 .0) (at-got .given .0 .1 .1 .1 .0) (at-skip-blanks2 .result)
     (at-got .given .1) (sym (at-peek2 .ensures) ∙ at-if3 .left) (at-skip-blanks2 .ensures)
@@ -107,11 +111,12 @@ returns-5 : tie.Need-returns-5
 returns-5 c =
     let at-enum-told = c .enum-told in
     let at-read-list = c .before .before .before .before .read-list in
-    let at-skip-blanks = c .before .before .before .before .before .before .skip-blanks in
-    let at-if2 = c .before .before .before .before .before .before .before .if2 in
-    let at-peek = c .before .before .before .before .before .before .before .before .peek in
-    let at-if1 = c .before .before .before .before .before .before .before .before .before .if1 in
-    let at-start = c .before .before .before .before .before .before .before .before .before .before .before .before in
+    let to-skip-blanks = c .before .before .before .before .before .before in
+    let at-skip-blanks = to-skip-blanks .skip-blanks in
+    let at-if2 = to-skip-blanks .before .if2 in
+    let at-peek = to-skip-blanks .before .before .peek in
+    let at-if1 = to-skip-blanks .before .before .before .if1 in
+    let at-start = to-skip-blanks .before .before .before .before .before .before in
     text-missing (at-start .args .text .now) (at-skip-blanks .result) (at-if1 .left) (sym (at-peek .ensures) ∙ at-if2 .left) (at-skip-blanks .ensures) (at-read-list .result) (at-start .args .pool .now) (at-read-list .last .1 .1 .1 .1 .0) (at-read-list .ensures) (at-enum-told .given .1)
 
 same-length-4 : tie.Need-same-length-4
@@ -121,11 +126,12 @@ returns-6 : tie.Need-returns-6
 returns-6 c =
     let at-got2 = c .before .got2 in
     let at-read-list = c .before .before .before .before .before .read-list in
-    let at-skip-blanks = c .before .before .before .before .before .before .before .skip-blanks in
-    let at-if2 = c .before .before .before .before .before .before .before .before .if2 in
-    let at-peek = c .before .before .before .before .before .before .before .before .before .peek in
-    let at-if1 = c .before .before .before .before .before .before .before .before .before .before .if1 in
-    let at-start = c .before .before .before .before .before .before .before .before .before .before .before .before .before in
+    let to-skip-blanks = c .before .before .before .before .before .before .before in
+    let at-skip-blanks = to-skip-blanks .skip-blanks in
+    let at-if2 = to-skip-blanks .before .if2 in
+    let at-peek = to-skip-blanks .before .before .peek in
+    let at-if1 = to-skip-blanks .before .before .before .if1 in
+    let at-start = to-skip-blanks .before .before .before .before .before .before in
     text-stopped (at-start .args .text .now) (at-skip-blanks .result) (at-if1 .left) (sym (at-peek .ensures) ∙ at-if2 .left) (at-skip-blanks .ensures) (at-read-list .result) (at-start .args .pool .now) (at-read-list .last .1 .1 .1 .1 .0) (at-read-list .ensures) (at-got2 .given .0 .0) (at-got2 .given .0 .1 .0) (at-got2 .given .1)
 
 pub read-text-spec : {M : Type 1} → statement M

@@ -167,10 +167,11 @@ module _ (t : ℕ) where
   read-alternatives-put-head-requires : read-alternatives-lts.Need-put-head-requires (read-alternatives-claims t) (read-alternatives-at t) read-alternatives.Post read-alternatives-Inv-loop read-alternatives-μ-loop
   read-alternatives-put-head-requires c κs =
       let at-got = c .before .before .got in
-      let at-read-list = c .before .before .before .before .before .before .read-list in
-      let at-loop = c .before .before .before .before .before .before .before .before .loop in
-      let at-if2 = c .before .before .before .before .before .before .before .before .before .before .if2 in
-      let at-start = c .before .before .before .before .before .before .before .before .before .before .before .before .before .before .before in
+      let to-read-list = c .before .before .before .before .before .before in
+      let at-read-list = to-read-list .read-list in
+      let at-loop = to-read-list .before .before .loop in
+      let at-if2 = to-read-list .before .before .before .before .if2 in
+      let at-start = to-read-list .before .before .before .before .before .before .before .before .before in
       let o = at-start .pre .1 .0 in
       let e = at-start .pre .0 in
       let h = at-start .pre .1 .1 in
@@ -191,12 +192,14 @@ module _ (t : ℕ) where
 
   read-alternatives-put-head-requires-2 : read-alternatives-lts.Need-put-head-requires-2 (read-alternatives-claims t) (read-alternatives-at t) read-alternatives.Post read-alternatives-Inv-loop read-alternatives-μ-loop
   read-alternatives-put-head-requires-2 c κs =
-      let at-put-head = c .before .before .before .before .before .put-head in
-      let at-got = c .before .before .before .before .before .before .before .before .got in
-      let at-read-list = c .before .before .before .before .before .before .before .before .before .before .before .before .read-list in
-      let at-loop = c .before .before .before .before .before .before .before .before .before .before .before .before .before .before .loop in
-      let at-if2 = c .before .before .before .before .before .before .before .before .before .before .before .before .before .before .before .before .if2 in
-      let at-start = c .before .before .before .before .before .before .before .before .before .before .before .before .before .before .before .before .before .before .before .before .before in
+      let to-put-head = c .before .before .before .before .before in
+      let at-put-head = to-put-head .put-head in
+      let at-got = to-put-head .before .before .before .got in
+      let to-read-list = to-put-head .before .before .before .before .before .before .before in
+      let at-read-list = to-read-list .read-list in
+      let at-loop = to-read-list .before .before .loop in
+      let at-if2 = to-read-list .before .before .before .before .if2 in
+      let at-start = to-read-list .before .before .before .before .before .before .before .before .before in
       let o = at-start .pre .1 .0 in
       let e = at-start .pre .0 in
       let h = at-start .pre .1 .1 in
@@ -209,10 +212,12 @@ module _ (t : ℕ) where
 
   read-alternatives-add-skip-blanks-2 : read-alternatives-lts.Need-add-skip-blanks-2 (read-alternatives-claims t) (read-alternatives-at t) read-alternatives.Post read-alternatives-Inv-loop read-alternatives-μ-loop
   read-alternatives-add-skip-blanks-2 c =
-      let at-got = c .before .before .before .before .before .before .before .before .before .before .before .got in
-      let at-read-list = c .before .before .before .before .before .before .before .before .before .before .before .before .before .before .before .read-list in
-      let at-loop = c .before .before .before .before .before .before .before .before .before .before .before .before .before .before .before .before .before .loop in
-      let at-start = c .before .before .before .before .before .before .before .before .before .before .before .before .before .before .before .before .before .before .before .before .before .before .before .before in
+      let to-got = c .before .before .before .before .before .before .before .before .before .before .before in
+      let at-got = to-got .got in
+      let to-read-list = to-got .before .before .before .before in
+      let at-read-list = to-read-list .read-list in
+      let at-loop = to-read-list .before .before .loop in
+      let at-start = to-read-list .before .before .before .before .before .before .before .before .before in
       let w = turned (at-start .args .text .now) (at-start .args .level) (at-start .args .count) (at-start .args .at) (at-start .args .n) (at-start .args .pool .now) (at-loop .pool) (at-loop .x)
       (at-loop .miss) (at-loop .m) (at-loop .c) (at-loop .k) (at-loop .inv) (at-read-list .result) (at-read-list .last .1 .1 .1 .1 .0) (at-read-list .ensures) (at-got .given .0 .0)
       (at-got .given .0 .1 .0) (at-got .given .0 .1 .1 .0) (at-got .given .0 .1 .1 .1 .0) (at-got .given .1) in omega arith
@@ -223,25 +228,30 @@ module _ (t : ℕ) where
   read-alternatives-same-length : read-alternatives-lts.Need-same-length (read-alternatives-claims t) (read-alternatives-at t) read-alternatives.Post read-alternatives-Inv-loop read-alternatives-μ-loop
   read-alternatives-same-length c =
       let at-put-head2 = c .before .before .before .put-head2 in
-      let at-put-head = c .before .before .before .before .before .before .before .before .before .put-head in
-      let at-read-list = c .before .before .before .before .before .before .before .before .before .before .before .before .before .before .before .before .read-list in
-      let at-loop = c .before .before .before .before .before .before .before .before .before .before .before .before .before .before .before .before .before .before .loop in
+      let to-put-head = c .before .before .before .before .before .before .before .before .before in
+      let at-put-head = to-put-head .put-head in
+      let to-read-list = to-put-head .before .before .before .before .before .before .before in
+      let at-read-list = to-read-list .read-list in
+      let at-loop = to-read-list .before .before .loop in
       at-put-head2 .kept .0 ∙ (at-put-head .kept .0 ∙ (at-read-list .kept .1 .1 .1 .1 .0 ∙ at-loop .inv .kept))
 
   read-alternatives-returns-3 : read-alternatives-lts.Need-returns-3 (read-alternatives-claims t) (read-alternatives-at t) read-alternatives.Post read-alternatives-Inv-loop read-alternatives-μ-loop
   read-alternatives-returns-3 c =
       let at-skip-blanks2 = c .skip-blanks2 in
       let at-put-head2 = c .before .before .before .put-head2 in
-      let at-if3 = c .before .before .before .before .before .if3 in
-      let at-peek2 = c .before .before .before .before .before .before .peek2 in
-      let at-put-head = c .before .before .before .before .before .before .before .before .before .put-head in
-      let at-got = c .before .before .before .before .before .before .before .before .before .before .before .before .got in
-      let at-read-list = c .before .before .before .before .before .before .before .before .before .before .before .before .before .before .before .before .read-list in
-      let at-loop = c .before .before .before .before .before .before .before .before .before .before .before .before .before .before .before .before .before .before .loop in
-      let at-if2 = c .before .before .before .before .before .before .before .before .before .before .before .before .before .before .before .before .before .before .before .before .if2 in
-      let at-if1 = c .before .before .before .before .before .before .before .before .before .before .before .before .before .before .before .before .before .before .before .before .before .if1 in
-      let at-peek = c .before .before .before .before .before .before .before .before .before .before .before .before .before .before .before .before .before .before .before .before .before .before .peek in
-      let at-start = c .before .before .before .before .before .before .before .before .before .before .before .before .before .before .before .before .before .before .before .before .before .before .before .before .before in
+      let to-if3 = c .before .before .before .before .before in
+      let at-if3 = to-if3 .if3 in
+      let at-peek2 = to-if3 .before .peek2 in
+      let at-put-head = to-if3 .before .before .before .before .put-head in
+      let at-got = to-if3 .before .before .before .before .before .before .before .got in
+      let to-read-list = to-if3 .before .before .before .before .before .before .before .before .before .before .before in
+      let at-read-list = to-read-list .read-list in
+      let at-loop = to-read-list .before .before .loop in
+      let to-if2 = to-read-list .before .before .before .before in
+      let at-if2 = to-if2 .if2 in
+      let at-if1 = to-if2 .before .if1 in
+      let at-peek = to-if2 .before .before .peek in
+      let at-start = to-if2 .before .before .before .before .before in
       let o = at-start .pre .1 .0 in
       let e = at-start .pre .0 in
       let h = at-start .pre .1 .1 in
@@ -257,8 +267,9 @@ module _ (t : ℕ) where
   read-alternatives-same-length-2 : read-alternatives-lts.Need-same-length-2 (read-alternatives-claims t) (read-alternatives-at t) read-alternatives.Post read-alternatives-Inv-loop read-alternatives-μ-loop
   read-alternatives-same-length-2 c =
       let at-put-head = c .before .before .before .before .before .put-head in
-      let at-read-list = c .before .before .before .before .before .before .before .before .before .before .before .before .read-list in
-      let at-loop = c .before .before .before .before .before .before .before .before .before .before .before .before .before .before .loop in
+      let to-read-list = c .before .before .before .before .before .before .before .before .before .before .before .before in
+      let at-read-list = to-read-list .read-list in
+      let at-loop = to-read-list .before .before .loop in
       (at-put-head .kept .0 ∙ (at-read-list .kept .1 .1 .1 .1 .0 ∙ at-loop .inv .kept))
 
   read-alternatives-returns-4 : read-alternatives-lts.Need-returns-4 (read-alternatives-claims t) (read-alternatives-at t) read-alternatives.Post read-alternatives-Inv-loop read-alternatives-μ-loop
@@ -266,14 +277,17 @@ module _ (t : ℕ) where
       let at-if4 = c .if4 in
       let at-if3 = c .before .if3 in
       let at-peek2 = c .before .before .peek2 in
-      let at-put-head = c .before .before .before .before .before .put-head in
-      let at-got = c .before .before .before .before .before .before .before .before .got in
-      let at-read-list = c .before .before .before .before .before .before .before .before .before .before .before .before .read-list in
-      let at-loop = c .before .before .before .before .before .before .before .before .before .before .before .before .before .before .loop in
-      let at-if2 = c .before .before .before .before .before .before .before .before .before .before .before .before .before .before .before .before .if2 in
-      let at-if1 = c .before .before .before .before .before .before .before .before .before .before .before .before .before .before .before .before .before .if1 in
-      let at-peek = c .before .before .before .before .before .before .before .before .before .before .before .before .before .before .before .before .before .before .peek in
-      let at-start = c .before .before .before .before .before .before .before .before .before .before .before .before .before .before .before .before .before .before .before .before .before in
+      let to-put-head = c .before .before .before .before .before in
+      let at-put-head = to-put-head .put-head in
+      let at-got = to-put-head .before .before .before .got in
+      let to-read-list = to-put-head .before .before .before .before .before .before .before in
+      let at-read-list = to-read-list .read-list in
+      let at-loop = to-read-list .before .before .loop in
+      let to-if2 = to-read-list .before .before .before .before in
+      let at-if2 = to-if2 .if2 in
+      let at-if1 = to-if2 .before .if1 in
+      let at-peek = to-if2 .before .before .peek in
+      let at-start = to-if2 .before .before .before .before .before in
       lists-read-else (at-start .args .text .now) (at-start .args .level) (at-start .args .count) (at-start .args .at) (at-start .args .n) (at-start .args .pool .now) (at-loop .pool) (at-loop .x)
       (at-loop .miss) (at-loop .m) (at-loop .c) (at-loop .k) (at-loop .inv) (at-read-list .result) (at-read-list .last .1 .1 .1 .1 .0) (at-read-list .ensures) (at-got .given .0 .0)
       (at-got .given .0 .1 .0) (at-got .given .0 .1 .1 .0) (at-got .given .0 .1 .1 .1 .0) (at-put-head .last .0) (sym (at-peek .ensures) ∙ at-if1 .left) (at-if2 .left) (at-got .given .1)
@@ -281,10 +295,12 @@ module _ (t : ℕ) where
 
   read-alternatives-add-skip-blanks-3 : read-alternatives-lts.Need-add-skip-blanks-3 (read-alternatives-claims t) (read-alternatives-at t) read-alternatives.Post read-alternatives-Inv-loop read-alternatives-μ-loop
   read-alternatives-add-skip-blanks-3 c =
-      let at-got = c .before .before .before .before .before .before .before .before .got in
-      let at-read-list = c .before .before .before .before .before .before .before .before .before .before .before .before .read-list in
-      let at-loop = c .before .before .before .before .before .before .before .before .before .before .before .before .before .before .loop in
-      let at-start = c .before .before .before .before .before .before .before .before .before .before .before .before .before .before .before .before .before .before .before .before .before in
+      let to-got = c .before .before .before .before .before .before .before .before in
+      let at-got = to-got .got in
+      let to-read-list = to-got .before .before .before .before in
+      let at-read-list = to-read-list .read-list in
+      let at-loop = to-read-list .before .before .loop in
+      let at-start = to-read-list .before .before .before .before .before .before .before .before .before in
       let w = turned (at-start .args .text .now) (at-start .args .level) (at-start .args .count) (at-start .args .at) (at-start .args .n) (at-start .args .pool .now) (at-loop .pool) (at-loop .x)
       (at-loop .miss) (at-loop .m) (at-loop .c) (at-loop .k) (at-loop .inv) (at-read-list .result) (at-read-list .last .1 .1 .1 .1 .0) (at-read-list .ensures) (at-got .given .0 .0)
       (at-got .given .0 .1 .0) (at-got .given .0 .1 .1 .0) (at-got .given .0 .1 .1 .1 .0) (at-got .given .1) in omega arith
@@ -295,10 +311,12 @@ module _ (t : ℕ) where
   read-alternatives-loop-less : read-alternatives-lts.Need-loop-less (read-alternatives-claims t) (read-alternatives-at t) read-alternatives.Post read-alternatives-Inv-loop read-alternatives-μ-loop
   read-alternatives-loop-less c =
       let at-skip-blanks3 = c .skip-blanks3 in
-      let at-got = c .before .before .before .before .before .before .before .before .before .got in
-      let at-read-list = c .before .before .before .before .before .before .before .before .before .before .before .before .before .read-list in
-      let at-loop = c .before .before .before .before .before .before .before .before .before .before .before .before .before .before .before .loop in
-      let at-start = c .before .before .before .before .before .before .before .before .before .before .before .before .before .before .before .before .before .before .before .before .before .before in
+      let to-got = c .before .before .before .before .before .before .before .before .before in
+      let at-got = to-got .got in
+      let to-read-list = to-got .before .before .before .before in
+      let at-read-list = to-read-list .read-list in
+      let at-loop = to-read-list .before .before .loop in
+      let at-start = to-read-list .before .before .before .before .before .before .before .before .before in
       let w = turned (at-start .args .text .now) (at-start .args .level) (at-start .args .count) (at-start .args .at) (at-start .args .n) (at-start .args .pool .now) (at-loop .pool) (at-loop .x)
       (at-loop .miss) (at-loop .m) (at-loop .c) (at-loop .k) (at-loop .inv) (at-read-list .result) (at-read-list .last .1 .1 .1 .1 .0) (at-read-list .ensures) (at-got .given .0 .0)
       (at-got .given .0 .1 .0) (at-got .given .0 .1 .1 .0) (at-got .given .0 .1 .1 .1 .0) (at-got .given .1) in
@@ -310,12 +328,14 @@ module _ (t : ℕ) where
       let at-skip-blanks3 = c .skip-blanks3 in
       let at-if4 = c .before .if4 in
       let at-peek2 = c .before .before .before .peek2 in
-      let at-put-head = c .before .before .before .before .before .before .put-head in
-      let at-got = c .before .before .before .before .before .before .before .before .before .got in
-      let at-read-list = c .before .before .before .before .before .before .before .before .before .before .before .before .before .read-list in
-      let at-loop = c .before .before .before .before .before .before .before .before .before .before .before .before .before .before .before .loop in
-      let at-if2 = c .before .before .before .before .before .before .before .before .before .before .before .before .before .before .before .before .before .if2 in
-      let at-start = c .before .before .before .before .before .before .before .before .before .before .before .before .before .before .before .before .before .before .before .before .before .before in
+      let to-put-head = c .before .before .before .before .before .before in
+      let at-put-head = to-put-head .put-head in
+      let at-got = to-put-head .before .before .before .got in
+      let to-read-list = to-put-head .before .before .before .before .before .before .before in
+      let at-read-list = to-read-list .read-list in
+      let at-loop = to-read-list .before .before .loop in
+      let at-if2 = to-read-list .before .before .before .before .if2 in
+      let at-start = to-read-list .before .before .before .before .before .before .before .before .before in
       let o = at-start .pre .1 .0 in
       let e = at-start .pre .0 in
       let h = at-start .pre .1 .1 in
@@ -340,12 +360,14 @@ module _ (t : ℕ) where
   read-alternatives-returns-5 : read-alternatives-lts.Need-returns-5 (read-alternatives-claims t) (read-alternatives-at t) read-alternatives.Post read-alternatives-Inv-loop read-alternatives-μ-loop
   read-alternatives-returns-5 c =
       let at-enum-told = c .enum-told in
-      let at-read-list = c .before .before .before .before .read-list in
-      let at-loop = c .before .before .before .before .before .before .loop in
-      let at-if2 = c .before .before .before .before .before .before .before .before .if2 in
-      let at-if1 = c .before .before .before .before .before .before .before .before .before .if1 in
-      let at-peek = c .before .before .before .before .before .before .before .before .before .before .peek in
-      let at-start = c .before .before .before .before .before .before .before .before .before .before .before .before .before in
+      let to-read-list = c .before .before .before .before in
+      let at-read-list = to-read-list .read-list in
+      let at-loop = to-read-list .before .before .loop in
+      let to-if2 = to-read-list .before .before .before .before in
+      let at-if2 = to-if2 .if2 in
+      let at-if1 = to-if2 .before .if1 in
+      let at-peek = to-if2 .before .before .peek in
+      let at-start = to-if2 .before .before .before .before .before in
       lists-read-missing (at-start .args .text .now) (at-start .args .level) (at-start .args .count) (at-start .args .at) (at-start .args .n) (at-start .args .pool .now) (at-loop .pool) (at-loop .x)
       (at-loop .miss) (at-loop .m) (at-loop .c) (at-loop .k) (at-loop .inv) (at-read-list .result) (at-read-list .last .1 .1 .1 .1 .0) (at-read-list .ensures)
       (sym (at-peek .ensures) ∙ at-if1 .left) (at-if2 .left) (at-enum-told .given .1) (at-read-list .last .1 .1 .1 .1 .0)
@@ -362,12 +384,14 @@ module _ (t : ℕ) where
   read-alternatives-returns-6 : read-alternatives-lts.Need-returns-6 (read-alternatives-claims t) (read-alternatives-at t) read-alternatives.Post read-alternatives-Inv-loop read-alternatives-μ-loop
   read-alternatives-returns-6 c =
       let at-got2 = c .before .got2 in
-      let at-read-list = c .before .before .before .before .before .read-list in
-      let at-loop = c .before .before .before .before .before .before .before .loop in
-      let at-if2 = c .before .before .before .before .before .before .before .before .before .if2 in
-      let at-if1 = c .before .before .before .before .before .before .before .before .before .before .if1 in
-      let at-peek = c .before .before .before .before .before .before .before .before .before .before .before .peek in
-      let at-start = c .before .before .before .before .before .before .before .before .before .before .before .before .before .before in
+      let to-read-list = c .before .before .before .before .before in
+      let at-read-list = to-read-list .read-list in
+      let at-loop = to-read-list .before .before .loop in
+      let to-if2 = to-read-list .before .before .before .before in
+      let at-if2 = to-if2 .if2 in
+      let at-if1 = to-if2 .before .if1 in
+      let at-peek = to-if2 .before .before .peek in
+      let at-start = to-if2 .before .before .before .before .before in
       lists-read-stop (at-start .args .text .now) (at-start .args .level) (at-start .args .count) (at-start .args .at) (at-start .args .n) (at-start .args .pool .now) (at-loop .pool) (at-loop .x)
       (at-loop .miss) (at-loop .m) (at-loop .c) (at-loop .k) (at-loop .inv) (at-read-list .result) (at-read-list .last .1 .1 .1 .1 .0) (at-read-list .ensures)
       (sym (at-peek .ensures) ∙ at-if1 .left) (at-if2 .left) (at-got2 .given .0 .0) (at-got2 .given .0 .1 .0) (at-got2 .given .1) (at-read-list .last .1 .1 .1 .1 .0)
@@ -404,9 +428,10 @@ module _ (t : ℕ) where
   read-list-loop-less : read-list-lts.Need-loop-less (read-list-claims t) (read-list-at t) read-list.Post read-list-Inv-loop read-list-μ-loop
   read-list-loop-less c =
       let at-got = c .before .before .got in
-      let at-read-token = c .before .before .before .before .before .before .read-token in
-      let at-loop = c .before .before .before .before .before .before .before .before .loop in
-      let at-start = c .before .before .before .before .before .before .before .before .before .before .before .before in
+      let to-read-token = c .before .before .before .before .before .before in
+      let at-read-token = to-read-token .read-token in
+      let at-loop = to-read-token .before .before .loop in
+      let at-start = to-read-token .before .before .before .before .before .before in
       let s = stepped (at-start .args .text .now) (at-start .args .level) (at-start .args .count) (at-start .args .at) (at-start .args .n) (at-start .args .pool .now) (at-loop .pool) (at-loop .x)
       (at-loop .m) (at-loop .c) (at-loop .k) (at-loop .first) (at-loop .last) (at-loop .inv) (at-read-token .result) (at-read-token .last .1 .1 .1 .1 .0) (at-read-token .ensures)
       (at-got .given .0 .0) (at-got .given .0 .1 .0) (at-got .given .0 .1 .1 .0) (at-got .given .0 .1 .1 .1 .0) (at-got .given .1) in omega arith
@@ -415,9 +440,10 @@ module _ (t : ℕ) where
   read-list-loop-again c =
       let at-first-jump = c .first-jump in
       let at-got = c .before .before .got in
-      let at-read-token = c .before .before .before .before .before .before .read-token in
-      let at-loop = c .before .before .before .before .before .before .before .before .loop in
-      let at-start = c .before .before .before .before .before .before .before .before .before .before .before .before in
+      let to-read-token = c .before .before .before .before .before .before in
+      let at-read-token = to-read-token .read-token in
+      let at-loop = to-read-token .before .before .loop in
+      let at-start = to-read-token .before .before .before .before .before .before in
       let o = at-start .pre .1 in
       let e = at-start .pre .0 in
       let v = at-loop .inv in
@@ -445,10 +471,11 @@ module _ (t : ℕ) where
   read-list-returns-2 c =
       let at-list-end = c .list-end in
       let at-enum-told = c .before .enum-told in
-      let at-read-token = c .before .before .before .before .before .read-token in
-      let at-loop = c .before .before .before .before .before .before .before .loop in
-      let at-if1 = c .before .before .before .before .before .before .before .before .if1 in
-      let at-start = c .before .before .before .before .before .before .before .before .before .before .before in
+      let to-read-token = c .before .before .before .before .before in
+      let at-read-token = to-read-token .read-token in
+      let at-loop = to-read-token .before .before .loop in
+      let at-if1 = to-read-token .before .before .before .if1 in
+      let at-start = to-read-token .before .before .before .before .before .before in
       subst (λ (r : ListGot). ListSays (list (at-start .args .text .now) (at-start .args .level) (at-start .args .count) (at-start .args .at)) (at-start .args .n) r (at-start .args .pool .now)
       (at-read-token .last .1 .1 .1 .1 .0)) (sym (at-list-end .ensures))
       (tokened-end (at-start .args .text .now) (at-start .args .level) (at-start .args .count) (at-start .args .at) (at-start .args .n) (at-start .args .pool .now) (at-loop .pool) (at-loop .x)
@@ -467,10 +494,11 @@ module _ (t : ℕ) where
   read-list-returns-3 : read-list-lts.Need-returns-3 (read-list-claims t) (read-list-at t) read-list.Post read-list-Inv-loop read-list-μ-loop
   read-list-returns-3 c =
       let at-got2 = c .before .got2 in
-      let at-read-token = c .before .before .before .before .before .read-token in
-      let at-loop = c .before .before .before .before .before .before .before .loop in
-      let at-if1 = c .before .before .before .before .before .before .before .before .if1 in
-      let at-start = c .before .before .before .before .before .before .before .before .before .before .before in
+      let to-read-token = c .before .before .before .before .before in
+      let at-read-token = to-read-token .read-token in
+      let at-loop = to-read-token .before .before .loop in
+      let at-if1 = to-read-token .before .before .before .if1 in
+      let at-start = to-read-token .before .before .before .before .before .before in
       tokened-stop (at-start .args .text .now) (at-start .args .level) (at-start .args .count) (at-start .args .at) (at-start .args .n) (at-start .args .pool .now) (at-loop .pool) (at-loop .x)
       (at-loop .m) (at-loop .c) (at-loop .k) (at-loop .first) (at-loop .last) (at-loop .inv) (at-read-token .result) (at-read-token .last .1 .1 .1 .1 .0) (at-read-token .ensures) (at-if1 .left)
       (at-got2 .given .0 .0) (at-got2 .given .0 .1 .0) (at-got2 .given .1)
@@ -527,10 +555,11 @@ module _ (t : ℕ) where
   read-token-returns-2 : read-token-lts.Need-returns-2 (read-token-claims t) (read-token-at t) read-token.Post
   read-token-returns-2 c =
       let at-put-leaf = c .before .before .put-leaf in
-      let at-if1 = c .before .before .before .before .if1 in
-      let at-leaf = c .before .before .before .before .before .before .leaf in
-      let at-leaf-token = c .before .before .before .before .before .before .before .before .leaf-token in
-      let at-start = c .before .before .before .before .before .before .before .before .before .before .before in
+      let to-if1 = c .before .before .before .before in
+      let at-if1 = to-if1 .if1 in
+      let at-leaf = to-if1 .before .before .leaf in
+      let at-leaf-token = to-if1 .before .before .before .before .leaf-token in
+      let at-start = to-if1 .before .before .before .before .before .before .before in
       let w : length (entriesOf (tokenOf (at-leaf .given .0 .0))) ≡ 4 = one-entry (at-start .args .text .now) (at-start .args .level) (at-start .args .count) (at-start .args .at)
       (sym (at-leaf-token .ensures) ∙ ap leafSeen (at-leaf .given .1)) in says-read (token (at-start .args .text .now) (at-start .args .level) (at-start .args .count) (at-start .args .at))
       (at-start .args .n) (at-start .args .pool .now) (at-put-leaf .last .0) (tokenOf (at-leaf .given .0 .0)) (at-leaf .given .0 .1 .1 .0) ((at-start .args .count) + 1)
@@ -544,9 +573,10 @@ module _ (t : ℕ) where
   read-token-returns-3 : read-token-lts.Need-returns-3 (read-token-claims t) (read-token-at t) read-token.Post
   read-token-returns-3 c =
       let at-read-alternatives = c .before .before .read-alternatives in
-      let at-enum-told = c .before .before .before .before .enum-told in
-      let at-leaf-token = c .before .before .before .before .before .before .leaf-token in
-      let at-start = c .before .before .before .before .before .before .before .before .before in
+      let to-enum-told = c .before .before .before .before in
+      let at-enum-told = to-enum-told .enum-told in
+      let at-leaf-token = to-enum-told .before .before .leaf-token in
+      let at-start = to-enum-told .before .before .before .before .before in
       says-same (token (at-start .args .text .now) (at-start .args .level) (at-start .args .count) (at-start .args .at))
       (alternatives (at-start .args .text .now) (at-start .args .level) (at-start .args .count) (at-start .args .at)) _ _ _ _
       (token-other (at-start .args .text .now) (at-start .args .level) (at-start .args .count) (at-start .args .at) (sym (at-leaf-token .ensures) ∙ ap leafSeen (at-enum-told .given .1)))

@@ -96,10 +96,11 @@ returns-3 : tie.Need-returns-3
 unfolding isJump entriesOf
 returns-3 c =
     let at-put3 = c .before .before .put3 in
-    let at-mask-number = c .before .before .before .mask-number in
-    let at-wide3 = c .before .before .before .before .wide3 in
-    let at-tok3 = c .before .before .before .before .before .before .before .tok3 in
-    let at-start = c .before .before .before .before .before .before .before .before .before .before in
+    let to-mask-number = c .before .before .before in
+    let at-mask-number = to-mask-number .mask-number in
+    let at-wide3 = to-mask-number .before .wide3 in
+    let at-tok3 = to-mask-number .before .before .before .before .tok3 in
+    let at-start = to-mask-number .before .before .before .before .before .before .before in
     let e = at-tok3 .given .1 in (rw e refl, at-put3 .ensures ∙ ap₂ (λ (v m : ℕ). written (at-start .args .pool .now) (at-start .args .n) (2 ∷ v ∷ m ∷ 0 ∷ [])) (at-wide3 .ensures) (at-mask-number .ensures) ∙ ap (λ (k : Leaf). written (at-start .args .pool .now) (at-start .args .n) (entriesOf (tokenOf k))) (sym e))
 
 same-length-4 : tie.Need-same-length-4
@@ -109,10 +110,11 @@ returns-4 : tie.Need-returns-4
 unfolding isJump entriesOf
 returns-4 c =
     let at-put4 = c .before .before .put4 in
-    let at-mask-number2 = c .before .before .before .mask-number2 in
-    let at-wide4 = c .before .before .before .before .wide4 in
-    let at-tok4 = c .before .before .before .before .before .before .before .tok4 in
-    let at-start = c .before .before .before .before .before .before .before .before .before .before in
+    let to-mask-number2 = c .before .before .before in
+    let at-mask-number2 = to-mask-number2 .mask-number2 in
+    let at-wide4 = to-mask-number2 .before .wide4 in
+    let at-tok4 = to-mask-number2 .before .before .before .before .tok4 in
+    let at-start = to-mask-number2 .before .before .before .before .before .before .before in
     let e = at-tok4 .given .1 in (rw e refl, at-put4 .ensures ∙ ap₂ (λ (v m : ℕ). written (at-start .args .pool .now) (at-start .args .n) (3 ∷ v ∷ m ∷ 0 ∷ [])) (at-wide4 .ensures) (at-mask-number2 .ensures) ∙ ap (λ (k : Leaf). written (at-start .args .pool .now) (at-start .args .n) (entriesOf (tokenOf k))) (sym e))
 
 same-length-5 : tie.Need-same-length-5

@@ -169,9 +169,10 @@ module _ (t : ℕ) where
   branches-slice-aggregate-flat : branches-lts.Need-slice-aggregate-flat (branches-claims t) (branches-at t) branches.Post branches-Inv-loop branches-μ-loop branches-Inv-branches branches-μ-branches
   branches-slice-aggregate-flat c =
       let at-first = c .before .first in
-      let at-w = c .before .before .before .before .w in
-      let at-first-word = c .before .before .before .before .before .before .first-word in
-      let at-branches = c .before .before .before .before .before .before .before .branches in
+      let to-w = c .before .before .before .before in
+      let at-w = to-w .w in
+      let at-first-word = to-w .before .before .first-word in
+      let at-branches = to-w .before .before .before .branches in
       let L = at-branches .bs .now in
       let W = at-w .given .0 .0 in
       let e = sym (at-first-word .ensures) ∙ at-w .given .1 in
@@ -182,9 +183,10 @@ module _ (t : ℕ) where
   branches-flat-requires : branches-lts.Need-flat-requires (branches-claims t) (branches-at t) branches.Post branches-Inv-loop branches-μ-loop branches-Inv-branches branches-μ-branches
   branches-flat-requires c κs =
       let at-first = c .before .first in
-      let at-w = c .before .before .before .before .w in
-      let at-first-word = c .before .before .before .before .before .before .first-word in
-      let at-branches = c .before .before .before .before .before .before .before .branches in
+      let to-w = c .before .before .before .before in
+      let at-w = to-w .w in
+      let at-first-word = to-w .before .before .first-word in
+      let at-branches = to-w .before .before .before .branches in
       let L = at-branches .bs .now in
       let W = at-w .given .0 .0 in
       let e = sym (at-first-word .ensures) ∙ at-w .given .1 in
@@ -236,8 +238,9 @@ module _ (t : ℕ) where
 
   branches-slice-aggregate-check : branches-lts.Need-slice-aggregate-check (branches-claims t) (branches-at t) branches.Post branches-Inv-loop branches-μ-loop branches-Inv-branches branches-μ-branches
   branches-slice-aggregate-check c =
-      let at-got = c .before .before .before .before .before .before .before .got in
-      let at-start = c .before .before .before .before .before .before .before .before .before .before .before .before .before .before .before .before .before .before .before .before .before in
+      let to-got = c .before .before .before .before .before .before .before in
+      let at-got = to-got .got in
+      let at-start = to-got .before .before .before .before .before .before .before .before .before .before .before .before .before .before in
       let M = at-start .args .mem .now in
       let N = take (at-got .given .0 .0) M in
       sym (length-take-le _ N (omega arith))
@@ -261,11 +264,12 @@ module _ (t : ℕ) where
   branches-loop-again c =
       let at-enum-told2 = c .enum-told2 in
       let at-check = c .before .before .check in
-      let at-if1 = c .before .before .before .before .before .if1 in
-      let at-loop-test = c .before .before .before .before .before .before .loop-test in
-      let at-loop = c .before .before .before .before .before .before .before .loop in
-      let at-got = c .before .before .before .before .before .before .before .before .before .before .got in
-      let at-start = c .before .before .before .before .before .before .before .before .before .before .before .before .before .before .before .before .before .before .before .before .before .before .before .before in
+      let to-if1 = c .before .before .before .before .before in
+      let at-if1 = to-if1 .if1 in
+      let at-loop-test = to-if1 .before .loop-test in
+      let at-loop = to-if1 .before .before .loop in
+      let at-got = to-if1 .before .before .before .before .before .got in
+      let at-start = to-if1 .before .before .before .before .before .before .before .before .before .before .before .before .before .before .before .before .before .before .before in
       let p = prog (at-start .args .rest .now) in
       let M = at-start .args .mem .now in
       let N = take (at-got .given .0 .0) M in
@@ -301,9 +305,10 @@ module _ (t : ℕ) where
   branches-sub-bs-2 : branches-lts.Need-sub-bs-2 (branches-claims t) (branches-at t) branches.Post branches-Inv-loop branches-μ-loop branches-Inv-branches branches-μ-branches
   branches-sub-bs-2 c =
       let at-first = c .before .before .before .first in
-      let at-w = c .before .before .before .before .before .before .w in
-      let at-first-word = c .before .before .before .before .before .before .before .before .first-word in
-      let at-branches = c .before .before .before .before .before .before .before .before .before .branches in
+      let to-w = c .before .before .before .before .before .before in
+      let at-w = to-w .w in
+      let at-first-word = to-w .before .before .first-word in
+      let at-branches = to-w .before .before .before .branches in
       let L = at-branches .bs .now in
       let W = at-w .given .0 .0 in
       let e = sym (at-first-word .ensures) ∙ at-w .given .1 in
@@ -314,9 +319,10 @@ module _ (t : ℕ) where
   branches-part-bs-start-2 : branches-lts.Need-part-bs-start-2 (branches-claims t) (branches-at t) branches.Post branches-Inv-loop branches-μ-loop branches-Inv-branches branches-μ-branches
   branches-part-bs-start-2 c =
       let at-first = c .before .before .before .first in
-      let at-w = c .before .before .before .before .before .before .w in
-      let at-first-word = c .before .before .before .before .before .before .before .before .first-word in
-      let at-branches = c .before .before .before .before .before .before .before .before .before .branches in
+      let to-w = c .before .before .before .before .before .before in
+      let at-w = to-w .w in
+      let at-first-word = to-w .before .before .first-word in
+      let at-branches = to-w .before .before .before .branches in
       let L = at-branches .bs .now in
       let W = at-w .given .0 .0 in
       let e = sym (at-first-word .ensures) ∙ at-w .given .1 in
@@ -330,9 +336,10 @@ module _ (t : ℕ) where
   branches-branches-less : branches-lts.Need-branches-less (branches-claims t) (branches-at t) branches.Post branches-Inv-loop branches-μ-loop branches-Inv-branches branches-μ-branches
   branches-branches-less c =
       let at-first = c .before .before .before .before .first in
-      let at-w = c .before .before .before .before .before .before .before .w in
-      let at-first-word = c .before .before .before .before .before .before .before .before .before .first-word in
-      let at-branches = c .before .before .before .before .before .before .before .before .before .before .branches in
+      let to-w = c .before .before .before .before .before .before .before in
+      let at-w = to-w .w in
+      let at-first-word = to-w .before .before .first-word in
+      let at-branches = to-w .before .before .before .branches in
       let L = at-branches .bs .now in
       let W = at-w .given .0 .0 in
       let e = sym (at-first-word .ensures) ∙ at-w .given .1 in
@@ -343,10 +350,11 @@ module _ (t : ℕ) where
       let at-match2 = c .before .match2 in
       let at-flat = c .before .before .flat in
       let at-first = c .before .before .before .before .first in
-      let at-w = c .before .before .before .before .before .before .before .w in
-      let at-first-word = c .before .before .before .before .before .before .before .before .before .first-word in
-      let at-branches = c .before .before .before .before .before .before .before .before .before .before .branches in
-      let at-start = c .before .before .before .before .before .before .before .before .before .before .before .before .before .before in
+      let to-w = c .before .before .before .before .before .before .before in
+      let at-w = to-w .w in
+      let at-first-word = to-w .before .before .first-word in
+      let at-branches = to-w .before .before .before .branches in
+      let at-start = to-w .before .before .before .before .before .before .before in
       let L = at-branches .bs .now in
       let W = at-w .given .0 .0 in
       let e = sym (at-first-word .ensures) ∙ at-w .given .1 in
@@ -378,16 +386,19 @@ module _ (t : ℕ) where
   branches-returns-2 c =
       let at-got2 = c .before .got2 in
       let at-check = c .before .before .before .check in
-      let at-if1 = c .before .before .before .before .before .before .if1 in
-      let at-loop-test = c .before .before .before .before .before .before .before .loop-test in
-      let at-loop = c .before .before .before .before .before .before .before .before .loop in
-      let at-got = c .before .before .before .before .before .before .before .before .before .before .before .got in
-      let at-flat = c .before .before .before .before .before .before .before .before .before .before .before .before .before .flat in
-      let at-first = c .before .before .before .before .before .before .before .before .before .before .before .before .before .before .before .first in
-      let at-w = c .before .before .before .before .before .before .before .before .before .before .before .before .before .before .before .before .before .before .w in
-      let at-first-word = c .before .before .before .before .before .before .before .before .before .before .before .before .before .before .before .before .before .before .before .before .first-word in
-      let at-branches = c .before .before .before .before .before .before .before .before .before .before .before .before .before .before .before .before .before .before .before .before .before .branches in
-      let at-start = c .before .before .before .before .before .before .before .before .before .before .before .before .before .before .before .before .before .before .before .before .before .before .before .before .before in
+      let to-if1 = c .before .before .before .before .before .before in
+      let at-if1 = to-if1 .if1 in
+      let at-loop-test = to-if1 .before .loop-test in
+      let at-loop = to-if1 .before .before .loop in
+      let to-got = to-if1 .before .before .before .before .before in
+      let at-got = to-got .got in
+      let at-flat = to-got .before .before .flat in
+      let at-first = to-got .before .before .before .before .first in
+      let to-w = to-got .before .before .before .before .before .before .before in
+      let at-w = to-w .w in
+      let at-first-word = to-w .before .before .first-word in
+      let at-branches = to-w .before .before .before .branches in
+      let at-start = to-w .before .before .before .before .before .before .before in
       let L = at-branches .bs .now in
       let W = at-w .given .0 .0 in
       let e = sym (at-first-word .ensures) ∙ at-w .given .1 in
@@ -468,9 +479,10 @@ module _ (t : ℕ) where
       let at-last-byte = c .before .before .last-byte in
       let at-if1 = c .before .before .before .if1 in
       let at-tests-byte = c .before .before .before .before .tests-byte in
-      let at-w = c .before .before .before .before .before .before .before .w in
-      let at-first-word = c .before .before .before .before .before .before .before .before .before .first-word in
-      let at-loop = c .before .before .before .before .before .before .before .before .before .before .loop in
+      let to-w = c .before .before .before .before .before .before .before in
+      let at-w = to-w .w in
+      let at-first-word = to-w .before .before .first-word in
+      let at-loop = to-w .before .before .before .loop in
       let inv = at-loop .inv .2 in
       let L = at-loop .ns .now in
       let W = at-w .given .0 .0 in
@@ -506,9 +518,10 @@ module _ (t : ℕ) where
 
   check-loop-less : check-lts.Need-loop-less (check-claims t) (check-at t) check.Post check-Inv-loop check-μ-loop
   check-loop-less c =
-      let at-w = c .before .before .before .before .before .before .before .before .before .before .before .w in
-      let at-first-word = c .before .before .before .before .before .before .before .before .before .before .before .before .before .first-word in
-      let at-loop = c .before .before .before .before .before .before .before .before .before .before .before .before .before .before .loop in
+      let to-w = c .before .before .before .before .before .before .before .before .before .before .before in
+      let at-w = to-w .w in
+      let at-first-word = to-w .before .before .first-word in
+      let at-loop = to-w .before .before .before .loop in
       let L = at-loop .ns .now in
       let W = at-w .given .0 .0 in
       let e = sym (at-first-word .ensures) ∙ at-w .given .1 in
@@ -519,12 +532,14 @@ module _ (t : ℕ) where
       let at-if2 = c .if2 in
       let at-word-passes = c .before .word-passes in
       let at-b = c .before .before .before .before .b in
-      let at-last-byte = c .before .before .before .before .before .before .last-byte in
-      let at-if1 = c .before .before .before .before .before .before .before .if1 in
-      let at-tests-byte = c .before .before .before .before .before .before .before .before .tests-byte in
-      let at-w = c .before .before .before .before .before .before .before .before .before .before .before .w in
-      let at-first-word = c .before .before .before .before .before .before .before .before .before .before .before .before .before .first-word in
-      let at-loop = c .before .before .before .before .before .before .before .before .before .before .before .before .before .before .loop in
+      let to-last-byte = c .before .before .before .before .before .before in
+      let at-last-byte = to-last-byte .last-byte in
+      let at-if1 = to-last-byte .before .if1 in
+      let at-tests-byte = to-last-byte .before .before .tests-byte in
+      let to-w = to-last-byte .before .before .before .before .before in
+      let at-w = to-w .w in
+      let at-first-word = to-w .before .before .first-word in
+      let at-loop = to-w .before .before .before .loop in
       let L = at-loop .ns .now in
       let W = at-w .given .0 .0 in
       let e = sym (at-first-word .ensures) ∙ at-w .given .1 in
@@ -542,12 +557,14 @@ module _ (t : ℕ) where
       let at-if2 = c .if2 in
       let at-word-passes = c .before .word-passes in
       let at-b = c .before .before .before .before .b in
-      let at-last-byte = c .before .before .before .before .before .before .last-byte in
-      let at-if1 = c .before .before .before .before .before .before .before .if1 in
-      let at-tests-byte = c .before .before .before .before .before .before .before .before .tests-byte in
-      let at-w = c .before .before .before .before .before .before .before .before .before .before .before .w in
-      let at-first-word = c .before .before .before .before .before .before .before .before .before .before .before .before .before .first-word in
-      let at-loop = c .before .before .before .before .before .before .before .before .before .before .before .before .before .before .loop in
+      let to-last-byte = c .before .before .before .before .before .before in
+      let at-last-byte = to-last-byte .last-byte in
+      let at-if1 = to-last-byte .before .if1 in
+      let at-tests-byte = to-last-byte .before .before .tests-byte in
+      let to-w = to-last-byte .before .before .before .before .before in
+      let at-w = to-w .w in
+      let at-first-word = to-w .before .before .first-word in
+      let at-loop = to-w .before .before .before .loop in
       let inv = at-loop .inv .2 in
       let L = at-loop .ns .now in
       let W = at-w .given .0 .0 in
@@ -573,9 +590,10 @@ module _ (t : ℕ) where
       let at-first = c .before .first in
       let at-if3 = c .before .before .if3 in
       let at-kind = c .before .before .before .kind in
-      let at-w = c .before .before .before .before .before .before .before .before .w in
-      let at-first-word = c .before .before .before .before .before .before .before .before .before .before .first-word in
-      let at-loop = c .before .before .before .before .before .before .before .before .before .before .before .loop in
+      let to-w = c .before .before .before .before .before .before .before .before in
+      let at-w = to-w .w in
+      let at-first-word = to-w .before .before .first-word in
+      let at-loop = to-w .before .before .before .loop in
       let inv = at-loop .inv .2 in
       let L = at-loop .ns .now in
       let W = at-w .given .0 .0 in
@@ -595,9 +613,10 @@ module _ (t : ℕ) where
 
   check-loop-less-2 : check-lts.Need-loop-less-2 (check-claims t) (check-at t) check.Post check-Inv-loop check-μ-loop
   check-loop-less-2 c =
-      let at-w = c .before .before .before .before .before .before .before .before .before .w in
-      let at-first-word = c .before .before .before .before .before .before .before .before .before .before .before .first-word in
-      let at-loop = c .before .before .before .before .before .before .before .before .before .before .before .before .loop in
+      let to-w = c .before .before .before .before .before .before .before .before .before in
+      let at-w = to-w .w in
+      let at-first-word = to-w .before .before .first-word in
+      let at-loop = to-w .before .before .before .loop in
       let L = at-loop .ns .now in
       let W = at-w .given .0 .0 in
       let e = sym (at-first-word .ensures) ∙ at-w .given .1 in
@@ -609,9 +628,10 @@ module _ (t : ℕ) where
       let at-first = c .before .before .first in
       let at-if3 = c .before .before .before .if3 in
       let at-kind = c .before .before .before .before .kind in
-      let at-w = c .before .before .before .before .before .before .before .before .before .w in
-      let at-first-word = c .before .before .before .before .before .before .before .before .before .before .before .first-word in
-      let at-loop = c .before .before .before .before .before .before .before .before .before .before .before .before .loop in
+      let to-w = c .before .before .before .before .before .before .before .before .before in
+      let at-w = to-w .w in
+      let at-first-word = to-w .before .before .first-word in
+      let at-loop = to-w .before .before .before .loop in
       let L = at-loop .ns .now in
       let W = at-w .given .0 .0 in
       let e = sym (at-first-word .ensures) ∙ at-w .given .1 in
@@ -642,13 +662,15 @@ module _ (t : ℕ) where
   check-choices-requires : check-lts.Need-choices-requires (check-claims t) (check-at t) check.Post check-Inv-loop check-μ-loop
   check-choices-requires c κs =
       let at-if3 = c .before .before .if3 in
-      let at-kind = c .before .before .before .kind in
-      let at-if1 = c .before .before .before .before .if1 in
-      let at-tests-byte = c .before .before .before .before .before .tests-byte in
-      let at-w = c .before .before .before .before .before .before .before .before .w in
-      let at-first-word = c .before .before .before .before .before .before .before .before .before .before .first-word in
-      let at-loop = c .before .before .before .before .before .before .before .before .before .before .before .loop in
-      let at-start = c .before .before .before .before .before .before .before .before .before .before .before .before .before .before in
+      let to-kind = c .before .before .before in
+      let at-kind = to-kind .kind in
+      let at-if1 = to-kind .before .if1 in
+      let at-tests-byte = to-kind .before .before .tests-byte in
+      let to-w = to-kind .before .before .before .before .before in
+      let at-w = to-w .w in
+      let at-first-word = to-w .before .before .first-word in
+      let at-loop = to-w .before .before .before .loop in
+      let at-start = to-w .before .before .before .before .before .before in
       let L = at-loop .ns .now in
       let W = at-w .given .0 .0 in
       let e = sym (at-first-word .ensures) ∙ at-w .given .1 in
@@ -658,9 +680,10 @@ module _ (t : ℕ) where
   check-returns-5 : check-lts.Need-returns-5 (check-claims t) (check-at t) check.Post check-Inv-loop check-μ-loop
   check-returns-5 c =
       let at-choices = c .choices in
-      let at-w = c .before .before .before .before .before .before .before .before .before .w in
-      let at-first-word = c .before .before .before .before .before .before .before .before .before .before .before .first-word in
-      let at-loop = c .before .before .before .before .before .before .before .before .before .before .before .before .loop in
+      let to-w = c .before .before .before .before .before .before .before .before .before in
+      let at-w = to-w .w in
+      let at-first-word = to-w .before .before .first-word in
+      let at-loop = to-w .before .before .before .loop in
       let L = at-loop .ns .now in
       let W = at-w .given .0 .0 in
       let e = sym (at-first-word .ensures) ∙ at-w .given .1 in
@@ -697,9 +720,10 @@ module _ (t : ℕ) where
 
   choices-jumps-requires : choices-lts.Need-jumps-requires (choices-claims t) (choices-at t) choices.Post
   choices-jumps-requires c κs =
-      let at-if1 = c .before .before .before .before .if1 in
-      let at-kind = c .before .before .before .before .before .kind in
-      let at-start = c .before .before .before .before .before .before .before .before in
+      let to-if1 = c .before .before .before .before in
+      let at-if1 = to-if1 .if1 in
+      let at-kind = to-if1 .before .kind in
+      let at-start = to-if1 .before .before .before .before in
       let R = at-start .args .rest .now in
       let W = at-start .args .w in
       let sound = at-start .pre .1 .0 in
@@ -708,11 +732,12 @@ module _ (t : ℕ) where
   choices-returns : choices-lts.Need-returns (choices-claims t) (choices-at t) choices.Post
   choices-returns c =
       let at-jumps = c .jumps in
-      let at-second = c .before .before .before .second in
-      let at-first = c .before .before .before .before .first in
-      let at-if1 = c .before .before .before .before .before .if1 in
-      let at-kind = c .before .before .before .before .before .before .kind in
-      let at-start = c .before .before .before .before .before .before .before .before .before in
+      let to-second = c .before .before .before in
+      let at-second = to-second .second in
+      let at-first = to-second .before .first in
+      let at-if1 = to-second .before .before .if1 in
+      let at-kind = to-second .before .before .before .kind in
+      let at-start = to-second .before .before .before .before .before .before in
       let W = at-start .args .w in
       let R = at-start .args .rest .now in
       let M = at-start .args .mem .now in
@@ -773,10 +798,11 @@ module _ (t : ℕ) where
 
   choices-slice-aggregate-branches : choices-lts.Need-slice-aggregate-branches (choices-claims t) (choices-at t) choices.Post
   choices-slice-aggregate-branches c =
-      let at-count = c .before .before .before .before .before .before .before .before .before .before .count in
-      let at-if1 = c .before .before .before .before .before .before .before .before .before .before .before .if1 in
-      let at-kind = c .before .before .before .before .before .before .before .before .before .before .before .before .kind in
-      let at-start = c .before .before .before .before .before .before .before .before .before .before .before .before .before .before .before in
+      let to-count = c .before .before .before .before .before .before .before .before .before .before in
+      let at-count = to-count .count in
+      let at-if1 = to-count .before .if1 in
+      let at-kind = to-count .before .before .kind in
+      let at-start = to-count .before .before .before .before .before in
       let W = at-start .args .w in
       let R = at-start .args .rest .now in
       let k = choice.is-alt W (at-start .pre .1 .1) (λ z. at-if1 .left (at-kind .ensures ∙ z)) in
@@ -786,10 +812,11 @@ module _ (t : ℕ) where
 
   choices-sub-branches : choices-lts.Need-sub-branches (choices-claims t) (choices-at t) choices.Post
   choices-sub-branches c =
-      let at-x = c .before .before .before .before .before .before .x in
-      let at-first-word = c .before .before .before .before .before .before .before .before .first-word in
-      let at-count = c .before .before .before .before .before .before .before .before .before .before .count in
-      let at-start = c .before .before .before .before .before .before .before .before .before .before .before .before .before .before .before in
+      let to-x = c .before .before .before .before .before .before in
+      let at-x = to-x .x in
+      let at-first-word = to-x .before .before .first-word in
+      let at-count = to-x .before .before .before .before .count in
+      let at-start = to-x .before .before .before .before .before .before .before .before .before in
       let W = at-start .args .w in
       let R = at-start .args .rest .now in
       let A = from (at-count .result) R in
@@ -799,10 +826,11 @@ module _ (t : ℕ) where
 
   choices-part-branches-start : choices-lts.Need-part-branches-start (choices-claims t) (choices-at t) choices.Post
   choices-part-branches-start c =
-      let at-x = c .before .before .before .before .before .before .x in
-      let at-first-word = c .before .before .before .before .before .before .before .before .first-word in
-      let at-count = c .before .before .before .before .before .before .before .before .before .before .count in
-      let at-start = c .before .before .before .before .before .before .before .before .before .before .before .before .before .before .before in
+      let to-x = c .before .before .before .before .before .before in
+      let at-x = to-x .x in
+      let at-first-word = to-x .before .before .first-word in
+      let at-count = to-x .before .before .before .before .count in
+      let at-start = to-x .before .before .before .before .before .before .before .before .before in
       let W = at-start .args .w in
       let R = at-start .args .rest .now in
       let A = from (at-count .result) R in
@@ -824,14 +852,16 @@ module _ (t : ℕ) where
 
   choices-branches-requires : choices-lts.Need-branches-requires (choices-claims t) (choices-at t) choices.Post
   choices-branches-requires c κs =
-      let at-if2 = c .before .before .before .before .before .if2 in
-      let at-kind2 = c .before .before .before .before .before .before .kind2 in
-      let at-x = c .before .before .before .before .before .before .before .before .x in
-      let at-first-word = c .before .before .before .before .before .before .before .before .before .before .first-word in
-      let at-count = c .before .before .before .before .before .before .before .before .before .before .before .before .count in
-      let at-if1 = c .before .before .before .before .before .before .before .before .before .before .before .before .before .if1 in
-      let at-kind = c .before .before .before .before .before .before .before .before .before .before .before .before .before .before .kind in
-      let at-start = c .before .before .before .before .before .before .before .before .before .before .before .before .before .before .before .before .before in
+      let to-if2 = c .before .before .before .before .before in
+      let at-if2 = to-if2 .if2 in
+      let at-kind2 = to-if2 .before .kind2 in
+      let at-x = to-if2 .before .before .before .x in
+      let at-first-word = to-if2 .before .before .before .before .before .first-word in
+      let to-count = to-if2 .before .before .before .before .before .before .before in
+      let at-count = to-count .count in
+      let at-if1 = to-count .before .if1 in
+      let at-kind = to-count .before .before .kind in
+      let at-start = to-count .before .before .before .before .before in
       let W = at-start .args .w in
       let R = at-start .args .rest .now in
       let A = from (at-count .result) R in
@@ -846,16 +876,19 @@ module _ (t : ℕ) where
   choices-returns-2 : choices-lts.Need-returns-2 (choices-claims t) (choices-at t) choices.Post
   choices-returns-2 c =
       let at-branches = c .branches in
-      let at-second2 = c .before .before .before .before .second2 in
-      let at-first2 = c .before .before .before .before .before .first2 in
-      let at-if2 = c .before .before .before .before .before .before .if2 in
-      let at-kind2 = c .before .before .before .before .before .before .before .kind2 in
-      let at-x = c .before .before .before .before .before .before .before .before .before .x in
-      let at-first-word = c .before .before .before .before .before .before .before .before .before .before .before .first-word in
-      let at-count = c .before .before .before .before .before .before .before .before .before .before .before .before .before .count in
-      let at-if1 = c .before .before .before .before .before .before .before .before .before .before .before .before .before .before .if1 in
-      let at-kind = c .before .before .before .before .before .before .before .before .before .before .before .before .before .before .before .kind in
-      let at-start = c .before .before .before .before .before .before .before .before .before .before .before .before .before .before .before .before .before .before in
+      let to-second2 = c .before .before .before .before in
+      let at-second2 = to-second2 .second2 in
+      let at-first2 = to-second2 .before .first2 in
+      let at-if2 = to-second2 .before .before .if2 in
+      let at-kind2 = to-second2 .before .before .before .kind2 in
+      let to-x = to-second2 .before .before .before .before .before in
+      let at-x = to-x .x in
+      let at-first-word = to-x .before .before .first-word in
+      let to-count = to-x .before .before .before .before in
+      let at-count = to-count .count in
+      let at-if1 = to-count .before .if1 in
+      let at-kind = to-count .before .before .kind in
+      let at-start = to-count .before .before .before .before .before in
       let W = at-start .args .w in
       let R = at-start .args .rest .now in
       let k = choice.is-alt W (at-start .pre .1 .1) (λ z. at-if1 .left (at-kind .ensures ∙ z)) in
@@ -869,10 +902,11 @@ module _ (t : ℕ) where
 
   choices-slice-aggregate-branches-2 : choices-lts.Need-slice-aggregate-branches-2 (choices-claims t) (choices-at t) choices.Post
   choices-slice-aggregate-branches-2 c =
-      let at-count = c .before .before .before .before .count in
-      let at-if1 = c .before .before .before .before .before .if1 in
-      let at-kind = c .before .before .before .before .before .before .kind in
-      let at-start = c .before .before .before .before .before .before .before .before .before in
+      let to-count = c .before .before .before .before in
+      let at-count = to-count .count in
+      let at-if1 = to-count .before .if1 in
+      let at-kind = to-count .before .before .kind in
+      let at-start = to-count .before .before .before .before .before in
       let W = at-start .args .w in
       let R = at-start .args .rest .now in
       let k = choice.is-alt W (at-start .pre .1 .1) (λ z. at-if1 .left (at-kind .ensures ∙ z)) in
@@ -900,10 +934,11 @@ module _ (t : ℕ) where
 
   choices-branches-requires-2 : choices-lts.Need-branches-requires-2 (choices-claims t) (choices-at t) choices.Post
   choices-branches-requires-2 c κs =
-      let at-count = c .before .before .before .before .before .before .count in
-      let at-if1 = c .before .before .before .before .before .before .before .if1 in
-      let at-kind = c .before .before .before .before .before .before .before .before .kind in
-      let at-start = c .before .before .before .before .before .before .before .before .before .before .before in
+      let to-count = c .before .before .before .before .before .before in
+      let at-count = to-count .count in
+      let at-if1 = to-count .before .if1 in
+      let at-kind = to-count .before .before .kind in
+      let at-start = to-count .before .before .before .before .before in
       let W = at-start .args .w in
       let R = at-start .args .rest .now in
       let A = from (at-count .result) R in
@@ -916,10 +951,11 @@ module _ (t : ℕ) where
   choices-returns-3 : choices-lts.Need-returns-3 (choices-claims t) (choices-at t) choices.Post
   choices-returns-3 c =
       let at-branches2 = c .branches2 in
-      let at-count = c .before .before .before .before .before .before .before .count in
-      let at-if1 = c .before .before .before .before .before .before .before .before .if1 in
-      let at-kind = c .before .before .before .before .before .before .before .before .before .kind in
-      let at-start = c .before .before .before .before .before .before .before .before .before .before .before .before in
+      let to-count = c .before .before .before .before .before .before .before in
+      let at-count = to-count .count in
+      let at-if1 = to-count .before .if1 in
+      let at-kind = to-count .before .before .kind in
+      let at-start = to-count .before .before .before .before .before in
       let W = at-start .args .w in
       let R = at-start .args .rest .now in
       let k = choice.is-alt W (at-start .pre .1 .1) (λ z. at-if1 .left (at-kind .ensures ∙ z)) in
@@ -966,10 +1002,11 @@ module _ (t : ℕ) where
   jumps-loop-again c =
       let at-enum-told = c .enum-told in
       let at-check = c .before .before .check in
-      let at-if2 = c .before .before .before .before .if2 in
-      let at-if1 = c .before .before .before .before .before .if1 in
-      let at-loop = c .before .before .before .before .before .before .loop in
-      let at-start = c .before .before .before .before .before .before .before .before .before in
+      let to-if2 = c .before .before .before .before in
+      let at-if2 = to-if2 .if2 in
+      let at-if1 = to-if2 .before .if1 in
+      let at-loop = to-if2 .before .before .loop in
+      let at-start = to-if2 .before .before .before .before .before in
       let inv = at-loop .inv .1 in
       let p = prog (at-start .args .rest .now) in
       let M = at-start .args .mem .now in
@@ -1009,10 +1046,11 @@ module _ (t : ℕ) where
   jumps-returns-2 c =
       let at-got = c .before .got in
       let at-check = c .before .before .before .check in
-      let at-if2 = c .before .before .before .before .before .if2 in
-      let at-if1 = c .before .before .before .before .before .before .if1 in
-      let at-loop = c .before .before .before .before .before .before .before .loop in
-      let at-start = c .before .before .before .before .before .before .before .before .before .before in
+      let to-if2 = c .before .before .before .before .before in
+      let at-if2 = to-if2 .if2 in
+      let at-if1 = to-if2 .before .if1 in
+      let at-loop = to-if2 .before .before .loop in
+      let at-start = to-if2 .before .before .before .before .before in
       let p = prog (at-start .args .rest .now) in
       let M = at-start .args .mem .now in
       let F = at-start .args .from in

@@ -77,9 +77,10 @@ part-ws-end c = search needs
 
 loop-less : tie.Need-loop-less Inv-loop μ-loop
 loop-less c =
-    let at-w = c .before .before .before .before .w in
-    let at-first-word = c .before .before .before .before .before .before .first-word in
-    let at-loop = c .before .before .before .before .before .before .before .loop in
+    let to-w = c .before .before .before .before in
+    let at-w = to-w .w in
+    let at-first-word = to-w .before .before .first-word in
+    let at-loop = to-w .before .before .before .loop in
     let l = at-loop in
     let w = at-w .given in
     let first = sym (at-first-word .ensures) ∙ w .1 in
@@ -89,9 +90,10 @@ loop-again : tie.Need-loop-again Inv-loop μ-loop
 loop-again c =
     let at-if1 = c .before .if1 in
     let at-flat-word = c .before .before .flat-word in
-    let at-w = c .before .before .before .before .w in
-    let at-first-word = c .before .before .before .before .before .before .first-word in
-    let at-loop = c .before .before .before .before .before .before .before .loop in
+    let to-w = c .before .before .before .before in
+    let at-w = to-w .w in
+    let at-first-word = to-w .before .before .first-word in
+    let at-loop = to-w .before .before .before .loop in
     let l = at-loop in
     let w = at-w .given in
     let first = sym (at-first-word .ensures) ∙ w .1 in

@@ -95,9 +95,10 @@ write-list-requires : tie.Need-write-list-requires Inv-loop μ-loop
 write-list-requires c κs =
     let at-if1 = c .before .before .if1 in
     let at-count-list = c .before .before .before .count-list in
-    let at-end-of = c .before .before .before .before .before .end-of in
-    let at-loop-test = c .before .before .before .before .before .before .loop-test in
-    let at-loop = c .before .before .before .before .before .before .before .loop in
+    let to-end-of = c .before .before .before .before .before in
+    let at-end-of = to-end-of .end-of in
+    let at-loop-test = to-end-of .before .loop-test in
+    let at-loop = to-end-of .before .before .loop in
     let at-start = c .before .before .before .before .before .before .before .before .before .before in (
       spell.within-list (at-loop .rest .now) (at-loop-test .taken) _ _ (at-end-of .ensures) (at-count-list .ensures) (at-loop .inv .2) (at-start .args .p) (at-loop .left)
           (at-if1 .taken) .0,
@@ -120,12 +121,14 @@ same-length c =
 returns : tie.Need-returns Inv-loop μ-loop
 returns c =
     let at-write-list = c .before .before .write-list in
-    let at-if1 = c .before .before .before .before .before .if1 in
-    let at-count-list = c .before .before .before .before .before .before .count-list in
-    let at-end-of = c .before .before .before .before .before .before .before .before .end-of in
-    let at-loop-test = c .before .before .before .before .before .before .before .before .before .loop-test in
-    let at-loop = c .before .before .before .before .before .before .before .before .before .before .loop in
-    let at-start = c .before .before .before .before .before .before .before .before .before .before .before .before .before in
+    let to-if1 = c .before .before .before .before .before in
+    let at-if1 = to-if1 .if1 in
+    let at-count-list = to-if1 .before .count-list in
+    let to-end-of = to-if1 .before .before .before in
+    let at-end-of = to-end-of .end-of in
+    let at-loop-test = to-end-of .before .loop-test in
+    let at-loop = to-end-of .before .before .loop in
+    let at-start = to-end-of .before .before .before .before .before in
     subst (λ (l : List ℕ). Written (at-write-list .result) l (at-start .args .dst .now) (at-write-list .last .1 .1 .0))
     (sym (at-loop .inv .3
     ∙ spell.ending-found (at-loop .rest .now) (at-loop-test .taken) _ _ (at-end-of .ensures) (at-count-list .ensures) (at-loop .inv .2) (at-start .args .p) (at-loop .left) (at-if1 .taken)))
@@ -155,18 +158,20 @@ part-rest-end c = search needs
 
 loop-less : tie.Need-loop-less Inv-loop μ-loop
 loop-less c =
-    let at-end-of = c .before .before .before .before .end-of in
-    let at-loop-test = c .before .before .before .before .before .loop-test in
-    let at-loop = c .before .before .before .before .before .before .loop in
+    let to-end-of = c .before .before .before .before in
+    let at-end-of = to-end-of .end-of in
+    let at-loop-test = to-end-of .before .loop-test in
+    let at-loop = to-end-of .before .before .loop in
     part.part-less _ (at-loop .rest .now) (omega (arith, (at-end-of .ensures), (step.ends-long (at-loop .rest .now) (at-loop-test .taken)))) (at-loop-test .taken)
 
 loop-again : tie.Need-loop-again Inv-loop μ-loop
 loop-again c =
     let at-if1 = c .before .if1 in
     let at-count-list = c .before .before .count-list in
-    let at-end-of = c .before .before .before .before .end-of in
-    let at-loop-test = c .before .before .before .before .before .loop-test in
-    let at-loop = c .before .before .before .before .before .before .loop in
+    let to-end-of = c .before .before .before .before in
+    let at-end-of = to-end-of .end-of in
+    let at-loop-test = to-end-of .before .loop-test in
+    let at-loop = to-end-of .before .before .loop in
     let at-start = c .before .before .before .before .before .before .before .before .before in (
       omega (arith, part.part-le (at-end-of .result) (at-loop .rest .now)),
       at-loop .inv .1,

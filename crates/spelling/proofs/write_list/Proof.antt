@@ -63,31 +63,35 @@ shared-slice-read-taken-at-3 c = search needs
 div-taken-at : tie.Need-div-taken-at Inv-loop μ-loop
 div-taken-at c =
     let at-taken-count = c .before .before .before .taken-count in
-    let at-loop-test = c .before .before .before .before .before .before .before .loop-test in
-    let at-loop = c .before .before .before .before .before .before .before .before .loop in
+    let to-loop-test = c .before .before .before .before .before .before .before in
+    let at-loop-test = to-loop-test .loop-test in
+    let at-loop = to-loop-test .before .loop in
     omega (arith, spell.rest-is (at-loop .rest .now) (at-loop-test .taken) (at-taken-count .result) (at-loop .n) (at-taken-count .ensures .0) (at-loop .inv .0) (at-loop .inv .1) (at-loop .inv .2), spell.rest-some (at-loop .rest .now) (at-loop-test .taken) (at-taken-count .result) (at-loop .n) (at-taken-count .ensures .0) (at-loop .inv .0) (at-loop .inv .1) (at-loop .inv .2))
 
 rem-taken-at : tie.Need-rem-taken-at Inv-loop μ-loop
 rem-taken-at c =
     let at-taken-count = c .before .before .before .taken-count in
-    let at-loop-test = c .before .before .before .before .before .before .before .loop-test in
-    let at-loop = c .before .before .before .before .before .before .before .before .loop in
+    let to-loop-test = c .before .before .before .before .before .before .before in
+    let at-loop-test = to-loop-test .loop-test in
+    let at-loop = to-loop-test .before .loop in
     omega (arith, spell.c-some (at-loop .rest .now) (at-loop-test .taken) (at-taken-count .result) (at-loop .n) (at-taken-count .ensures .0) (at-loop .inv .0) (at-loop .inv .1) (at-loop .inv .2))
 
 taken-at-requires : tie.Need-taken-at-requires Inv-loop μ-loop
 taken-at-requires c κs =
     let at-taken-count = c .before .before .before .taken-count in
-    let at-loop-test = c .before .before .before .before .before .before .before .loop-test in
-    let at-loop = c .before .before .before .before .before .before .before .before .loop in
-    let at-start = c .before .before .before .before .before .before .before .before .before .before .before .before in
+    let to-loop-test = c .before .before .before .before .before .before .before in
+    let at-loop-test = to-loop-test .loop-test in
+    let at-loop = to-loop-test .before .loop in
+    let at-start = to-loop-test .before .before .before .before .before in
     spell.digit-fits (at-loop .rest .now) (at-loop-test .taken) (at-taken-count .result) (at-loop .n) (at-taken-count .ensures .0) (at-loop .inv .0) (at-loop .inv .1) (at-loop .inv .2) (at-start .args .k)
 
 slice-write-dst : tie.Need-slice-write-dst Inv-loop μ-loop
 slice-write-dst c =
     let at-taken-count = c .before .before .before .before .taken-count in
-    let at-loop-test = c .before .before .before .before .before .before .before .before .loop-test in
-    let at-loop = c .before .before .before .before .before .before .before .before .before .loop in
-    let at-start = c .before .before .before .before .before .before .before .before .before .before .before .before .before in
+    let to-loop-test = c .before .before .before .before .before .before .before .before in
+    let at-loop-test = to-loop-test .loop-test in
+    let at-loop = to-loop-test .before .loop in
+    let at-start = to-loop-test .before .before .before .before .before in
     write.room-one (literalAt (branchIn (at-start .args .ws .now)) (at-start .args .k)) _ _ (at-loop .i) (at-start .args .dst .now) (at-loop .dst)
     (subst (λ (l : List ℕ). Halfway (literalAt (branchIn (at-start .args .ws .now)) (at-start .args .k)) l (at-loop .i) (at-start .args .dst .now) (at-loop .dst))
     (spell.byte-first (at-loop .rest .now) (at-loop-test .taken) (at-taken-count .result) (at-loop .n) (at-taken-count .ensures .0) (at-loop .inv .0) (at-loop .inv .1) (at-loop .inv .2)
@@ -96,9 +100,10 @@ slice-write-dst c =
 add-i : tie.Need-add-i Inv-loop μ-loop
 add-i c =
     let at-taken-count = c .before .before .before .before .taken-count in
-    let at-loop-test = c .before .before .before .before .before .before .before .before .loop-test in
-    let at-loop = c .before .before .before .before .before .before .before .before .before .loop in
-    let at-start = c .before .before .before .before .before .before .before .before .before .before .before .before .before in
+    let to-loop-test = c .before .before .before .before .before .before .before .before in
+    let at-loop-test = to-loop-test .loop-test in
+    let at-loop = to-loop-test .before .loop in
+    let at-start = to-loop-test .before .before .before .before .before in
     omega (
       arith,
       write.room-one (literalAt (branchIn (at-start .args .ws .now)) (at-start .args .k)) _ _ (at-loop .i) (at-start .args .dst .now) (at-loop .dst)
@@ -118,16 +123,18 @@ part-rest-end c = search needs
 
 loop-less : tie.Need-loop-less Inv-loop μ-loop
 loop-less c =
-    let at-loop-test = c .before .before .before .before .before .before .before .before .before .loop-test in
-    let at-loop = c .before .before .before .before .before .before .before .before .before .before .loop in
+    let to-loop-test = c .before .before .before .before .before .before .before .before .before in
+    let at-loop-test = to-loop-test .loop-test in
+    let at-loop = to-loop-test .before .loop in
     part.part-less 4 (at-loop .rest .now) (omega arith) (at-loop-test .taken)
 
 loop-again : tie.Need-loop-again Inv-loop μ-loop
 loop-again c =
     let at-taken-at = c .before .taken-at in
-    let at-taken-count = c .before .before .before .before .before .taken-count in
-    let at-loop-test = c .before .before .before .before .before .before .before .before .before .loop-test in
-    let at-loop = c .before .before .before .before .before .before .before .before .before .before .loop in
+    let to-taken-count = c .before .before .before .before .before in
+    let at-taken-count = to-taken-count .taken-count in
+    let at-loop-test = to-taken-count .before .before .before .before .loop-test in
+    let at-loop = to-taken-count .before .before .before .before .before .loop in
     let at-start = c .before .before .before .before .before .before .before .before .before .before .before .before .before .before in (
       spell.rest-is (at-loop .rest .now) (at-loop-test .taken) (at-taken-count .result) (at-loop .n) (at-taken-count .ensures .0) (at-loop .inv .0) (at-loop .inv .1) (at-loop .inv .2)
           ∙ ap (λ (l : List ℕ). count (branchIn l)) (sym (to-end 4 (at-loop .rest .now))),

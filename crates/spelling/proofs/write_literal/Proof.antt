@@ -101,10 +101,11 @@ write-token-requires c κs =
 add-i : tie.Need-add-i Inv-loop μ-loop
 add-i c =
     let at-write-token = c .before .before .write-token in
-    let at-number-of = c .before .before .before .before .number-of in
-    let at-loop-test = c .before .before .before .before .before .before .loop-test in
-    let at-loop = c .before .before .before .before .before .before .before .loop in
-    let at-start = c .before .before .before .before .before .before .before .before .before .before in
+    let to-number-of = c .before .before .before .before in
+    let at-number-of = to-number-of .number-of in
+    let at-loop-test = to-number-of .before .before .loop-test in
+    let at-loop = to-number-of .before .before .before .loop in
+    let at-start = to-number-of .before .before .before .before .before .before in
     omega (
       arith,
       at-write-token .ensures .long,
@@ -121,9 +122,10 @@ add-i c =
 
 mul-p : tie.Need-mul-p Inv-loop μ-loop
 mul-p c =
-    let at-tally-token = c .before .before .before .before .before .before .tally-token in
-    let at-loop-test = c .before .before .before .before .before .before .before .loop-test in
-    let at-loop = c .before .before .before .before .before .before .before .before .loop in
+    let to-tally-token = c .before .before .before .before .before .before in
+    let at-tally-token = to-tally-token .tally-token in
+    let at-loop-test = to-tally-token .before .loop-test in
+    let at-loop = to-tally-token .before .before .loop in
     omega (arith, mul-le-mul (prefix.prefixes-few (at-loop .rest .now) (at-loop-test .taken) (at-loop .p) (at-loop .inv .1) (at-tally-token .result .literals) (at-tally-token .ensures .literals-are)) (prefix.c-le (at-loop .rest .now) (at-loop-test .taken) (at-loop .p) (at-loop .inv .1) (at-tally-token .result .literals) (at-tally-token .ensures .literals-are)))
 
 width-of-requires : tie.Need-width-of-requires Inv-loop μ-loop
@@ -132,22 +134,25 @@ width-of-requires c κs = search needs
 mul-rest : tie.Need-mul-rest Inv-loop μ-loop
 mul-rest c =
     let at-width-of = c .width-of in
-    let at-loop-test = c .before .before .before .before .before .before .before .before .loop-test in
-    let at-loop = c .before .before .before .before .before .before .before .before .before .loop in
+    let to-loop-test = c .before .before .before .before .before .before .before .before in
+    let at-loop-test = to-loop-test .loop-test in
+    let at-loop = to-loop-test .before .loop in
     omega (arith, (at-width-of .ensures), (step.width-le (at-loop .rest .now) (at-loop-test .taken)))
 
 sub-rest : tie.Need-sub-rest Inv-loop μ-loop
 sub-rest c =
     let at-width-of = c .width-of in
-    let at-loop-test = c .before .before .before .before .before .before .before .before .loop-test in
-    let at-loop = c .before .before .before .before .before .before .before .before .before .loop in
+    let to-loop-test = c .before .before .before .before .before .before .before .before in
+    let at-loop-test = to-loop-test .loop-test in
+    let at-loop = to-loop-test .before .loop in
     omega (arith, (at-width-of .ensures), (step.width-le (at-loop .rest .now) (at-loop-test .taken)))
 
 part-rest-start : tie.Need-part-rest-start Inv-loop μ-loop
 part-rest-start c =
     let at-width-of = c .width-of in
-    let at-loop-test = c .before .before .before .before .before .before .before .before .loop-test in
-    let at-loop = c .before .before .before .before .before .before .before .before .before .loop in
+    let to-loop-test = c .before .before .before .before .before .before .before .before in
+    let at-loop-test = to-loop-test .loop-test in
+    let at-loop = to-loop-test .before .loop in
     omega (arith, (at-width-of .ensures), (step.width-le (at-loop .rest .now) (at-loop-test .taken)))
 
 part-rest-end : tie.Need-part-rest-end Inv-loop μ-loop
@@ -156,18 +161,20 @@ part-rest-end c = search needs
 loop-less : tie.Need-loop-less Inv-loop μ-loop
 loop-less c =
     let at-width-of = c .before .width-of in
-    let at-loop-test = c .before .before .before .before .before .before .before .before .before .loop-test in
-    let at-loop = c .before .before .before .before .before .before .before .before .before .before .loop in
+    let to-loop-test = c .before .before .before .before .before .before .before .before .before in
+    let at-loop-test = to-loop-test .loop-test in
+    let at-loop = to-loop-test .before .loop in
     part.part-less _ (at-loop .rest .now) (omega (arith, (at-width-of .ensures), (step.width-long (at-loop .rest .now) (at-loop-test .taken)))) (at-loop-test .taken)
 
 loop-again : tie.Need-loop-again Inv-loop μ-loop
 loop-again c =
     let at-width-of = c .before .width-of in
     let at-write-token = c .before .before .before .before .before .write-token in
-    let at-number-of = c .before .before .before .before .before .before .before .number-of in
-    let at-tally-token = c .before .before .before .before .before .before .before .before .tally-token in
-    let at-loop-test = c .before .before .before .before .before .before .before .before .before .loop-test in
-    let at-loop = c .before .before .before .before .before .before .before .before .before .before .loop in
+    let to-number-of = c .before .before .before .before .before .before .before in
+    let at-number-of = to-number-of .number-of in
+    let at-tally-token = to-number-of .before .tally-token in
+    let at-loop-test = to-number-of .before .before .loop-test in
+    let at-loop = to-number-of .before .before .before .loop in
     let at-start = c .before .before .before .before .before .before .before .before .before .before .before .before .before in (
       omega (arith, part.part-le (at-width-of .result) (at-loop .rest .now)),
       subst (λ (l : List ℕ). Numerable (at-loop .p * at-tally-token .result .literals) (count (tokensIn l)))

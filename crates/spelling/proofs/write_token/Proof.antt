@@ -63,9 +63,10 @@ same-length c =
 returns : tie.Need-returns
 returns c =
     let at-write-branch = c .before .before .write-branch in
-    let at-end-of = c .before .before .before .before .before .end-of in
-    let at-if1 = c .before .before .before .before .before .before .if1 in
-    let at-start = c .before .before .before .before .before .before .before .before .before .before in
+    let to-end-of = c .before .before .before .before .before in
+    let at-end-of = to-end-of .end-of in
+    let at-if1 = to-end-of .before .if1 in
+    let at-start = to-end-of .before .before .before .before .before in
     subst (λ (l : List ℕ). Written (at-write-branch .result) l (at-start .args .dst .now) (at-write-branch .last .1 .1 .1 .0))
     (sym (spell.ending-inside (at-start .args .ws .now) (at-if1 .taken) (at-start .args .p) (at-start .args .q)
     ∙ ap (λ (x : ℕ). endingIn (listsIn (take (x - 4) (drop 4 (at-start .args .ws .now)))) (at-start .args .p) (at-start .args .q)) (sym (at-end-of .ensures)))) (at-write-branch .ensures)
@@ -122,21 +123,24 @@ shared-slice-read-taken-at-3 c = search needs
 rem-taken-at : tie.Need-rem-taken-at
 rem-taken-at c =
     let at-taken-count = c .before .before .before .taken-count in
-    let at-if1 = c .before .before .before .before .before .before .before .before .before .if1 in
-    let at-start = c .before .before .before .before .before .before .before .before .before .before .before .before .before in
+    let to-if1 = c .before .before .before .before .before .before .before .before .before in
+    let at-if1 = to-if1 .if1 in
+    let at-start = to-if1 .before .before .before .before in
     spell.entry-some (at-start .args .ws .now) (at-if1 .left) _ (at-taken-count .ensures .0) ((at-start .pre) .some)
 
 taken-at-requires : tie.Need-taken-at-requires
 taken-at-requires c κs =
     let at-taken-count = c .before .before .before .taken-count in
-    let at-if1 = c .before .before .before .before .before .before .before .before .before .if1 in
-    let at-start = c .before .before .before .before .before .before .before .before .before .before .before .before .before in
+    let to-if1 = c .before .before .before .before .before .before .before .before .before in
+    let at-if1 = to-if1 .if1 in
+    let at-start = to-if1 .before .before .before .before in
     spell.number-fits (at-start .args .ws .now) (at-start .args .q) _ (at-taken-count .ensures .0) (spell.entry-some (at-start .args .ws .now) (at-if1 .left) _ (at-taken-count .ensures .0) ((at-start .pre) .some))
 
 slice-write-dst-2 : tie.Need-slice-write-dst-2
 slice-write-dst-2 c =
-    let at-if1 = c .before .before .before .before .before .before .before .before .before .before .if1 in
-    let at-start = c .before .before .before .before .before .before .before .before .before .before .before .before .before .before in
+    let to-if1 = c .before .before .before .before .before .before .before .before .before .before in
+    let at-if1 = to-if1 .if1 in
+    let at-start = to-if1 .before .before .before .before in
     spell.entry-room (at-start .args .ws .now) (at-if1 .left) (at-start .args .p) (at-start .args .q) _ ((at-start .pre) .fits)
 
 same-length-3 : tie.Need-same-length-3
@@ -146,8 +150,9 @@ returns-3 : tie.Need-returns-3
 returns-3 c =
     let at-taken-at = c .taken-at in
     let at-taken-count = c .before .before .before .before .taken-count in
-    let at-if1 = c .before .before .before .before .before .before .before .before .before .before .if1 in
-    let at-start = c .before .before .before .before .before .before .before .before .before .before .before .before .before .before in
+    let to-if1 = c .before .before .before .before .before .before .before .before .before .before in
+    let at-if1 = to-if1 .if1 in
+    let at-start = to-if1 .before .before .before .before in
     subst (λ (l : List ℕ). Written 1 l (at-start .args .dst .now) (set (at-start .args .dst .now) 0 (at-taken-at .result)))
     (sym (spell.ending-is-byte (at-start .args .ws .now) (at-if1 .left) (at-start .args .p) (at-start .args .q) _ _ (at-taken-count .ensures .0) (at-taken-at .ensures)))
     (write.one-written (at-taken-at .result) (at-start .args .dst .now)

@@ -91,9 +91,10 @@ part-rest-end c = search needs
 
 loop-less : tie.Need-loop-less Inv-loop μ-loop
 loop-less c =
-    let at-end-of = c .before .before .before .before .before .end-of in
-    let at-loop-test = c .before .before .before .before .before .before .loop-test in
-    let at-loop = c .before .before .before .before .before .before .before .loop in
+    let to-end-of = c .before .before .before .before .before in
+    let at-end-of = to-end-of .end-of in
+    let at-loop-test = to-end-of .before .loop-test in
+    let at-loop = to-end-of .before .before .loop in
     part.part-less _ (at-loop .rest .now) (omega (arith, (at-end-of .ensures), (step.ends-long (at-loop .rest .now) (at-loop-test .taken)))) (at-loop-test .taken)
 
 loop-again : tie.Need-loop-again Inv-loop μ-loop

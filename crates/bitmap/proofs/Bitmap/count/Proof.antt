@@ -41,9 +41,10 @@ returns : tie.Need-returns
 returns c =
     let at-word-count4 = c .word-count4 in
     let at-word-count3 = c .before .before .word-count3 in
-    let at-word-count2 = c .before .before .before .before .word-count2 in
-    let at-word-count = c .before .before .before .before .before .before .word-count in
-    let at-start = c .before .before .before .before .before .before .before .before in
+    let to-word-count2 = c .before .before .before .before in
+    let at-word-count2 = to-word-count2 .word-count2 in
+    let at-word-count = to-word-count2 .before .before .word-count in
+    let at-start = to-word-count2 .before .before .before .before in
     size-words (at-start .args .t1) _ _ _ _
     (at-word-count .ensures .0) (at-word-count2 .ensures .0)
     (at-word-count3 .ensures .0) (at-word-count4 .ensures .0)
