@@ -51,7 +51,8 @@ part-put-programs-start c = search needs
 
 part-put-programs-end : tie.Need-part-put-programs-end
 part-put-programs-end c =
-    let t = made-here (c .before .before .before) in
+    let to-got = c .before .before .before in
+    let t = made-here to-got in
     omega (arith, t .forward-few)
 
 sub-put-programs-2 : tie.Need-sub-put-programs-2
@@ -62,19 +63,22 @@ part-put-programs-start-2 c = search needs
 
 part-put-programs-end-2 : tie.Need-part-put-programs-end-2
 part-put-programs-end-2 c =
-    let t = made-here (c .before .before .before .before .before) in
+    let to-got = c .before .before .before .before .before in
+    let t = made-here to-got in
     omega (arith, t .reverse-few)
 
 put-programs-requires : tie.Need-put-programs-requires
 put-programs-requires c κs =
-    let t = made-here (c .before .before .before .before .before .before) in
+    let to-got = c .before .before .before .before .before .before in
+    let t = made-here to-got in
     let s = made-sizes t in
     omega arith
 
 put-picked-requires : tie.Need-put-picked-requires
 put-picked-requires c κs =
+    let to-got = c .before .before .before .before .before .before .before .before .before .before in
     let at-put-programs = c .before .before .before .put-programs in
-    let t = made-here (c .before .before .before .before .before .before .before .before .before .before) in
+    let t = made-here to-got in
     let s = made-sizes t in
     let l = programs-end _ _ (at-put-programs .ensures) (omega arith) (omega arith) in
     omega arith
@@ -96,11 +100,12 @@ same-length c = search needs
 
 returns : tie.Need-returns
 returns c =
+    let to-got = c .before .before .before .before .before .before .before .before .before .before .before .before .before in
     let at-put-picked = c .before .before .put-picked in
     let at-put-programs = c .before .before .before .before .before .before .put-programs in
     let at-start = c .before .before .before .before .before .before .before .before .before .before .before .before .before .before .before .before .before .before .before .before .before .before in
     let t = at-start .args .text .now in
-    put-same (listingOf t) (put-then (at-put-programs .ensures) (at-put-picked .ensures)) (made-lines t (made-here (c .before .before .before .before .before .before .before .before .before .before .before .before .before)))
+    put-same (listingOf t) (put-then (at-put-programs .ensures) (at-put-picked .ensures)) (made-lines t (made-here to-got))
 
 same-length-2 : tie.Need-same-length-2
 same-length-2 c = search needs

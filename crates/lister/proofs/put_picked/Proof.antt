@@ -51,9 +51,10 @@ part-put-literals-start c = search needs
 
 part-put-literals-end : tie.Need-part-put-literals-end
 part-put-literals-end c =
+    let to-got = c .before .before .before in
     let at-literals = c .before .before .before .before .before .before .before .literals in
     let k = at-literals in
-    let t = taken-here (c .before .before .before) in
+    let t = taken-here to-got in
     omega (arith, t .few, k .kept .1 .1 .0, length-zeros lentLengths)
 
 slice-aggregate-put-literals : tie.Need-slice-aggregate-put-literals
@@ -61,9 +62,10 @@ slice-aggregate-put-literals c = search needs
 
 put-literals-requires : tie.Need-put-literals-requires
 put-literals-requires c κs =
+    let to-got = c .before .before .before .before .before in
     let at-literals = c .before .before .before .before .before .before .before .before .before .literals in
     let k = at-literals in
-    let t = taken-here (c .before .before .before .before .before) in
+    let t = taken-here to-got in
     let b : length (k .last .1 .0) ≡ lentBytes = k .kept .1 .0 ∙ length-zeros lentBytes in
     let l = taken-size t in
     omega arith
@@ -85,10 +87,11 @@ same-length c = search needs
 
 returns : tie.Need-returns
 returns c =
+    let to-got = c .before .before .before .before .before .before .before .before in
     let at-put-literals = c .before .before .put-literals in
     let at-start = c .before .before .before .before .before .before .before .before .before .before .before .before .before .before .before .before .before in
     let t = at-start .args .text .now in
-    put-same (gotLines (gotOf (reading t))) (at-put-literals .ensures) (taken-lines (taken-here (c .before .before .before .before .before .before .before .before)))
+    put-same (gotLines (gotOf (reading t))) (at-put-literals .ensures) (taken-lines (taken-here to-got))
 
 same-length-2 : tie.Need-same-length-2
 same-length-2 c = search needs

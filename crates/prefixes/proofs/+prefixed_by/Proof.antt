@@ -65,6 +65,7 @@ prefixed-by-width-of-requires t c κs = search needs
 
 prefixed-by-mul-after : (t : ℕ) → prefixed-by-lts.Need-mul-after (prefixed-by-cl t) (prefixed-by-at t) prefixed-by.Post
 prefixed-by-mul-after t c =
+    let to-past-bytes = c .before .before .before .before in
     let at-tally-token = c .before .before .tally-token in
     let at-if1 = c .before .before .before .if1 in
     let at-past-bytes = c .before .before .before .before .past-bytes in
@@ -72,9 +73,9 @@ prefixed-by-mul-after t c =
     omega (
       arith,
       mul-le-mul
-          (prefix.prefixes-few (at-past-bytes .result .now) (at-if1 .left) (at-start .args .p) (numerable t (c .before .before .before .before)) (at-tally-token .result .literals)
+          (prefix.prefixes-few (at-past-bytes .result .now) (at-if1 .left) (at-start .args .p) (numerable t to-past-bytes) (at-tally-token .result .literals)
           (at-tally-token .ensures .literals-are))
-          (prefix.c-le (at-past-bytes .result .now) (at-if1 .left) (at-start .args .p) (numerable t (c .before .before .before .before)) (at-tally-token .result .literals)
+          (prefix.c-le (at-past-bytes .result .now) (at-if1 .left) (at-start .args .p) (numerable t to-past-bytes) (at-tally-token .result .literals)
           (at-tally-token .ensures .literals-are)),
     )
 
@@ -104,6 +105,7 @@ prefixed-by-part-prefixed-by-end t c = search needs
 
 prefixed-by-prefixed-by-requires : (t : ℕ) → prefixed-by-lts.Need-prefixed-by-requires (prefixed-by-cl t) (prefixed-by-at t) prefixed-by.Post
 prefixed-by-prefixed-by-requires t c κs =
+    let to-past-bytes = c .before .before .before .before .before in
     let at-width-of = c .before .before .width-of in
     let at-tally-token = c .before .before .before .tally-token in
     let at-if1 = c .before .before .before .before .if1 in
@@ -119,26 +121,28 @@ prefixed-by-prefixed-by-requires t c κs =
       subst
           (λ (l : List ℕ). Numerable (at-start .args .p * at-tally-token .result .literals) (count (tokensIn l)))
           (ap (λ (x : ℕ). drop x (at-past-bytes .result .now)) (sym (at-width-of .ensures)) ∙ sym (to-end (at-width-of .result) (at-past-bytes .result .now)))
-          (prefix.after-numerable (at-past-bytes .result .now) (at-if1 .left) (at-start .args .p) (numerable t (c .before .before .before .before .before)) (at-tally-token .result .literals)
+          (prefix.after-numerable (at-past-bytes .result .now) (at-if1 .left) (at-start .args .p) (numerable t to-past-bytes) (at-tally-token .result .literals)
           (at-tally-token .ensures .literals-are)),
     )
 
 prefixed-by-prefix-of-requires : (t : ℕ) → prefixed-by-lts.Need-prefix-of-requires (prefixed-by-cl t) (prefixed-by-at t) prefixed-by.Post
 prefixed-by-prefix-of-requires t c κs =
+    let to-past-bytes = c .before .before .before .before .before .before in
     let to-tally-token = c .before .before .before .before in
     let at-tally-token = to-tally-token .tally-token in
     let at-if1 = to-tally-token .before .if1 in
     let at-past-bytes = to-tally-token .before .before .past-bytes in
     let at-start = c .before .before .before .before .before .before .before .before in (
       (at-if1 .left),
-      prefix.prefixes-few (at-past-bytes .result .now) (at-if1 .left) (at-start .args .p) (numerable t (c .before .before .before .before .before .before))
+      prefix.prefixes-few (at-past-bytes .result .now) (at-if1 .left) (at-start .args .p) (numerable t to-past-bytes)
           (at-tally-token .result .literals) (at-tally-token .ensures .literals-are),
       prefix.token-few (at-past-bytes .result .now) (at-if1 .left) (at-start .args .p)
-          (numerable t (c .before .before .before .before .before .before)) (at-tally-token .result .literals) (at-tally-token .ensures .literals-are),
+          (numerable t to-past-bytes) (at-tally-token .result .literals) (at-tally-token .ensures .literals-are),
     )
 
 prefixed-by-returns-2 : (t : ℕ) → prefixed-by-lts.Need-returns-2 (prefixed-by-cl t) (prefixed-by-at t) prefixed-by.Post
 prefixed-by-returns-2 t c =
+    let to-past-bytes = c .before .before .before .before .before .before .before in
     let at-prefix-of = c .prefix-of in
     let at-prefixed-by = c .before .prefixed-by in
     let to-width-of = c .before .before .before .before in
@@ -151,7 +155,7 @@ prefixed-by-returns-2 t c =
     ∙ ap (prefixOf (tokenIn (at-past-bytes .result .now)) (at-start .args .p))
     (at-prefixed-by .ensures
     ∙ ap₂ (λ (x : ℕ) (l : List ℕ). prefixed (tokensIn l) (at-start .args .p * x) (at-start .args .k))
-    (prefix.token-exact (at-past-bytes .result .now) (at-if1 .left) (at-start .args .p) (numerable t (c .before .before .before .before .before .before .before)) (at-tally-token .result .literals)
+    (prefix.token-exact (at-past-bytes .result .now) (at-if1 .left) (at-start .args .p) (numerable t to-past-bytes) (at-tally-token .result .literals)
     (at-tally-token .ensures .literals-are))
     (sym (ap (λ (x : ℕ). drop x (at-past-bytes .result .now)) (sym (at-width-of .ensures)) ∙ sym (to-end (at-width-of .result) (at-past-bytes .result .now)))))
     ∙ sym (prefix.prefixed-step (at-past-bytes .result .now) (at-if1 .left) (at-start .args .p) (at-start .args .k)) ∙ sym (at-past-bytes .ensures .numbered (at-start .args .p) (at-start .args .k))
