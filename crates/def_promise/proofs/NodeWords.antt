@@ -21,7 +21,7 @@ use Rattle.def_promise.proofs.WordTests.{OfItem, of-item, of-opens, of-
 record Computes (ws : List ℕ) (p : Prog) : Type 0 where
   sounds : Sound ws
   says : prog ws ≡ p
-  plainly : flatProg p ≡ true → flatWords ws ≡ true
+  flatly : flatProg p ≡ true → flatWords ws ≡ true
 
 record ComputesIn (bs : List ℕ) (b : Branches) : Type 0 where
   sounds : SoundBranches bs
@@ -29,14 +29,14 @@ record ComputesIn (bs : List ℕ) (b : Branches) : Type 0 where
 
 nothing-computes : Computes [] end
 unfolding soundWords
-nothing-computes = record { sounds = refl; says = prog-nil; plainly = λ h. flat-nil }
+nothing-computes = record { sounds = refl; says = prog-nil; flatly = λ h. flat-nil }
 
 node-computes : (w : ℕ) (ws : List ℕ) (i : Item) (p : Prog) → proper w ≡ true → shape w ≡ item i → Computes ws p → Computes (w ∷ ws) (i ▹ p)
 unfolding flatProg
 node-computes w ws i p h e q = record {
   sounds = make-item w ws e h (q .sounds);
   says = prog-item w ws i e ∙ ap (λ (r : Prog). i ▹ r) (q .says);
-  plainly = λ g. make-flat w ws e (and-left (isFlat i) (flatProg p) g) h (q .plainly (and-right (isFlat i) (flatProg p) g));
+  flatly = λ g. make-flat w ws e (and-left (isFlat i) (flatProg p) g) h (q .flatly (and-right (isFlat i) (flatProg p) g));
 }
 
 alternation-computes : (w : ℕ) (bs ws : List ℕ) (b : Branches) (p : Prog) → proper w ≡ true → shape w ≡ opens (length bs) → ComputesIn bs b → Computes ws p → Computes (w ∷ (bs ++ ws)) (alt b ▹ p)
@@ -47,7 +47,7 @@ alternation-computes w bs ws b p h e q r =
     record {
       sounds = make-opens w (bs ++ ws) e h (record { fits = omega (arith, length-append bs ws); inside = subst SoundBranches (sym t) (q .sounds); after = subst Sound (sym d) (r .sounds) });
       says = prog-opens w (bs ++ ws) (length bs) e ∙ ap₂ (λ (x y : List ℕ). alt (branchesOf x) ▹ prog y) t d ∙ ap₂ (λ (x : Branches) (y : Prog). alt x ▹ y) (q .says) (r .says);
-      plainly = λ g. false-true g;
+      flatly = λ g. false-true g;
     }
 
 branch-computes : (w : ℕ) (ns bs : List ℕ) (p : Prog) (b : Branches) → proper w ≡ true → shape w ≡ mark (length ns) → flatProg p ≡ true → Computes ns p → ComputesIn bs b → ComputesIn (w ∷ (ns ++ bs)) (or p b)
@@ -55,7 +55,7 @@ branch-computes w ns bs p b h e g q r =
     let t = take-append-seam ns bs in
     let d = drop-append-seam ns bs in
     record {
-      sounds = make-branch w (ns ++ bs) e h (record { fits = omega (arith, length-append ns bs); inside = ap flatWords t ∙ q .plainly g; after = subst SoundBranches (sym d) (r .sounds) });
+      sounds = make-branch w (ns ++ bs) e h (record { fits = omega (arith, length-append ns bs); inside = ap flatWords t ∙ q .flatly g; after = subst SoundBranches (sym d) (r .sounds) });
       says = branches-mark w (ns ++ bs) (length ns) e ∙ ap₂ (λ (x y : List ℕ). or (prog x) (branchesOf y)) t d ∙ ap₂ or (q .says) (r .says);
     }
 
@@ -66,10 +66,10 @@ stop-computes = record { sounds = refl; says = refl }
 last-computes : (w : ℕ) (ns : List ℕ) (p : Prog) → proper w ≡ true → shape w ≡ mark (length ns) → flatProg p ≡ true → Computes ns p → ComputesIn (w ∷ ns) (or p stop)
 last-computes w ns p h e g q = subst (λ (l : List ℕ). ComputesIn (w ∷ l) (or p stop)) (append-nil ns) (branch-computes w ns [] p stop h e g q stop-computes)
 
-flats-plain : {ns : List ℕ} {p : Prog} → Flats ns p → flatProg p ≡ true
+flats-are : {ns : List ℕ} {p : Prog} → Flats ns p → flatProg p ≡ true
 unfolding flatProg
-flats-plain no-node = refl
-flats-plain (a-node f q) = and-both (flat-is f) (flats-plain q)
+flats-are no-node = refl
+flats-are (a-node f q) = and-both (flat-is f) (flats-are q)
 
 flats-compute : {ns : List ℕ} {p : Prog} → Flats ns p → Computes ns p
 flats-compute no-node = nothing-computes
@@ -80,10 +80,10 @@ branched-some (last {ns = ns} l q) = omega arith
 branched-some (more {ns = ns} {bs = bs} l q r) = omega arith
 
 branched-computes : {bs : List ℕ} {b : Branches} → Branched bs b → ComputesIn bs b
-branched-computes (last {ns = ns} {p = p} l q) = let t = mark-tested (length ns) l in last-computes (word 7 (length ns) 0) ns p (t .proper-word) (t .says) (flats-plain q) (flats-compute q)
+branched-computes (last {ns = ns} {p = p} l q) = let t = mark-tested (length ns) l in last-computes (word 7 (length ns) 0) ns p (t .proper-word) (t .says) (flats-are q) (flats-compute q)
 branched-computes (more {ns = ns} {bs = bs} {p = p} {b = b} l q r) =
     let t = mark-tested (length ns) l in
-    branch-computes (word 7 (length ns) 0) ns bs p b (t .proper-word) (t .says) (flats-plain q) (flats-compute q) (branched-computes r)
+    branch-computes (word 7 (length ns) 0) ns bs p b (t .proper-word) (t .says) (flats-are q) (flats-compute q) (branched-computes r)
 
 nodes-compute : {ws : List ℕ} {p : Prog} → Nodes ws p → Computes ws p
 nodes-compute nothing = nothing-computes

@@ -45,10 +45,10 @@ module _ (t p q : List ℕ) (reached n m : ℕ) where
   }
   of-compiled e ts (refused z) a b g x y = never (cc)
 
-  of-outcome : (o : Verdict) → reading t ≡ o → verdictSays o ≡ gives reached n m → take n (forwardLeaves t p q) ≡ take n (verdictForward o p) → take m (reverseLeaves t p q) ≡ take m (verdictReverse o q) → Compiles t p q reached n m
+  of-verdict : (o : Verdict) → reading t ≡ o → verdictSays o ≡ gives reached n m → take n (forwardLeaves t p q) ≡ take n (verdictForward o p) → take m (reverseLeaves t p q) ≡ take m (verdictReverse o q) → Compiles t p q reached n m
   unfolding verdictSays verdictForward verdictReverse
-  of-outcome (accepted e ts) a g x y = of-compiled e ts (compile ts) a refl g x y
-  of-outcome (rejected z k) a g x y = never (cc)
+  of-verdict (accepted e ts) a g x y = of-compiled e ts (compile ts) a refl g x y
+  of-verdict (rejected z k) a g x y = never (cc)
 
   compiles : compileSays t p q ≡ gives reached n m → Compiles t p q reached n m
   unfolding compileSays forwardLeaves reverseLeaves
@@ -56,7 +56,7 @@ module _ (t p q : List ℕ) (reached n m : ℕ) where
     where
       go : (b : Bool) → room p q ≡ b → Compiles t p q reached n m
       go true h =
-          of-outcome (reading t) refl (sym (ap (λ (b : Bool). cond b (verdictSays (reading t)) (refuses 18 0)) h) ∙ g)
+          of-verdict (reading t) refl (sym (ap (λ (b : Bool). cond b (verdictSays (reading t)) (refuses 18 0)) h) ∙ g)
           (ap (λ (b : Bool). take n (cond b (verdictForward (reading t) p) p)) h)
           (ap (λ (b : Bool). take m (cond b (verdictReverse (reading t) q) q)) h)
       go false h =

@@ -1,4 +1,4 @@
--- The laws of the choice in a run.
+-- The laws of what wins in a run.
 pub mod SliceLaws
 pub mod LongerLaws
 pub mod RunLaws

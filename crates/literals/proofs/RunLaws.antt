@@ -261,7 +261,7 @@ module _ (run : List ℕ) (few : length run ≤ tokenPool) where
       pub passed-other : (getD run at 0 ≡ 0 → ⊥) → Passed run (at + n)
       passed-other f = passed-by (ap (λ (x : Bool). x && leb 80 (literalScore (bytesOf (words run at (at + n))))) (kind-at ∙ ne-eqb (getD run at 0) 0 f))
 
--- ---- what is chosen in a run
+-- ---- what wins in a run
 
 pub run-alone : (run : List ℕ) (s : Winner) → winnerSays run s ≡ aloneOr (strong (parts (tokensIn run))) unranked → (s ≡ Nothing → ⊥) → winnerSays run s ≡ inRun (tokensIn run)
 unfolding inRun aloneOr

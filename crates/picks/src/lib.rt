@@ -1,5 +1,5 @@
 // Translated from boreal's boreal/src/matcher/literals.rs (MIT OR Apache-2.0), commit 7010b5e967; see NOTICE.
-// What is chosen so far, and one more slice against it.
+// What wins so far, and one more slice against it.
 ghost use mathlib.Core.Path.{_≡_};
 ghost use mathlib.Core.Bool.{true};
 ghost use mathlib.Core.List.{List};
