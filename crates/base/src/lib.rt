@@ -21,7 +21,7 @@ pub const NUMBER_LIMIT: u64 = 4294967295;
 pub const INNER_JUMP_LIMIT: u32 = 200;
 
 // A jump that is compiled: 12. Two that are merged have no more together.
-pub const JUMP_LIMIT: u32 = 255;
+pub const JUMP_LIMIT: u32 = 65535;
 
 // The nodes of a branch: 14.
 pub const BRANCH_LIMIT: usize = 255;

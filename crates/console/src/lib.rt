@@ -12,7 +12,7 @@ ghost use Rattle.lister.specs.Listings.{listingOf, listingLimit};
 ghost use Rattle.console.specs.Inputs.{Within};
 
 // The most that a listing has: every text's fits.
-const LISTING_LIMIT: usize = 81920;
+const LISTING_LIMIT: usize = 86016;
 
 // How many bytes stand before the end of an input, or that a read of it failed.
 enum Input {

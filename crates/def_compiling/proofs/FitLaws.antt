@@ -10,7 +10,7 @@ use Rattle.def_meaning.specs.Limits.{jumpLimit}
 use Rattle.def_meaning.specs.Tokens.{Mask, left, right, all, Token, Tokens, Lists, Byte, NotByte, MaskedByte, NotMaskedByte, Jump, Alternatives, nothing, _then_, neither, _or_}
 use Rattle.def_meaning.specs.Values.{SpelledOne, Spelled, SpelledFirst, SpelledMore}
 use Rattle.def_meaning.specs.Programs.{Item, Prog, one, jump, range, alt, end, _▹_}
-use Rattle.def_meaning.specs.Words.{fieldSize, isFlat, flatProg}
+use Rattle.def_meaning.specs.Words.{isFlat, flatProg}
 use Rattle.def_meaning.proofs.SoundLaws.{and-left, and-right, false-true}
 use Rattle.def_compiling.specs.Compiling.{jumpOf, pairBy, add, itemOf, added, branchesFor, forwardProgram}
 use Rattle.def_compiling.specs.Compile.{flatToken, flatTokens, flatBranches, simpleToken, simple}
@@ -83,13 +83,10 @@ not-mask-flat v left = refl
 not-mask-flat v right = refl
 not-mask-flat v all = refl
 
-byte-fits : (v : ℕ) → v < 256 → v < fieldSize
-byte-fits v h = omega arith
-
 flat-fits : (t : Token) → SpelledOne t → flatToken t ≡ true → FitOf (itemOf t) × (isFlat (itemOf t) ≡ true)
 unfolding Fit FitTest SpelledOne flatToken isFlat itemOf
-flat-fits (Byte v) h g = (byte-fits v h, refl)
-flat-fits (NotByte v) h g = ((byte-fits v h, omega arith), refl)
+flat-fits (Byte v) h g = (h, refl)
+flat-fits (NotByte v) h g = ((h, omega arith), refl)
 flat-fits (MaskedByte v m) h g = (mask-fits v m h, mask-flat v m)
 flat-fits (NotMaskedByte v m) h g = (not-mask-fits v m h, not-mask-flat v m)
 flat-fits (Jump from none) h g = false-true g
@@ -121,8 +118,8 @@ first-fit (ts or ls) h g =
 -- the outer list
 simple-fits : (t : Token) → SpelledOne t → simpleToken t ≡ true → FitOf (itemOf t)
 unfolding Fit FitTest SpelledOne simpleToken itemOf
-simple-fits (Byte v) h g = byte-fits v h
-simple-fits (NotByte v) h g = (byte-fits v h, omega arith)
+simple-fits (Byte v) h g = h
+simple-fits (NotByte v) h g = (h, omega arith)
 simple-fits (MaskedByte v m) h g = mask-fits v m h
 simple-fits (NotMaskedByte v m) h g = not-mask-fits v m h
 simple-fits (Jump from none) h g = false-true g

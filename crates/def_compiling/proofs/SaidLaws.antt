@@ -7,21 +7,21 @@ use native.Mathlib.Omega.{arith}
 use lib.Dec.{leb}
 use lib.ListN.{length, take, drop, length-append}
 use lib.Seq.{take-at, drop-at}
-use borrow.Author.Tests.{leb-true, le-leb}
+use borrow.Author.Tests.{leb-true}
 use Rattle.def_meaning.specs.Limits.{branchLimit}
 use Rattle.def_meaning.specs.Programs.{Test, byte, mask, negatedMask, any, dot, Item, Prog, Branches, one, jump, range, alt, end, _▹_, stop, or}
-use Rattle.def_meaning.specs.Words.{fieldSize, countSize, word, item, opens, mark, shape, shapeBy, proper, properBy, isFlat, flatProg, prog, branchesOf, branches, flatWords, Sound, SoundBranches, soundWords, soundBranches}
+use Rattle.def_meaning.specs.Words.{byteSize, fieldSize, word, item, isFlat, flatProg, prog, branchesOf, branches, flatWords, Sound, SoundBranches, soundWords, soundBranches}
 use Rattle.def_meaning.proofs.WordLaws.{prog-nil, prog-item, prog-opens, branches-mark}
 use Rattle.def_meaning.proofs.SoundLaws.{make-item, make-opens, make-branch, make-flat, flat-nil, and-left, and-right, false-true}
-use Rattle.def_meaning.proofs.MadeLaws.{made-shape, made-proper, count-shape, count-proper}
+use Rattle.def_meaning.proofs.MadeLaws.{Made, byte-made, mask-made, negated-mask-made, jump-made, range-made, dot-made, opens-made, mark-made}
 use Rattle.def_compiling.specs.ProgramWords.{wordFor, opening, wordsFor, wordsOf, wordsIn, nodes}
 use Rattle.def_compiling.specs.Compile.{shortIn, shortOf, short}
 
--- every value fits its field, an alternation has a branch, and a branch is flat
+-- every value is a byte, every jump fits its field, an alternation has a branch, and a branch is flat
 unfoldable pub FitTest : Test → Type 0
-FitTest (byte v) = v < fieldSize
-FitTest (mask v m) = (v < fieldSize) × (m < fieldSize)
-FitTest (negatedMask v m) = (v < fieldSize) × (m < fieldSize)
+FitTest (byte v) = v < byteSize
+FitTest (mask v m) = (v < byteSize) × (m < byteSize)
+FitTest (negatedMask v m) = (v < byteSize) × (m < byteSize)
 FitTest any = ⊥
 FitTest dot = Unit {0}
 
@@ -44,44 +44,13 @@ unfoldable mutual
   FitMore stop = Unit {0}
   FitMore (or p bs) = Fit p × (flatProg p ≡ true) × FitMore bs
 
--- a word that says one item
-record Says (w : ℕ) (i : Item) : Type 0 where
-  shaped : shape w ≡ item i
-  properly : proper w ≡ true
-
-test-says : (t : Test) → FitTest t → Says (wordFor t) (one t)
-unfolding FitTest wordFor shapeBy properBy
-test-says (byte v) h = record { shaped = made-shape 0 v 0 (omega arith) h (omega arith); properly = made-proper 0 v 0 (omega arith) h (omega arith) refl }
-test-says (mask v m) h = record { shaped = made-shape 1 v m (omega arith) (h .0) (h .1); properly = made-proper 1 v m (omega arith) (h .0) (h .1) refl }
-test-says (negatedMask v m) h = record { shaped = made-shape 2 v m (omega arith) (h .0) (h .1); properly = made-proper 2 v m (omega arith) (h .0) (h .1) refl }
+test-says : (t : Test) → FitTest t → Made (wordFor t) (item (one t))
+unfolding FitTest wordFor
+test-says (byte v) h = byte-made v h
+test-says (mask v m) h = mask-made v m (h .0) (h .1)
+test-says (negatedMask v m) h = negated-mask-made v m (h .0) (h .1)
 test-says any h = absurd h
-test-says dot h = record { shaped = made-shape 5 0 0 (omega arith) (omega arith) (omega arith); properly = made-proper 5 0 0 (omega arith) (omega arith) (omega arith) refl }
-
-jump-says : (n : ℕ) → n < fieldSize → Says (word 3 n 0) (jump n)
-unfolding shapeBy properBy
-jump-says n h = record { shaped = made-shape 3 n 0 (omega arith) h (omega arith); properly = made-proper 3 n 0 (omega arith) h (omega arith) refl }
-
-range-says : (a b : ℕ) → a ≤ b → b < fieldSize → Says (word 4 a b) (range a b)
-unfolding shapeBy properBy
-range-says a b l h = let g : a < fieldSize = omega arith in record { shaped = made-shape 4 a b (omega arith) g h; properly = made-proper 4 a b (omega arith) g h (le-leb a b l) }
-
-module _ (n : ℕ) (l : n < countSize) where
-  opens-shape : shape (opening n) ≡ opens n
-  unfolding opening
-  opens-shape = count-shape n l
-
-  opens-proper : 1 ≤ n → proper (opening n) ≡ true
-  unfolding opening
-  opens-proper p = count-proper n l p
-
-module _ (n : ℕ) (l : n < fieldSize) where
-  mark-shape : shape (word 7 n 0) ≡ mark n
-  unfolding shapeBy
-  mark-shape = made-shape 7 n 0 (omega arith) l (omega arith)
-
-  mark-proper : proper (word 7 n 0) ≡ true
-  unfolding properBy
-  mark-proper = made-proper 7 n 0 (omega arith) l (omega arith) refl
+test-says dot h = dot-made
 
 -- what the words of a program are, and those of branches
 record Said (p : Prog) : Type 0 where
@@ -102,53 +71,53 @@ unfolding wordsOf branchesOf branches soundBranches
 nil-said-in = record { sound = refl; says = refl }
 
 -- an item of one word, before a program
-word-said : (w : ℕ) (i : Item) (p : Prog) → wordsFor i ≡ w ∷ [] → Says w i → Said p → Said (i ▹ p)
+word-said : (w : ℕ) (i : Item) (p : Prog) → wordsFor i ≡ w ∷ [] → Made w (item i) → Said p → Said (i ▹ p)
 unfolding wordsOf flatProg
 word-said w i p e s q =
     let f : wordsFor i ++ wordsOf p ≡ w ∷ wordsOf p = ap (λ (l : List ℕ). l ++ wordsOf p) e in
     record {
-      sound = subst Sound (sym f) (make-item w (wordsOf p) (s .shaped) (s .properly) (q .sound));
-      says = ap prog f ∙ prog-item w (wordsOf p) i (s .shaped) ∙ ap (λ (r : Prog). i ▹ r) (q .says);
-      flatly = λ h. subst (λ (l : List ℕ). flatWords l ≡ true) (sym f) (make-flat w (wordsOf p) (s .shaped) (and-left (isFlat i) _ h) (s .properly) (q .flatly (and-right (isFlat i) _ h)));
+      sound = subst Sound (sym f) (make-item w (wordsOf p) (s .says) (s .properly) (q .sound));
+      says = ap prog f ∙ prog-item w (wordsOf p) i (s .says) ∙ ap (λ (r : Prog). i ▹ r) (q .says);
+      flatly = λ h. subst (λ (l : List ℕ). flatWords l ≡ true) (sym f) (make-flat w (wordsOf p) (s .says) (and-left (isFlat i) _ h) (s .properly) (q .flatly (and-right (isFlat i) _ h)));
     }
 
 -- an alternation, before a program
-alt-said : (bs : Branches) (p : Prog) → 1 ≤ length (wordsIn bs) → length (wordsIn bs) < countSize → SaidIn bs → Said p → Said (alt bs ▹ p)
-unfolding wordsOf flatProg isFlat
+alt-said : (bs : Branches) (p : Prog) → 1 ≤ length (wordsIn bs) → length (wordsIn bs) < fieldSize → SaidIn bs → Said p → Said (alt bs ▹ p)
+unfolding wordsOf opening flatProg isFlat
 alt-said bs p h l b q =
     let n = length (wordsIn bs) in
     let t : take n (wordsIn bs ++ wordsOf p) ≡ wordsIn bs = take-at (wordsIn bs) (wordsOf p) n refl in
     let d : drop n (wordsIn bs ++ wordsOf p) ≡ wordsOf p = drop-at (wordsIn bs) (wordsOf p) n refl in
-    let e : shape (opening n) ≡ opens n = opens-shape n l in
+    let o = opens-made n h l in
     record {
-      sound = make-opens (opening n) (wordsIn bs ++ wordsOf p) e (opens-proper n l h) (record {
+      sound = make-opens (opening n) (wordsIn bs ++ wordsOf p) (o .says) (o .properly) (record {
         fits = omega (arith, length-append (wordsIn bs) (wordsOf p));
         inside = subst SoundBranches (sym t) (b .sound);
         after = subst Sound (sym d) (q .sound);
       });
       says =
-          prog-opens (opening n) (wordsIn bs ++ wordsOf p) n e
+          prog-opens (opening n) (wordsIn bs ++ wordsOf p) n (o .says)
           ∙ ap₂ (λ (x : List ℕ) (y : List ℕ). alt (branchesOf x) ▹ prog y) t d
           ∙ ap₂ (λ (x : Branches) (y : Prog). alt x ▹ y) (b .says) (q .says);
       flatly = λ g. false-true g;
     }
 
 -- a branch, before others
-branch-said : (p : Prog) (bs : Branches) → flatProg p ≡ true → nodes p < fieldSize → Said p → SaidIn bs → SaidIn (or p bs)
+branch-said : (p : Prog) (bs : Branches) → flatProg p ≡ true → nodes p ≤ branchLimit → Said p → SaidIn bs → SaidIn (or p bs)
 unfolding wordsOf
 branch-said p bs h l q b =
     let n = nodes p in
     let t : take n (wordsOf p ++ wordsIn bs) ≡ wordsOf p = take-at (wordsOf p) (wordsIn bs) n refl in
     let d : drop n (wordsOf p ++ wordsIn bs) ≡ wordsIn bs = drop-at (wordsOf p) (wordsIn bs) n refl in
-    let e : shape (word 7 n 0) ≡ mark n = mark-shape n l in
+    let m = mark-made n l in
     record {
-      sound = make-branch (word 7 n 0) (wordsOf p ++ wordsIn bs) e (mark-proper n l) (record {
+      sound = make-branch (word 7 n 0) (wordsOf p ++ wordsIn bs) (m .says) (m .properly) (record {
         fits = omega (arith, length-append (wordsOf p) (wordsIn bs));
         inside = ap flatWords t ∙ q .flatly h;
         after = subst SoundBranches (sym d) (b .sound);
       });
       says =
-          branches-mark (word 7 n 0) (wordsOf p ++ wordsIn bs) n e
+          branches-mark (word 7 n 0) (wordsOf p ++ wordsIn bs) n (m .says)
           ∙ ap₂ (λ (x : List ℕ) (y : List ℕ). or (prog x) (branchesOf y)) t d
           ∙ ap₂ or (q .says) (b .says);
     }
@@ -175,26 +144,26 @@ flat-short (alt bs ▹ p) h = false-true h
 mutual
   unfolding Fit wordsOf short shortOf shortIn
 
-  said-item : (i : Item) (p : Prog) → FitOf i → shortOf i ≡ true → length (wordsFor i) ≤ countSize → Said p → Said (i ▹ p)
+  said-item : (i : Item) (p : Prog) → FitOf i → shortOf i ≡ true → length (wordsFor i) ≤ fieldSize → Said p → Said (i ▹ p)
   said-item (one t) p h g l q = word-said (wordFor t) (one t) p refl (test-says t h) q
-  said-item (jump n) p h g l q = word-said (word 3 n 0) (jump n) p refl (jump-says n h) q
-  said-item (range a b) p h g l q = word-said (word 4 a b) (range a b) p refl (range-says a b (h .0) (h .1)) q
+  said-item (jump n) p h g l q = word-said (word 3 n 0) (jump n) p refl (jump-made n h) q
+  said-item (range a b) p h g l q = word-said (word 4 a b) (range a b) p refl (range-made a b (h .0) (h .1)) q
   said-item (alt bs) p h g l q = alt-said bs p (some-words bs h) (omega arith) (said-in bs (first-fits bs h) g (omega arith)) q
 
-  said : (p : Prog) → Fit p → short p ≡ true → nodes p ≤ countSize → Said p
+  said : (p : Prog) → Fit p → short p ≡ true → nodes p ≤ fieldSize → Said p
   said end h g l = nil-said
   said (i ▹ p) h g l =
       let e = length-append (wordsFor i) (wordsOf p) in
       said-item i p (h .0) (and-left (shortOf i) (short p) g) (omega arith) (said p (h .1) (and-right (shortOf i) (short p) g) (omega arith))
 
-  said-in : (bs : Branches) → FitMore bs → shortIn bs ≡ true → length (wordsIn bs) ≤ countSize → SaidIn bs
+  said-in : (bs : Branches) → FitMore bs → shortIn bs ≡ true → length (wordsIn bs) ≤ fieldSize → SaidIn bs
   said-in stop h g l = nil-said-in
   said-in (or p bs) h g l =
       let e = length-append (wordsOf p) (wordsIn bs) in
       let n : nodes p ≤ branchLimit = leb-true (nodes p) branchLimit (and-left (leb (nodes p) branchLimit) (shortIn bs) g) in
-      branch-said p bs (h .1) (omega arith) (said p (h .0) (flat-short p (h .1)) (omega arith)) (said-in bs (h .2) (and-right (leb (nodes p) branchLimit) (shortIn bs) g) (omega arith))
+      branch-said p bs (h .1) n (said p (h .0) (flat-short p (h .1)) (omega arith)) (said-in bs (h .2) (and-right (leb (nodes p) branchLimit) (shortIn bs) g) (omega arith))
 
-module _ (p : Prog) (h : Fit p) (g : short p ≡ true) (l : nodes p ≤ countSize) where
+module _ (p : Prog) (h : Fit p) (g : short p ≡ true) (l : nodes p ≤ fieldSize) where
   pub words-sound : Sound (wordsOf p)
   words-sound = said p h g l .sound
 

@@ -21,12 +21,14 @@ Right (gives ts c ∷ ss) = (compile ts ≡ c) × Right ss
 pub samples : List Sample
 samples =
     -- `{ A? }`
-    gives (MaskedByte 0xA right then nothing) (compiled (0x00F0A001 ∷ []) (0x00F0A001 ∷ [])) ∷
-    -- `{ AB [100] [200] [50] [100] CD }`: the reverse program is not the mirror word for word
-    gives (Byte 0xAB then Jump 100 (some 100) then Jump 200 (some 200) then Jump 50 (some 50) then Jump 100 (some 100) then Byte 0xCD then nothing) (compiled (word 0 0xAB 0 ∷ word 3 100 0 ∷ word 3 250 0 ∷ word 3 100 0 ∷ word 0 0xCD 0 ∷ []) (word 0 0xCD 0 ∷ word 3 150 0 ∷ word 3 200 0 ∷ word 3 100 0 ∷ word 0 0xAB 0 ∷ [])) ∷
-    -- `{ AB [255] CD }` compiles, `{ AB [256] CD }` and `{ AB [4294967295] CD }` are not simple
-    gives (Byte 0xAB then Jump 255 (some 255) then Byte 0xCD then nothing) (compiled (word 0 0xAB 0 ∷ word 3 255 0 ∷ word 0 0xCD 0 ∷ []) (word 0 0xCD 0 ∷ word 3 255 0 ∷ word 0 0xAB 0 ∷ [])) ∷
-    gives (Byte 0xAB then Jump 256 (some 256) then Byte 0xCD then nothing) (refused NotSimple) ∷
+    gives (MaskedByte 0xA right then nothing) (compiled (0xF000A001 ∷ []) (0xF000A001 ∷ [])) ∷
+    -- `{ AB [100] [200] [50] [100] CD }`: one jump both ways
+    gives (Byte 0xAB then Jump 100 (some 100) then Jump 200 (some 200) then Jump 50 (some 50) then Jump 100 (some 100) then Byte 0xCD then nothing) (compiled (word 0 0xAB 0 ∷ word 3 450 0 ∷ word 0 0xCD 0 ∷ []) (word 0 0xCD 0 ∷ word 3 450 0 ∷ word 0 0xAB 0 ∷ [])) ∷
+    -- `{ AB [25000] [50000] [12000] [25000] CD }`: the reverse program is not the mirror word for word
+    gives (Byte 0xAB then Jump 25000 (some 25000) then Jump 50000 (some 50000) then Jump 12000 (some 12000) then Jump 25000 (some 25000) then Byte 0xCD then nothing) (compiled (word 0 0xAB 0 ∷ word 3 25000 0 ∷ word 3 62000 0 ∷ word 3 25000 0 ∷ word 0 0xCD 0 ∷ []) (word 0 0xCD 0 ∷ word 3 37000 0 ∷ word 3 50000 0 ∷ word 3 25000 0 ∷ word 0 0xAB 0 ∷ [])) ∷
+    -- `{ AB [65535] CD }` compiles, `{ AB [65536] CD }` and `{ AB [4294967295] CD }` are not simple
+    gives (Byte 0xAB then Jump 65535 (some 65535) then Byte 0xCD then nothing) (compiled (word 0 0xAB 0 ∷ word 3 65535 0 ∷ word 0 0xCD 0 ∷ []) (word 0 0xCD 0 ∷ word 3 65535 0 ∷ word 0 0xAB 0 ∷ [])) ∷
+    gives (Byte 0xAB then Jump 65536 (some 65536) then Byte 0xCD then nothing) (refused NotSimple) ∷
     gives (Byte 0xAB then Jump 4294967295 (some 4294967295) then Byte 0xCD then nothing) (refused NotSimple) ∷
     -- `{ (AA ??) ?? }`: a `??` after alternatives does not grow the last branch's jump
     gives (Alternatives ((Byte 0xAA then MaskedByte 0 all then nothing) or neither) then MaskedByte 0 all then nothing) (compiled (word 6 3 0 ∷ word 7 2 0 ∷ word 0 0xAA 0 ∷ word 3 1 0 ∷ word 3 1 0 ∷ []) (word 3 1 0 ∷ word 6 3 0 ∷ word 7 2 0 ∷ word 3 1 0 ∷ word 0 0xAA 0 ∷ [])) ∷
@@ -45,4 +47,4 @@ samples =
 
 pub samples-hold : Right samples
 unfolding samples Right compile flatToken flatTokens flatBranches simpleToken simple shortIn shortOf short few wordFor opening wordsOf jumpOf pairBy add itemOf backwards _⊕_ forwardProgram reverseProgram forwardWords reverseWords
-samples-hold = (refl, (refl, (refl, (refl, (refl, (refl, (refl, (refl, (refl, (refl, (refl, (refl, (refl, tt)))))))))))))
+samples-hold = (refl, (refl, (refl, (refl, (refl, (refl, (refl, (refl, (refl, (refl, (refl, (refl, (refl, (refl, tt))))))))))))))

@@ -4,7 +4,7 @@ use mathlib.Core.List.{List, [], _∷_, _++_}
 use Prim.Native.Nat.{ℕ}
 use lib.ListN.{length}
 use Rattle.def_meaning.specs.Programs.{Test, byte, mask, negatedMask, any, dot, Item, Prog, Branches, one, jump, range, alt, end, _▹_, stop, or}
-use Rattle.def_meaning.specs.Words.{word, countWord}
+use Rattle.def_meaning.specs.Words.{word}
 
 -- the word of a test; one that asks nothing is a Jump of 1, though no compiled program holds it
 unfoldable pub wordFor : Test → ℕ
@@ -16,7 +16,7 @@ wordFor dot = word 5 0 0
 
 -- an Alternation's word, by the number of words that fill it
 unfoldable pub opening : ℕ → ℕ
-opening n = countWord n
+opening n = word 6 n 0
 
 -- the words of a program: an Alternation counts its branches with their marks, an AltBranch its nodes
 unfoldable mutual

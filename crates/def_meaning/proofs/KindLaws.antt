@@ -5,7 +5,7 @@ use Prim.Native.Nat.{ℕ}
 use lib.Dec.{eqb}
 use borrow.Author.Tests.{eqb-true}
 use Rattle.def_meaning.specs.Programs.{byte, mask, negatedMask, dot, one, jump, range, alt}
-use Rattle.def_meaning.specs.Words.{kindOf, firstOf, secondOf, countBy, countOf, Shape, item, opens, mark, wrong, shapeBy, shape}
+use Rattle.def_meaning.specs.Words.{kindOf, firstOf, secondOf, Shape, item, opens, mark, wrong, shapeBy, shape}
 
 -- the kind that a shape has
 abbrev pub Seen : ℕ → Shape → Type 0
@@ -21,7 +21,7 @@ seen-by : (k a b : ℕ) → Seen k (shapeBy k a b)
 unfolding shapeBy
 seen-by k a b = go (eqb k 0) (eqb k 1) (eqb k 2) (eqb k 3) (eqb k 4) (eqb k 5) (eqb k 6) (eqb k 7) (eqb-true k 3) (eqb-true k 4) (eqb-true k 6) (eqb-true k 7)
   where
-    go : (x y z u v s t q : Bool) → (u ≡ true → k ≡ 3) → (v ≡ true → k ≡ 4) → (t ≡ true → k ≡ 6) → (q ≡ true → k ≡ 7) → Seen k (cond x (item (one (byte a))) (cond y (item (one (mask a b))) (cond z (item (one (negatedMask a b))) (cond u (item (jump a)) (cond v (item (range a b)) (cond s (item (one dot)) (cond t (opens (countBy a b)) (cond q (mark a) wrong))))))))
+    go : (x y z u v s t q : Bool) → (u ≡ true → k ≡ 3) → (v ≡ true → k ≡ 4) → (t ≡ true → k ≡ 6) → (q ≡ true → k ≡ 7) → Seen k (cond x (item (one (byte a))) (cond y (item (one (mask a b))) (cond z (item (one (negatedMask a b))) (cond u (item (jump a)) (cond v (item (range a b)) (cond s (item (one dot)) (cond t (opens a) (cond q (mark a) wrong))))))))
     go true y z u v s t q e f g h = tt
     go false true z u v s t q e f g h = tt
     go false false true u v s t q e f g h = tt
@@ -46,7 +46,7 @@ module _ (w : ℕ) where
   unfolding shape shapeBy
   kind-range e f g = rw (e, f, g)
 
-  pub kind-opens : {n : ℕ} → kindOf w ≡ 6 → n ≡ countOf w → shape w ≡ opens n
+  pub kind-opens : {n : ℕ} → kindOf w ≡ 6 → n ≡ firstOf w → shape w ≡ opens n
   unfolding shape shapeBy
   kind-opens e f = rw (e, f)
 

@@ -1,38 +1,62 @@
--- What a word that is made of a kind and two fields says, and when it is proper. Assumes nothing.
-use mathlib.Core.Path.{_≡_, sym, ap, _∙_, subst}
+-- What a word that is made of a kind and two fields says, and when it is proper: for any kind, and kind by kind. Assumes nothing.
+use mathlib.Core.Path.{_≡_, refl}
 use mathlib.Core.Bool.{true}
-use Prim.Native.Nat.{ℕ, _/_, _%_, _≤_, _<_}
+use Prim.Native.Nat.{ℕ, _≤_, _<_}
 use native.Mathlib.Omega.{arith}
 use borrow.Author.Tests.{lt-ltb, le-leb}
-use Rattle.def_meaning.specs.Words.{fieldSize, word, wordSize, countSize, countBy, countWord, opens, shapeBy, shape, properBy, proper}
+use Rattle.def_meaning.specs.Limits.{branchLimit}
+use Rattle.def_meaning.specs.Programs.{byte, mask, negatedMask, dot, one, jump, range}
+use Rattle.def_meaning.specs.Words.{byteSize, fieldSize, word, wordSize, Shape, item, opens, mark, shapeBy, shape, properBy, proper}
 use Rattle.def_meaning.proofs.FieldLaws.{kind-made, first-made, second-made}
+
+-- a word that may stand in a sound program, and what it says
+pub record Made (w : ℕ) (s : Shape) : Type 0 where
+  pub properly : proper w ≡ true
+  pub says : shape w ≡ s
 
 module _ (k a b : ℕ) (hk : k < 256) (ha : a < fieldSize) (hb : b < fieldSize) where
   pub made-shape : shape (word k a b) ≡ shapeBy k a b
   unfolding shape
   made-shape = rw (kind-made fieldSize k a b hk ha hb, first-made fieldSize k a b hk ha hb, second-made fieldSize k a b hk ha hb)
 
-  pub made-proper : properBy k a b ≡ true → proper (word k a b) ≡ true
+  made-proper : properBy k a b ≡ true → proper (word k a b) ≡ true
   unfolding proper
   made-proper h =
       let l : word k a b < wordSize = omega arith in
       rw (lt-ltb (word k a b) (wordSize) l, kind-made fieldSize k a b hk ha hb, first-made fieldSize k a b hk ha hb, second-made fieldSize k a b hk ha hb) h
 
--- an Alternation, by its count
-module _ (n : ℕ) (l : n < countSize) where
-  low : n % fieldSize < fieldSize
-  low = omega arith
+  made : properBy k a b ≡ true → Made (word k a b) (shapeBy k a b)
+  made h = record { properly = made-proper h; says = made-shape }
 
-  high : n / fieldSize < fieldSize
-  high = omega arith
+-- kind by kind
+pub byte-made : (v : ℕ) → v < byteSize → Made (word 0 v 0) (item (one (byte v)))
+unfolding properBy shapeBy
+byte-made v h = made 0 v 0 (omega arith) (omega arith) (omega arith) (rw (lt-ltb v byteSize h))
 
-  again : countBy (n % fieldSize) (n / fieldSize) ≡ n
-  again = omega arith
+pub mask-made : (v m : ℕ) → v < byteSize → m < byteSize → Made (word 1 v m) (item (one (mask v m)))
+unfolding properBy shapeBy
+mask-made v m h g = made 1 v m (omega arith) (omega arith) (omega arith) (rw (lt-ltb v byteSize h, lt-ltb m byteSize g))
 
-  pub count-shape : shape (countWord n) ≡ opens n
-  unfolding shapeBy
-  count-shape = made-shape 6 (n % fieldSize) (n / fieldSize) (omega arith) low high ∙ ap opens again
+pub negated-mask-made : (v m : ℕ) → v < byteSize → m < byteSize → Made (word 2 v m) (item (one (negatedMask v m)))
+unfolding properBy shapeBy
+negated-mask-made v m h g = made 2 v m (omega arith) (omega arith) (omega arith) (rw (lt-ltb v byteSize h, lt-ltb m byteSize g))
 
-  pub count-proper : 1 ≤ n → proper (countWord n) ≡ true
-  unfolding properBy
-  count-proper p = made-proper 6 (n % fieldSize) (n / fieldSize) (omega arith) low high (le-leb 1 _ (subst (λ (k : ℕ). 1 ≤ k) (sym again) p))
+pub jump-made : (n : ℕ) → n < fieldSize → Made (word 3 n 0) (item (jump n))
+unfolding properBy shapeBy
+jump-made n h = made 3 n 0 (omega arith) h (omega arith) refl
+
+pub range-made : (a b : ℕ) → a ≤ b → b < fieldSize → Made (word 4 a b) (item (range a b))
+unfolding properBy shapeBy
+range-made a b h g = made 4 a b (omega arith) (omega arith) g (le-leb a b h)
+
+pub dot-made : Made (word 5 0 0) (item (one dot))
+unfolding properBy shapeBy
+dot-made = made 5 0 0 (omega arith) (omega arith) (omega arith) refl
+
+pub opens-made : (n : ℕ) → 1 ≤ n → n < fieldSize → Made (word 6 n 0) (opens n)
+unfolding properBy shapeBy
+opens-made n h g = made 6 n 0 (omega arith) g (omega arith) (rw (le-leb 1 n h))
+
+pub mark-made : (n : ℕ) → n ≤ branchLimit → Made (word 7 n 0) (mark n)
+unfolding properBy shapeBy
+mark-made n h = made 7 n 0 (omega arith) (omega arith) (omega arith) (rw (le-leb n branchLimit h))

@@ -21,7 +21,7 @@ innerJumpLimit = 200
 
 -- a jump that is compiled, the nodes of a branch and of a program
 abbrev pub jumpLimit : ℕ
-jumpLimit = 255
+jumpLimit = 65535
 
 abbrev pub branchLimit : ℕ
 branchLimit = 255

@@ -7,12 +7,15 @@ use mathlib.Core.List.{List, [], _∷_, _++_}
 use Prim.Native.Nat.{ℕ, zero, suc, _+_, _*_, _/_, _%_}
 use lib.Dec.{eqb, leb, ltb}
 use lib.ListN.{length, take, drop}
-use Rattle.def_meaning.specs.Limits.{nodeLimit}
+use Rattle.def_meaning.specs.Limits.{branchLimit, nodeLimit}
 use Rattle.def_meaning.specs.Programs.{byte, mask, negatedMask, dot, Item, Prog, Branches, one, jump, range, alt, end, _▹_, stop, or}
 
--- how many values a field has
+-- how many values a byte has, and a field
+abbrev pub byteSize : ℕ
+byteSize = 256
+
 abbrev pub fieldSize : ℕ
-fieldSize = 256
+fieldSize = 65536
 
 -- A word by its kind and its two fields, and each of them out of a word. The size F of a field is a parameter, so that the facts about
 -- fields (proofs/FieldLaws.antt) are proved once for every size: the kind always has 256 values.
@@ -28,7 +31,7 @@ firstBy F w = w / 256 % F
 abbrev pub secondBy : ℕ → ℕ → ℕ
 secondBy F w = w / (256 * F) % F
 
--- 01's word = kind + 256·first + 65,536·second
+-- 02's word = kind + 2⁸·first + 2²⁴·second
 abbrev pub word : ℕ → ℕ → ℕ → ℕ
 word k a b = wordBy fieldSize k a b
 
@@ -38,22 +41,13 @@ firstOf w = firstBy fieldSize w
 abbrev pub secondOf : ℕ → ℕ
 secondOf w = secondBy fieldSize w
 
+-- what an Alternation counts
+abbrev pub countOf : ℕ → ℕ
+countOf w = firstOf w
+
 -- how many words there are of a kind and two fields
 abbrev pub wordSize : ℕ
 wordSize = 256 * fieldSize * fieldSize
-
--- An Alternation's count takes both fields: how many values it has, the count of the fields a and b, of a word, and the word of a count.
-abbrev pub countSize : ℕ
-countSize = fieldSize * fieldSize
-
-abbrev pub countBy : ℕ → ℕ → ℕ
-countBy a b = a + fieldSize * b
-
-abbrev pub countOf : ℕ → ℕ
-countOf w = countBy (firstOf w) (secondOf w)
-
-abbrev pub countWord : ℕ → ℕ
-countWord n = word 6 (n % fieldSize) (n / fieldSize)
 
 -- what one word says by its kind and fields, read without judging (`proper` judges): an item that is one word; alternatives, whose branches
 -- are the next so many words; a branch, whose nodes are the next so many words; or a kind that 01 does not have
@@ -72,23 +66,23 @@ shapeBy k a b =
     (cond (eqb k 3) (item (jump a))
     (cond (eqb k 4) (item (range a b))
     (cond (eqb k 5) (item (one dot))
-    (cond (eqb k 6) (opens (countBy a b))
+    (cond (eqb k 6) (opens a)
     (cond (eqb k 7) (mark a) wrong)))))))
 
 unfoldable pub shape : ℕ → Shape
 shape w = shapeBy (kindOf w) (firstOf w) (secondOf w)
 
--- one of the kinds, its unnamed fields 0, min at most max, and an alternation's count not 0
+-- one of the kinds, its unnamed fields 0, values and masks bytes, min at most max, an alternation's count not 0, and a branch's within its limit
 unfoldable pub properBy : ℕ → ℕ → ℕ → Bool
 properBy k a b =
-    cond (eqb k 0) (eqb b 0)
-    (cond (eqb k 1) true
-    (cond (eqb k 2) true
+    cond (eqb k 0) (ltb a byteSize && eqb b 0)
+    (cond (eqb k 1) (ltb a byteSize && ltb b byteSize)
+    (cond (eqb k 2) (ltb a byteSize && ltb b byteSize)
     (cond (eqb k 3) (eqb b 0)
     (cond (eqb k 4) (leb a b)
     (cond (eqb k 5) (eqb a 0 && eqb b 0)
-    (cond (eqb k 6) (leb 1 (countBy a b))
-    (cond (eqb k 7) (eqb b 0) false)))))))
+    (cond (eqb k 6) (leb 1 a && eqb b 0)
+    (cond (eqb k 7) (leb a branchLimit && eqb b 0) false)))))))
 
 -- a word that may stand in a sound program, as far as it tells by itself
 unfoldable pub proper : ℕ → Bool

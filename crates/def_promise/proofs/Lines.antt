@@ -6,7 +6,7 @@ use Prim.Native.Nat.{ℕ, _+_, _<_}
 use native.Mathlib.Omega.{arith}
 use lib.ListN.{length}
 use Rattle.def_meaning.specs.Programs.{Item, Prog, Branches}
-use Rattle.def_meaning.specs.Words.{shapeBy}
+use Rattle.def_meaning.specs.Words.{fieldSize, shapeBy}
 use Rattle.def_meaning.proofs.MadeLaws.{made-shape}
 use Rattle.lines.specs.Lines.{shapeLine, nodeLine}
 use Rattle.def_promise.specs.NodeWords as words
@@ -14,21 +14,21 @@ use Rattle.def_promise.specs.NodeWords.{word, Flat, Flats, Branched, Nod
 use Rattle.def_promise.specs.Lines.{NodeLine}
 use Rattle.def_promise.specs.Lines as lines
 
-made : (k a b : ℕ) → k < 256 → a < 256 → b < 256 → nodeLine (word k a b) ≡ shapeLine (shapeBy k a b)
+made : (k a b : ℕ) → k < 256 → a < fieldSize → b < fieldSize → nodeLine (word k a b) ≡ shapeLine (shapeBy k a b)
 unfolding nodeLine
 made k a b h f g = ap shapeLine (made-shape k a b h f g)
 
 -- a listed line is the computed one
 pub line-one : {w : ℕ} {l : List ℕ} → NodeLine w l → l ≡ nodeLine w
 unfolding shapeBy
-line-one (lines.kind-0 {v = v} h) = sym (made 0 v 0 (omega arith) h (omega arith))
-line-one (lines.kind-1 {v = v} {m = m} h g) = sym (made 1 v m (omega arith) h g)
-line-one (lines.kind-2 {v = v} {m = m} h g) = sym (made 2 v m (omega arith) h g)
+line-one (lines.kind-0 {v = v} h) = sym (made 0 v 0 (omega arith) (omega arith) (omega arith))
+line-one (lines.kind-1 {v = v} {m = m} h g) = sym (made 1 v m (omega arith) (omega arith) (omega arith))
+line-one (lines.kind-2 {v = v} {m = m} h g) = sym (made 2 v m (omega arith) (omega arith) (omega arith))
 line-one (lines.kind-3 {n = n} h) = sym (made 3 n 0 (omega arith) h (omega arith))
 line-one (lines.kind-4 {a = a} {b = b} h g) = sym (made 4 a b (omega arith) h g)
 line-one lines.kind-5 = sym (made 5 0 0 (omega arith) (omega arith) (omega arith))
-line-one (lines.kind-6 {a = a} {b = b} h g) = sym (made 6 a b (omega arith) h g)
-line-one (lines.kind-7 {n = n} h) = sym (made 7 n 0 (omega arith) h (omega arith))
+line-one (lines.kind-6 {n = n} h) = sym (made 6 n 0 (omega arith) h (omega arith))
+line-one (lines.kind-7 {n = n} h) = sym (made 7 n 0 (omega arith) (omega arith) (omega arith))
 
 of-line : (w : ℕ) (l : List ℕ) → NodeLine w l → NodeLine w (nodeLine w)
 of-line w l h = subst (NodeLine w) (line-one h) h
@@ -65,5 +65,5 @@ branched-lined (words.more {ns = ns} {bs = bs} l q r) = next-lined (word 7 (leng
 pub sound-lines : {ws : List ℕ} {p : Prog} → Nodes ws p → (w : ℕ) → List·Memᴰ w ws → NodeLine w (nodeLine w)
 sound-lines words.nothing = none-lined
 sound-lines (words.flat {w = v} {ws = ws} f q) = next-lined v ws (flat-line f) (sound-lines q)
-sound-lines (words.kind-4 {a = a} {b = b} {ws = ws} h g q) = let l : a < 256 = omega arith in next-lined (word 4 a b) ws (of-line _ _ (lines.kind-4 l g)) (sound-lines q)
-sound-lines (words.kind-6 {a = a} {b = b} {bs = bs} {ws = ws} h g e u q) = next-lined (word 6 a b) (bs ++ ws) (of-line _ _ (lines.kind-6 h g)) (both-lined bs ws (branched-lined u) (sound-lines q))
+sound-lines (words.kind-4 {a = a} {b = b} {ws = ws} h g q) = let l : a < fieldSize = omega arith in next-lined (word 4 a b) ws (of-line _ _ (lines.kind-4 l g)) (sound-lines q)
+sound-lines (words.kind-6 {bs = bs} {ws = ws} h u q) = next-lined (word 6 (length bs) 0) (bs ++ ws) (of-line _ _ (lines.kind-6 h)) (both-lined bs ws (branched-lined u) (sound-lines q))

@@ -3,7 +3,7 @@ use mathlib.Core.Path.{_≡_, refl, sym, ap, ap₂, _∙_, subst, subst₂}
 use mathlib.Core.Bool.{Bool, true, false}
 use mathlib.Core.Logic.{_↔_}
 use mathlib.Core.List.{List, [], _∷_, _++_, append-nil}
-use Prim.Native.Nat.{ℕ, zero, suc, _+_, _/_, _%_, _≤_}
+use Prim.Native.Nat.{ℕ, zero, suc, _≤_, _<_}
 use native.Mathlib.Omega.{arith}
 use native.Mathlib.Nat.{le-refl}
 use lib.Dec.{leb}
@@ -11,11 +11,12 @@ use borrow.Author.Tests.{leb-true, le-leb}
 use lib.ListN.{length, take, drop, length-append, length-drop, take-append-drop}
 use lib.Seq.{take-append-seam, drop-append-seam, length-take-le, take-all}
 use Rattle.def_meaning.specs.Programs.{Item, Prog, Branches, one, jump, range, alt, end, _▹_, stop, or}
-use Rattle.def_meaning.specs.Words.{fieldSize, Shape, item, opens, mark, wrong, shape, proper, isFlat, flatProg, flatWords, soundWords, soundBranches, branches, prog, branchesOf, sound, Sound, SoundBranches}
+use Rattle.def_meaning.specs.Words.{byteSize, Shape, item, opens, mark, wrong, shape, proper, isFlat, flatProg, flatWords, soundWords, soundBranches, branches, prog, branchesOf, sound, Sound, SoundBranches}
 use Rattle.def_meaning.proofs.WordLaws.{drop-le, prog-nil, prog-item, prog-opens, branches-mark}
+use Rattle.def_meaning.proofs.MadeLaws.{range-made, opens-made, mark-made}
 use Rattle.def_meaning.proofs.SoundLaws.{Marked, and-left, and-right, and-both, false-true, sound-proper, branch-proper, sound-item, sound-opens, sound-mark, sound-wrong, sound-branch, branch-shape, make-item, make-opens, make-branch, make-flat, flat-item, flat-nil}
 use Rattle.def_promise.specs.NodeWords.{word, Flats, no-node, a-node, Branched, last, more, Nodes, nothing, flat, kind-4, kind-6, SoundWords}
-use Rattle.def_promise.proofs.WordTests.{OfItem, of-item, of-opens, of-mark, flat-of, ordered, opens-some, range-word, mark-word, opens-word, flat-tested, flat-is, range-tested, mark-tested, opens-tested}
+use Rattle.def_promise.proofs.WordTests.{OfItem, of-item, of-opens, of-mark, flat-of, range-word, mark-word, opens-word, flat-made, flat-is}
 
 -- what listed words compute to
 record Computes (ws : List ℕ) (p : Prog) : Type 0 where
@@ -73,25 +74,25 @@ flats-are (a-node f q) = and-both (flat-is f) (flats-are q)
 
 flats-compute : {ns : List ℕ} {p : Prog} → Flats ns p → Computes ns p
 flats-compute no-node = nothing-computes
-flats-compute (a-node {w = w} {ws = ws} {i = i} {p = p} f q) = let t = flat-tested f in node-computes w ws i p (t .proper-word) (t .says) (flats-compute q)
+flats-compute (a-node {w = w} {ws = ws} {i = i} {p = p} f q) = let t = flat-made f in node-computes w ws i p (t .properly) (t .says) (flats-compute q)
 
 branched-some : {bs : List ℕ} {b : Branches} → Branched bs b → 1 ≤ length bs
 branched-some (last {ns = ns} l q) = omega arith
 branched-some (more {ns = ns} {bs = bs} l q r) = omega arith
 
 branched-computes : {bs : List ℕ} {b : Branches} → Branched bs b → ComputesIn bs b
-branched-computes (last {ns = ns} {p = p} l q) = let t = mark-tested (length ns) l in last-computes (word 7 (length ns) 0) ns p (t .proper-word) (t .says) (flats-are q) (flats-compute q)
+branched-computes (last {ns = ns} {p = p} l q) = let t = mark-made (length ns) (omega arith) in last-computes (word 7 (length ns) 0) ns p (t .properly) (t .says) (flats-are q) (flats-compute q)
 branched-computes (more {ns = ns} {bs = bs} {p = p} {b = b} l q r) =
-    let t = mark-tested (length ns) l in
-    branch-computes (word 7 (length ns) 0) ns bs p b (t .proper-word) (t .says) (flats-are q) (flats-compute q) (branched-computes r)
+    let t = mark-made (length ns) (omega arith) in
+    branch-computes (word 7 (length ns) 0) ns bs p b (t .properly) (t .says) (flats-are q) (flats-compute q) (branched-computes r)
 
 nodes-compute : {ws : List ℕ} {p : Prog} → Nodes ws p → Computes ws p
 nodes-compute nothing = nothing-computes
-nodes-compute (flat {w = w} {ws = ws} {i = i} {p = p} f q) = let t = flat-tested f in node-computes w ws i p (t .proper-word) (t .says) (nodes-compute q)
-nodes-compute (kind-4 {a = a} {b = b} {ws = ws} {p = p} h g q) = let t = range-tested a b h g in node-computes (word 4 a b) ws (range a b) p (t .proper-word) (t .says) (nodes-compute q)
-nodes-compute (kind-6 {a = a} {b = b} {bs = bs} {ws = ws} {br = br} {p = p} h g e u q) =
-    let t = opens-tested a b (length bs) h g e (branched-some u) in
-    alternation-computes (word 6 a b) bs ws br p (t .proper-word) (t .says) (branched-computes u) (nodes-compute q)
+nodes-compute (flat {w = w} {ws = ws} {i = i} {p = p} f q) = let t = flat-made f in node-computes w ws i p (t .properly) (t .says) (nodes-compute q)
+nodes-compute (kind-4 {a = a} {b = b} {ws = ws} {p = p} h g q) = let t = range-made a b h g in node-computes (word 4 a b) ws (range a b) p (t .properly) (t .says) (nodes-compute q)
+nodes-compute (kind-6 {bs = bs} {ws = ws} {b = b} {p = p} h u q) =
+    let t = opens-made (length bs) (branched-some u) h in
+    alternation-computes (word 6 (length bs) 0) bs ws b p (t .properly) (t .says) (branched-computes u) (nodes-compute q)
 
 -- what is tested is listed, with the computed program: words of a branch
 flats-listed : (ws : List ℕ) → flatWords ws ≡ true → Flats ws (prog ws)
@@ -116,15 +117,18 @@ branch-listed w ws k e h r = subst (Branched (w ∷ ws)) (sym (branches-mark w w
     v : word 7 (length ns) 0 ≡ w
     v = mark-word w (length ns) (branch-proper w ws h) m
 
+    few : length ns < byteSize
+    few = let b = of-mark w (length ns) (branch-proper w ws h) m in omega arith
+
     go : (l : List ℕ) → drop k ws ≡ l → (1 ≤ length l → Branched l (branchesOf l)) → Branched (w ∷ ws) (or (prog ns) (branchesOf l))
     go [] z f =
         let a : take k ws ≡ ws = take-all k ws (omega (arith, length-drop k ws, ap length z)) in
         subst₂ (λ (x : List ℕ) (b : Branches). Branched (w ∷ x) (or (prog ns) b)) a (sym (stop-computes .says))
-        (subst (λ (x : ℕ). Branched (x ∷ ns) (or (prog ns) stop)) v (last (of-mark w (length ns) m) (flats-listed ns (o .inside))))
+        (subst (λ (x : ℕ). Branched (x ∷ ns) (or (prog ns) stop)) v (last few (flats-listed ns (o .inside))))
     go (x ∷ l) z f =
         let a : ns ++ (x ∷ l) ≡ ws = ap (λ (y : List ℕ). ns ++ y) (sym z) ∙ take-append-drop k ws in
         subst (λ (y : List ℕ). Branched (w ∷ y) (or (prog ns) (branchesOf (x ∷ l)))) a
-        (subst (λ (y : ℕ). Branched (y ∷ (ns ++ (x ∷ l))) (or (prog ns) (branchesOf (x ∷ l)))) v (more (of-mark w (length ns) m) (flats-listed ns (o .inside)) (f (omega arith))))
+        (subst (λ (y : ℕ). Branched (y ∷ (ns ++ (x ∷ l))) (or (prog ns) (branchesOf (x ∷ l)))) v (more few (flats-listed ns (o .inside)) (f (omega arith))))
 
 branched-listed : (n : ℕ) (ws : List ℕ) → length ws ≤ n → SoundBranches ws → 1 ≤ length ws → Branched ws (branchesOf ws)
 branched-listed zero [] l h j = absurd (omega arith)
@@ -140,8 +144,8 @@ unfolding isFlat OfItem
 node-listed w ws (one t) p h e q = flat (flat-of w (one t) h e refl) q
 node-listed w ws (jump n) p h e q = flat (flat-of w (jump n) h e refl) q
 node-listed w ws (range a b) p h e q =
-    subst (λ (x : ℕ). Nodes (x ∷ ws) (range a b ▹ p)) (range-word w a b h e) (kind-4 (ordered w a b h e) (of-item w (range a b) e) q)
-node-listed w ws (alt bs) p h e q = absurd (of-item w (alt bs) e)
+    subst (λ (x : ℕ). Nodes (x ∷ ws) (range a b ▹ p)) (range-word w a b h e) (let b = of-item w (range a b) h e in kind-4 (b .0) (b .1) q)
+node-listed w ws (alt bs) p h e q = absurd (of-item w (alt bs) h e)
 
 -- alternatives
 alternation-listed : (w : ℕ) (ws : List ℕ) (k : ℕ) → shape w ≡ opens k → Sound (w ∷ ws) → Nodes (drop k ws) (prog (drop k ws)) → Nodes (w ∷ ws) (prog (w ∷ ws))
@@ -149,13 +153,12 @@ alternation-listed w ws k e h r =
     let o = sound-opens w ws e h in
     let bs = take k ws in
     let m : shape w ≡ opens (length bs) = e ∙ ap opens (sym (length-take-le k ws (o .fits))) in
-    let l = of-opens w (length bs) m in
-    let j : 1 ≤ k = opens-some w k e (sound-proper w ws h) in
-    let u : Branched bs (branchesOf bs) = branched-listed (length bs) bs (le-refl _) (o .inside) (omega (arith, length-take-le k ws (o .fits))) in
+    let l = of-opens w (length bs) (sound-proper w ws h) m in
+    let u : Branched bs (branchesOf bs) = branched-listed (length bs) bs (le-refl _) (o .inside) (l .0) in
     subst (Nodes (w ∷ ws)) (sym (prog-opens w ws k e))
     (subst (λ (x : List ℕ). Nodes (w ∷ x) (alt (branchesOf bs) ▹ prog (drop k ws))) (take-append-drop k ws)
     (subst (λ (x : ℕ). Nodes (x ∷ (bs ++ drop k ws)) (alt (branchesOf bs) ▹ prog (drop k ws))) (opens-word w (length bs) (sound-proper w ws h) m)
-    (kind-6 {a = length bs % fieldSize} {b = length bs / fieldSize} (omega arith) (omega arith) (omega arith) u r)))
+    (kind-6 (l .1) u r)))
 
 word-listed : (w : ℕ) (ws : List ℕ) → Sound (w ∷ ws) → (Sound ws → Nodes ws (prog ws)) → ((k : ℕ) → Sound (drop k ws) → Nodes (drop k ws) (prog (drop k ws))) → Nodes (w ∷ ws) (prog (w ∷ ws))
 word-listed w ws h a b = go (shape w) refl

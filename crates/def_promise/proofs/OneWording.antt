@@ -3,13 +3,12 @@
 use mathlib.Core.Path.{_≡_, refl, sym, ap, ap₂, _∙_, subst}
 use mathlib.Core.Bool.{true}
 use mathlib.Core.List.{List, [], _∷_, _++_, append-nil}
-use Prim.Native.Nat.{ℕ, _/_, _%_, _<_}
-use native.Mathlib.Omega.{arith}
+use Prim.Native.Nat.{ℕ}
 use lib.ListN.{length}
 use Rattle.def_meaning.specs.Tokens.{Tokens}
 use Rattle.def_meaning.specs.Values.{Spelled}
 use Rattle.def_meaning.specs.Programs.{Item, Prog, Branches, mirror}
-use Rattle.def_meaning.specs.Words.{fieldSize, countBy, prog, sound, mirrorWords}
+use Rattle.def_meaning.specs.Words.{prog, sound, mirrorWords}
 use Rattle.def_meaning.proofs.WordSpans.{sound-words, mirrored-sound}
 use Rattle.def_meaning.proofs.MirrorWords.{mirror-says}
 use Rattle.def_compiling.specs.ProgramWords.{wordFor, opening, wordsFor, wordsOf, wordsIn}
@@ -38,21 +37,12 @@ unfolding wordsIn
 branched-words (last {ns = ns} l q) = ap (λ (x : List ℕ). word 7 (length x) 0 ∷ (x ++ [])) (flat-words q) ∙ ap (λ (x : List ℕ). word 7 (length ns) 0 ∷ x) (append-nil ns)
 branched-words (more {ns = ns} {bs = bs} l q r) = ap₂ (λ (x y : List ℕ). word 7 (length x) 0 ∷ (x ++ y)) (flat-words q) (branched-words r)
 
-opening-word : (a b n : ℕ) → a < fieldSize → n ≡ countBy a b → opening n ≡ word 6 a b
-unfolding opening
-opening-word a b n h e =
-    let x : n % fieldSize ≡ a = omega arith in
-    let y : n / fieldSize ≡ b = omega arith in
-    ap₂ (λ (i j : ℕ). word 6 i j) x y
-
 node-words : {ws : List ℕ} {p : Prog} → Nodes ws p → wordsOf p ≡ ws
-unfolding wordsOf wordsFor
+unfolding wordsOf wordsFor opening
 node-words nothing = refl
 node-words (flat f q) = ap₂ (λ (x y : List ℕ). x ++ y) (flat-word f) (node-words q)
 node-words (kind-4 {a = a} {b = b} h g q) = ap (λ (x : List ℕ). word 4 a b ∷ x) (node-words q)
-node-words (kind-6 {a = a} {b = b} {bs = bs} {ws = ws} h g e u q) =
-    ap₂ (λ (x y : List ℕ). opening (length x) ∷ (x ++ y)) (branched-words u) (node-words q)
-    ∙ ap (λ (x : ℕ). x ∷ (bs ++ ws)) (opening-word a b (length bs) h e)
+node-words (kind-6 h u q) = ap₂ (λ (x y : List ℕ). word 6 (length x) 0 ∷ (x ++ y)) (branched-words u) (node-words q)
 
 pub one-wording : {ws vs : List ℕ} {p : Prog} → Nodes ws p → Nodes vs p → ws ≡ vs
 one-wording a b = sym (node-words a) ∙ node-words b

@@ -6,7 +6,7 @@ use Rattle.def_meaning.specs.Limits.{jumpLimit, branchLimit, nodeLimit}
 use Rattle.def_meaning.specs.Tokens.{Token, Tokens, Lists, Jump, Alternatives, _then_, _or_}
 use Rattle.def_meaning.specs.Programs.{Item, Prog, Branches, one, jump, range, alt, end, _▹_, stop, or as branch}
 
--- 12: a jump unbounded or above 255
+-- 12: a jump unbounded or above 65,535
 pub data Far : Token → Type 0 where
   unbounded : {from : ℕ} → Far (Jump from none)
   above : {from to : ℕ} → jumpLimit < to → Far (Jump from (some to))

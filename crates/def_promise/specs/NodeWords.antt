@@ -1,22 +1,21 @@
--- Sound words as 01 lists them, kind by kind, and the program that they say. Assumes nothing: these are definitions.
+-- Sound words as 01 and 02 list them, kind by kind, and the program that they say. Assumes nothing: these are definitions.
 -- To be believed: all.
-use mathlib.Core.Path.{_≡_}
 use mathlib.Core.List.{List, [], _∷_, _++_}
-use Prim.Native.Nat.{ℕ, _+_, _*_, _≤_, _<_}
+use Prim.Native.Nat.{ℕ, _+_, _*_, _^_, _≤_, _<_}
 use lib.ListN.{length}
 use Rattle.def_meaning.specs.Limits.{nodeLimit}
 use Rattle.def_meaning.specs.Programs.{byte, mask, negatedMask, dot, Item, Prog, Branches, one, jump, range, alt, end, _▹_, stop, or}
 
--- 01's word
+-- 02's word
 abbrev pub word : ℕ → ℕ → ℕ → ℕ
-word kind first second = kind + 256 * first + 65536 * second
+word kind first second = kind + 2 ^ 8 * first + 2 ^ 24 * second
 
 -- the kinds that a branch may hold, each with its fields; those not named are 0
 pub data Flat : ℕ → Item → Type 0 where
   kind-0 : {v : ℕ} → v < 256 → Flat (word 0 v 0) (one (byte v))
   kind-1 : {v m : ℕ} → v < 256 → m < 256 → Flat (word 1 v m) (one (mask v m))
   kind-2 : {v m : ℕ} → v < 256 → m < 256 → Flat (word 2 v m) (one (negatedMask v m))
-  kind-3 : {n : ℕ} → n < 256 → Flat (word 3 n 0) (jump n)
+  kind-3 : {n : ℕ} → n < 65536 → Flat (word 3 n 0) (jump n)
   kind-5 : Flat (word 5 0 0) (one dot)
 
 -- what a branch holds
@@ -33,8 +32,8 @@ pub data Branched : List ℕ → Branches → Type 0 where
 pub data Nodes : List ℕ → Prog → Type 0 where
   nothing : Nodes [] end
   flat : {w : ℕ} {ws : List ℕ} {i : Item} {p : Prog} → Flat w i → Nodes ws p → Nodes (w ∷ ws) (i ▹ p)
-  kind-4 : {a b : ℕ} {ws : List ℕ} {p : Prog} → a ≤ b → b < 256 → Nodes ws p → Nodes (word 4 a b ∷ ws) (range a b ▹ p)
-  kind-6 : {a b : ℕ} {bs ws : List ℕ} {br : Branches} {p : Prog} → a < 256 → b < 256 → length bs ≡ a + 256 * b → Branched bs br → Nodes ws p → Nodes (word 6 a b ∷ (bs ++ ws)) (alt br ▹ p)
+  kind-4 : {a b : ℕ} {ws : List ℕ} {p : Prog} → a ≤ b → b < 65536 → Nodes ws p → Nodes (word 4 a b ∷ ws) (range a b ▹ p)
+  kind-6 : {bs ws : List ℕ} {b : Branches} {p : Prog} → length bs < 65536 → Branched bs b → Nodes ws p → Nodes (word 6 (length bs) 0 ∷ (bs ++ ws)) (alt b ▹ p)
 
 -- sound: at most 512 words, which say a program
 pub record SoundWords (ws : List ℕ) : Type 0 where

@@ -18,7 +18,6 @@ ghost use Rattle.emit.specs.Lists.{listProgram, branchesAt, FlatLists, a
 use base::BRANCH_LIMIT;
 use base::JUMP_LIMIT;
 use nodes::ByteTest;
-use nodes::Count;
 use nodes::Field;
 use nodes::Node;
 use nodes::NodeWord;
@@ -48,7 +47,7 @@ pub struct Tail {
 fn mask_addend(a: u32, b: u32) -> Addend
     ensures { λ r. ⌜ r ≡ addendOf (maskItem a b) ⌝ }
 {
-    let v = (a % 16) as u8;
+    let v = (a % 16) as Field;
     if b == 0 {
         return Addend::Word(node_word(Node::One(ByteTest::Mask(v, 0x0F))));
     }
@@ -61,7 +60,7 @@ fn mask_addend(a: u32, b: u32) -> Addend
 fn not_mask_addend(a: u32, b: u32) -> Addend
     ensures { λ r. ⌜ r ≡ addendOf (notMaskItem a b) ⌝ }
 {
-    let v = (a % 16) as u8;
+    let v = (a % 16) as Field;
     if b == 0 {
         return Addend::Word(node_word(Node::One(ByteTest::NegatedMask(v, 0x0F))));
     }
@@ -81,10 +80,10 @@ fn jump_addend(a: Field, b: Field) -> Addend
 }
 
 // The byte of an entry. Bytes that a text can spell are below 256: the remainder spares a requirement, and so do the fields of jumps below.
-fn byte_in(value: u32) -> u8
+fn byte_in(value: u32) -> Field
     ensures { λ r. ⌜ r ≡ byteIn value ⌝ }
 {
-    (value % 256) as u8
+    (value % 256) as Field
 }
 
 // What a token of one entry adds, by its kind and its first two values.
@@ -240,7 +239,7 @@ fn add_alternation(tokens: &[u32], at: usize, backwards: bool, out: &mut [NodeWo
     let to = from + 4 * (tokens[at + 2] as usize);
     let b = add_lists(&tokens[from..to], lists, backwards, &mut out[1..]);
     let count = b.count;
-    out[0] = node_word(Node::Alternation(count as Count));
+    out[0] = node_word(Node::Alternation(count as Field));
     Branched {
         count: count + 1,
         long: b.long,

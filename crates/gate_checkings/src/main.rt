@@ -4,6 +4,7 @@ use digits::Numeral;
 use gatekit::Style;
 use libc::STDOUT_FILENO;
 use mirror::MirrorAnswer;
+use nodes::NodeWord;
 ghost use Prim.Native.Nat.{_≤_};
 ghost use lib.ListN.{length};
 
@@ -12,12 +13,12 @@ fn size(n: u32) -> usize {
 }
 
 // What is left of the mirror's pool, and the used words.
-fn left(pool: &[u32], used: usize) {
+fn left(pool: &[NodeWord], used: usize) {
     gatekit::left(pool, used, 512);
     gatekit::words(pool, used, Style::Hex);
 }
 
-fn mirrored(program: &[u32], pool: &mut [u32]) {
+fn mirrored(program: &[NodeWord], pool: &mut [NodeWord]) {
     let r = mirror::mirror(program, pool);
     match r {
         MirrorAnswer::Mirrored(n) => {
@@ -32,7 +33,7 @@ fn mirrored(program: &[u32], pool: &mut [u32]) {
 }
 
 // Into a pool that has room, and into one that is a word too short.
-fn mirrors(program: &[u32]) {
+fn mirrors(program: &[NodeWord]) {
     let mut pool = [gatekit::OLD; 516];
     io::write_all(STDOUT_FILENO, b"\nmirror");
     mirrored(program, &mut pool);
@@ -41,7 +42,7 @@ fn mirrors(program: &[u32]) {
     mirrored(program, &mut short);
 }
 
-fn checks(program: &[u32], hay: &[u8], start: usize, end: usize) {
+fn checks(program: &[NodeWord], hay: &[u8], start: usize, end: usize) {
     io::write_all(STDOUT_FILENO, b"\nforward");
     gatekit::found(checkdoors::forward(program, hay, start, end));
     io::write_all(STDOUT_FILENO, b"\nleft");
@@ -50,7 +51,7 @@ fn checks(program: &[u32], hay: &[u8], start: usize, end: usize) {
     gatekit::found(checkdoors::reverse(program, hay, start, end));
 }
 
-fn answers(program: &[u32], hay: &[u8], start: usize, end: usize) {
+fn answers(program: &[NodeWord], hay: &[u8], start: usize, end: usize) {
     if sound::is_sound(program) {
         io::write_all(STDOUT_FILENO, b"sound");
     } else {
@@ -62,14 +63,14 @@ fn answers(program: &[u32], hay: &[u8], start: usize, end: usize) {
 }
 
 // What a word becomes by one more hex digit.
-fn longer(w: u32, v: u8) -> u32
+fn longer(w: NodeWord, v: u8) -> NodeWord
     requires { ⌜ v ≤ 15 ⌝ }
 {
-    16 * (w % 268435456) + v as u32
+    16 * (w % 1152921504606846976) + v as NodeWord
 }
 
 // The word that is spelt in hex.
-fn word(hex: &[u8]) -> u32 {
+fn word(hex: &[u8]) -> NodeWord {
     let mut w = 0;
     let mut i = 0;
     while i < hex.len() {
@@ -80,7 +81,7 @@ fn word(hex: &[u8]) -> u32 {
 }
 
 // The words that are spelt in hex, a blank before each, as far as there is room; how many they are.
-fn unhex_words(text: &[u8], pool: &mut [u32]) -> usize {
+fn unhex_words(text: &[u8], pool: &mut [NodeWord]) -> usize {
     let mut at = 0;
     let mut n = 0;
     while n < pool.len() {
@@ -97,7 +98,7 @@ fn unhex_words(text: &[u8], pool: &mut [u32]) -> usize {
 
 // The words of a program, on a haystack.
 fn program(text: &[u8], hay: &[u8], start: usize, end: usize) {
-    let mut pool = [0u32; 600];
+    let mut pool: [NodeWord; 600] = [0; 600];
     let count = gatekit::least(unhex_words(text, &mut pool), 600);
     answers(&pool[0..count], hay, start, end);
 }

@@ -3,18 +3,19 @@ use compiledoor::CompileAnswer;
 use gatekit::Style;
 use libc::STDIN_FILENO;
 use libc::STDOUT_FILENO;
+use nodes::NodeWord;
 ghost use Prim.Native.Nat.{_≤_};
 ghost use lib.ListN.{length};
 
 // A pool: how many words are used, what is left of it, and no more than sixteen of the used words.
-fn left(name: &[u8], pool: &[u32], used: usize) {
+fn left(name: &[u8], pool: &[NodeWord], used: usize) {
     gatekit::tell(name, used as u64);
     gatekit::left(pool, used, 512);
     gatekit::words(pool, gatekit::least(used, 16), Style::Decimal);
     io::write_all(STDOUT_FILENO, b"\n");
 }
 
-fn one(text: &[u8], forward: &mut [u32], reverse: &mut [u32]) {
+fn one(text: &[u8], forward: &mut [NodeWord], reverse: &mut [NodeWord]) {
     let r = compiledoor::compile(text, forward, reverse);
     match r {
         CompileAnswer::Compiled {

@@ -6,7 +6,7 @@ use libc::STDOUT_FILENO;
 use readdoor::ReadAnswer;
 
 fn left(pool: &[u32], used: usize) {
-    gatekit::left(pool, used, 4096);
+    gatekit::tokens_left(pool, used, 4096);
     io::write_all(STDOUT_FILENO, b"\n");
 }
 
@@ -18,7 +18,7 @@ fn one(text: &[u8], pool: &mut [u32]) {
             gatekit::tell(b" words ", words as u64);
             left(pool, words);
             if words <= 64 {
-                gatekit::words(pool, words, Style::Entries);
+                gatekit::tokens(pool, words, Style::Entries);
             }
         }
         ReadAnswer::Refused(code, place) => {
@@ -30,13 +30,13 @@ fn one(text: &[u8], pool: &mut [u32]) {
 
 // The four words beyond the 4,096 that a call may write must stay.
 fn roomy(text: &[u8]) {
-    let mut pool = [gatekit::OLD; 4100];
+    let mut pool = [gatekit::OLD_TOKEN; 4100];
     one(text, &mut pool);
 }
 
 // A word less than a call wants.
 fn short(text: &[u8]) {
-    let mut pool = [gatekit::OLD; 4095];
+    let mut pool = [gatekit::OLD_TOKEN; 4095];
     one(text, &mut pool);
 }
 

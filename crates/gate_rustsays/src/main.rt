@@ -5,12 +5,13 @@ use compiledoor::CompileAnswer;
 use gatekit::Style;
 use libc::STDOUT_FILENO;
 use literaldoor::LiteralsAnswer;
+use nodes::NodeWord;
 use readdoor::ReadAnswer;
 ghost use Prim.Native.Nat.{_≤_};
 ghost use lib.ListN.{length};
 
 // A name, and the first n words of a pool.
-fn words(name: &[u8], pool: &[u32], n: usize) {
+fn words(name: &[u8], pool: &[NodeWord], n: usize) {
     io::write_all(STDOUT_FILENO, name);
     gatekit::words(pool, n, Style::Decimal);
     io::write_all(STDOUT_FILENO, b"\n");
@@ -22,7 +23,7 @@ fn refused(why: Refusal, place: usize) {
 }
 
 // The forward check from every start to the haystack's end.
-fn ends(program: &[u32], hay: &[u8]) {
+fn ends(program: &[NodeWord], hay: &[u8]) {
     io::write_all(STDOUT_FILENO, b"ends");
     let mut start = 0;
     while start <= hay.len() {
@@ -33,7 +34,7 @@ fn ends(program: &[u32], hay: &[u8]) {
 }
 
 // The reverse check from the haystack's start to every end.
-fn starts(program: &[u32], hay: &[u8]) {
+fn starts(program: &[NodeWord], hay: &[u8]) {
     io::write_all(STDOUT_FILENO, b"starts");
     let mut end = 0;
     while end <= hay.len() {
@@ -44,8 +45,8 @@ fn starts(program: &[u32], hay: &[u8]) {
 }
 
 fn programs(text: &[u8], hay: &[u8]) {
-    let mut forward = [0u32; 512];
-    let mut reverse = [0u32; 512];
+    let mut forward: [NodeWord; 512] = [0; 512];
+    let mut reverse: [NodeWord; 512] = [0; 512];
     let r = compiledoor::compile(text, &mut forward, &mut reverse);
     match r {
         CompileAnswer::Compiled {
@@ -112,7 +113,9 @@ fn answers(text: &[u8], hay: &[u8]) {
     match r {
         ReadAnswer::Read { end, words: used } => {
             gatekit::tell(b"reached ", end as u64);
-            words(b"\ntokens", &tokens, used);
+            io::write_all(STDOUT_FILENO, b"\ntokens");
+            gatekit::tokens(&tokens, used, Style::Decimal);
+            io::write_all(STDOUT_FILENO, b"\n");
             programs(text, hay);
             picked(text);
         }

@@ -4,22 +4,24 @@ use base::Refusal;
 use checkdoors::Answer;
 use digits::Nibble;
 use libc::STDOUT_FILENO;
+use nodes::NodeWord;
 ghost use Prim.Native.Nat.{_≤_};
 ghost use lib.ListN.{length};
 ghost use Rattle.io.specs.Counts.{Counts};
 
 // The words of a pool hold this before a call, so that what stays shows.
-pub const OLD: u32 = 7;
+pub const OLD: NodeWord = 7;
+
+// The same in a pool for tokens, and how many words such a pool has at most.
+pub const OLD_TOKEN: u32 = 7;
+
+pub const TOKENS: usize = 4100;
 
 // How words are laid out: with a blank before each, or a token's entry to a line.
 pub enum Style {
     Decimal,
     Hex,
     Entries,
-}
-
-fn wide(w: u32) -> u64 {
-    w as u64
 }
 
 // The smaller of two.
@@ -62,19 +64,19 @@ fn entry_word(w: u64, i: usize) {
 }
 
 // Word number i.
-fn word(w: u32, i: usize, style: Style) {
+fn word(w: NodeWord, i: usize, style: Style) {
     match style {
-        Style::Decimal => tell(b" ", wide(w)),
+        Style::Decimal => tell(b" ", w),
         Style::Hex => {
             io::write_all(STDOUT_FILENO, b" ");
-            io::print_hex(STDOUT_FILENO, wide(w), 1);
+            io::print_hex(STDOUT_FILENO, w, 1);
         }
-        Style::Entries => entry_word(wide(w), i),
+        Style::Entries => entry_word(w, i),
     }
 }
 
 // The first n words of a pool.
-pub fn words(pool: &[u32], n: usize, style: Style) {
+pub fn words(pool: &[NodeWord], n: usize, style: Style) {
     let mut i = 0;
     while i < n {
         if i < pool.len() {
@@ -84,14 +86,14 @@ pub fn words(pool: &[u32], n: usize, style: Style) {
     }
 }
 
-fn one_if(v: u32, w: u32) -> usize
+fn one_if(v: NodeWord, w: NodeWord) -> usize
     ensures { λ r. ⌜ r ≤ 1 ⌝ }
 {
     if v == w { 1 } else { 0 }
 }
 
 // How many words from `from` up to `to` hold `v`.
-fn holding(pool: &[u32], from: usize, to: usize, v: u32) -> usize {
+fn holding(pool: &[NodeWord], from: usize, to: usize, v: NodeWord) -> usize {
     let mut found = 0;
     let mut i = from;
     while i < to {
@@ -105,9 +107,34 @@ fn holding(pool: &[u32], from: usize, to: usize, v: u32) -> usize {
 }
 
 // What a call left in a pool of which it may write `size` words: how many of them are 0 after the used ones, and how many beyond are as before.
-pub fn left(pool: &[u32], used: usize, size: usize) {
+pub fn left(pool: &[NodeWord], used: usize, size: usize) {
     tell(b" zeros ", holding(pool, used, size, 0) as u64);
     tell(b" old ", holding(pool, size, pool.len(), OLD) as u64);
+}
+
+// Tokens, which have narrower words: widened, they are told as the words of a program are.
+fn widen(tokens: &[u32], out: &mut [NodeWord]) {
+    let mut i = 0;
+    while i < tokens.len() {
+        if out.len() <= i {
+            return;
+        }
+        out[i] = tokens[i] as NodeWord;
+        i += 1;
+    }
+}
+
+pub fn tokens(pool: &[u32], n: usize, style: Style) {
+    let mut wide: [NodeWord; TOKENS] = [0; TOKENS];
+    widen(pool, &mut wide);
+    words(&wide, n, style);
+}
+
+pub fn tokens_left(pool: &[u32], used: usize, size: usize) {
+    let mut wide: [NodeWord; TOKENS] = [0; TOKENS];
+    widen(pool, &mut wide);
+    let n = least(pool.len(), TOKENS);
+    left(&wide[..n], used, size);
 }
 
 fn digit(v: u8) -> u8

@@ -9,11 +9,12 @@ use lib.Dec.{eqb, leb}
 use borrow.Author.Tests.{leb-true, leb-false}
 use lib.ListN.{length, take, drop, getD, length-append, length-drop, drop-of-length-le}
 use lib.Seq.{drop-cons, take-all, drop-drop}
-use Rattle.def_meaning.specs.Words.{fieldSize, countBy, kindOf, firstOf, secondOf, Shape, shapeBy, shape}
+use Rattle.def_meaning.specs.Words.{fieldSize, kindOf, firstOf, secondOf, Shape, shapeBy, shape}
 use Rattle.nodes.specs.declared.Node.{Node}
 use Rattle.nodes.specs.Nodes.{shapeOf}
 use Rattle.base.specs.Text.{ascii}
 use Rattle.printing.specs.Numbers.{hexOf, decimalOf}
+use Rattle.lines.specs.Listed.{lineLimit}
 use Rattle.lines.specs.Lines.{blank, lineEnd, numberLine, numbersLine, byteLine, maskLine, shapeLine, nodeLine, literalLine, literalLines, cut}
 use Rattle.printing.proofs.NumberLaws.{decimal-length, length-hexes}
 
@@ -39,23 +40,23 @@ pick : (P : Shape → Type 0) (b : Bool) (x y : Shape) → P x → P y → P (co
 pick P true x y p q = p
 pick P false x y p q = q
 
--- a line of a node has at most 14 bytes: `range 255 255` and its end
-shape-length : (k a b : ℕ) → a < fieldSize → b < fieldSize → length (shapeLine (shapeBy k a b)) ≤ 14
+-- a line of a node is within the limit
+shape-length : (k a b : ℕ) → a < fieldSize → b < fieldSize → length (shapeLine (shapeBy k a b)) ≤ lineLimit
 unfolding shapeBy byteLine maskLine hexOf
 shape-length k a b ha hb =
     pick P (eqb k 0) _ _ (omega arith)
     (pick P (eqb k 1) _ _ (omega arith)
     (pick P (eqb k 2) _ _ (omega arith)
-    (pick P (eqb k 3) _ _ (let l : length (numberLine (ascii "jump ") a) ≤ 5 + 3 + 1 = length-number (ascii "jump ") 2 a (omega arith) in omega arith)
-    (pick P (eqb k 4) _ _ (let l : length (numbersLine (ascii "range ") a blank b) ≤ 6 + 3 + 1 + 3 + 1 = length-numbers (ascii "range ") blank 2 2 a b (omega arith) (omega arith) in omega arith)
+    (pick P (eqb k 3) _ _ (let l : length (numberLine (ascii "jump ") a) ≤ 5 + 5 + 1 = length-number (ascii "jump ") 4 a (omega arith) in omega arith)
+    (pick P (eqb k 4) _ _ (let l : length (numbersLine (ascii "range ") a blank b) ≤ 6 + 5 + 1 + 5 + 1 = length-numbers (ascii "range ") blank 4 4 a b (omega arith) (omega arith) in omega arith)
     (pick P (eqb k 5) _ _ (omega arith)
-    (pick P (eqb k 6) _ _ (let l : length (numberLine (ascii "alt ") (countBy a b)) ≤ 4 + 5 + 1 = length-number (ascii "alt ") 4 (countBy a b) (omega arith) in omega arith)
-    (pick P (eqb k 7) _ _ (let l : length (numberLine (ascii "branch ") a) ≤ 7 + 3 + 1 = length-number (ascii "branch ") 2 a (omega arith) in omega arith) (omega arith))))))))
+    (pick P (eqb k 6) _ _ (let l : length (numberLine (ascii "alt ") a) ≤ 4 + 5 + 1 = length-number (ascii "alt ") 4 a (omega arith) in omega arith)
+    (pick P (eqb k 7) _ _ (let l : length (numberLine (ascii "branch ") a) ≤ 7 + 5 + 1 = length-number (ascii "branch ") 4 a (omega arith) in omega arith) (omega arith))))))))
   where
     P : Shape → Type 0
-    P s = length (shapeLine s) ≤ 14
+    P s = length (shapeLine s) ≤ lineLimit
 
-pub length-node : (w : ℕ) → length (nodeLine w) ≤ 14
+pub length-node : (w : ℕ) → length (nodeLine w) ≤ lineLimit
 unfolding nodeLine shape
 length-node w = shape-length (kindOf w) (firstOf w) (secondOf w) (omega arith) (omega arith)
 

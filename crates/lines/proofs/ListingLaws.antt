@@ -10,7 +10,7 @@ use lib.ListN.{length, take, drop, length-append}
 use lib.Seq.{take-append-seam, drop-append-seam}
 use Rattle.lines.specs.declared.Listed.{Listed}
 use Rattle.lines.specs.declared.Listed.the-variants.{Wrote, NoRoom}
-use Rattle.lines.specs.Listed.{listedOf}
+use Rattle.lines.specs.Listed.{lineLimit, listedOf}
 use Rattle.base.specs.Text.{ascii}
 use Rattle.lines.specs.Lines.{numberLine, nodeLine, numbersLine, programLines, literalLine, literalLines, literalsLines, cut, LiteralsGot, got, notGot, gotLines, literalsRefusedLine, refusedLine, programsLines, compiled, refused, listing}
 use Rattle.lines.proofs.LineLaws.{length-number, length-numbers, length-node, length-literal}
@@ -26,19 +26,19 @@ cut-flatten (l ∷ ls) rest =
     ∙ ap (λ (x : List ℕ). l ∷ cut (map length ls) x) (drop-append-seam l (flatten ls ++ rest))
     ∙ ap (λ (x : List (List ℕ)). l ∷ x) (cut-flatten ls rest)
 
-length-nodes : (ws : List ℕ) → length (flatMap nodeLine ws) ≤ 14 * length ws
+length-nodes : (ws : List ℕ) → length (flatMap nodeLine ws) ≤ lineLimit * length ws
 unfolding flatMap
 length-nodes [] = omega arith
 length-nodes (w ∷ ws) =
     let a : length (nodeLine w) ≤ 14 = length-node w in
-    let b : length (flatMap nodeLine ws) ≤ 14 * length ws = length-nodes ws in
+    let b : length (flatMap nodeLine ws) ≤ lineLimit * length ws = length-nodes ws in
     rw (length-append (nodeLine w) (flatMap nodeLine ws)) (omega arith)
 
-pub length-program : (name ws : List ℕ) (k : ℕ) → length ws < 10 ^ suc k → length (programLines name ws) ≤ length name + suc k + 1 + 14 * length ws
+pub length-program : (name ws : List ℕ) (k : ℕ) → length ws < 10 ^ suc k → length (programLines name ws) ≤ length name + suc k + 1 + lineLimit * length ws
 unfolding programLines
 length-program name ws k h =
     let a : length (numberLine name (length ws)) ≤ length name + suc k + 1 = length-number name k (length ws) h in
-    let b : length (flatMap nodeLine ws) ≤ 14 * length ws = length-nodes ws in
+    let b : length (flatMap nodeLine ws) ≤ lineLimit * length ws = length-nodes ws in
     rw (length-append (numberLine name (length ws)) (flatMap nodeLine ws)) (omega arith)
 
 length-lines : (ls : List (List ℕ)) → length (literalLines ls) ≡ 2 * length (flatten ls) + length ls
@@ -61,22 +61,22 @@ length-got (notGot n) h =
     let l : length (numberLine (ascii "literals refused ") n) ≤ 17 + 10 + 1 = length-number (ascii "literals refused ") 9 n h in
     omega arith
 
-pub programs-fit : (f r : List ℕ) → length f ≤ 512 → length r ≤ 512 → length (programsLines f r) ≤ 14360
+pub programs-fit : (f r : List ℕ) → length f ≤ 512 → length r ≤ 512 → length (programsLines f r) ≤ 18456
 unfolding programsLines
 programs-fit f r a b =
-    let x : length (programLines (ascii "forward ") f) ≤ 8 + 3 + 1 + 14 * length f = length-program (ascii "forward ") f 2 (omega arith) in
-    let y : length (programLines (ascii "reverse ") r) ≤ 8 + 3 + 1 + 14 * length r = length-program (ascii "reverse ") r 2 (omega arith) in
+    let x : length (programLines (ascii "forward ") f) ≤ 8 + 3 + 1 + lineLimit * length f = length-program (ascii "forward ") f 2 (omega arith) in
+    let y : length (programLines (ascii "reverse ") r) ≤ 8 + 3 + 1 + lineLimit * length r = length-program (ascii "reverse ") r 2 (omega arith) in
     rw (length-append (programLines (ascii "forward ") f) (programLines (ascii "reverse ") r)) (omega arith)
 
--- so 81,920 bytes have room for every listing
-pub listing-fits : (f r : List ℕ) (p : LiteralsGot) → length f ≤ 512 → length r ≤ 512 → Small p → length (listing (compiled f r p)) ≤ 81920
+-- so 86,016 bytes have room for every listing
+pub listing-fits : (f r : List ℕ) (p : LiteralsGot) → length f ≤ 512 → length r ≤ 512 → Small p → length (listing (compiled f r p)) ≤ 86016
 unfolding listing
 listing-fits f r p a b s =
-    let x : length (programsLines f r) ≤ 14360 = programs-fit f r a b in
+    let x : length (programsLines f r) ≤ 18456 = programs-fit f r a b in
     let z : length (gotLines p) ≤ 29 + 256 + 65536 = length-got p s in
     rw (length-append (programsLines f r) (gotLines p)) (omega arith)
 
-pub refused-fits : (n place : ℕ) → n < 10 ^ 10 → place < 10 ^ 20 → length (listing (refused n place)) ≤ 81920
+pub refused-fits : (n place : ℕ) → n < 10 ^ 10 → place < 10 ^ 20 → length (listing (refused n place)) ≤ 86016
 unfolding listing refusedLine
 refused-fits n place h k =
     let l : length (numbersLine (ascii "refused ") n (ascii " at ") place) ≤ 8 + 10 + 4 + 20 + 1 = length-numbers (ascii "refused ") (ascii " at ") 9 19 n place h k in

@@ -1,10 +1,10 @@
 -- The lines of a listing, as 01 has them. Assumes nothing: these are definitions.
 -- To be believed: `blank` `lineEnd` `numberLine` `numbersLine` `byteLine` `maskLine` `programLines` `literalLine` `literalLines` `literalsLines` `refusedLine` `literalsRefusedLine` `LiteralsGot` `gotLines` `Contents` `programsLines` `listing`.
 use mathlib.Core.List.{List, [], _∷_, _++_, flatMap}
-use Prim.Native.Nat.{ℕ}
+use Prim.Native.Nat.{ℕ, _%_}
 use lib.ListN.{length, take, drop}
 use Rattle.def_meaning.specs.Programs.{Item, one, jump, range, alt, Test, byte, mask, negatedMask, any, dot}
-use Rattle.def_meaning.specs.Words.{Shape, item, opens, mark, wrong, shape}
+use Rattle.def_meaning.specs.Words.{byteSize, Shape, item, opens, mark, wrong, shape}
 use Rattle.base.specs.Text.{ascii}
 use Rattle.printing.specs.Numbers.{hexOf, decimalOf}
 
@@ -27,11 +27,11 @@ byteLine name v = name ++ (hexOf v ++ lineEnd)
 unfoldable pub maskLine : List ℕ → ℕ → ℕ → List ℕ
 maskLine name v m = name ++ (hexOf v ++ byteLine blank m)
 
--- the line of a node; no word says `any` or whole alternatives, and a word that says nothing has no line
+-- the line of a node, the values and masks of which are bytes in a sound program; no word says `any` or whole alternatives, and a word that says nothing has no line
 abbrev pub testLine : Test → List ℕ
-testLine (byte v) = byteLine (ascii "byte ") v
-testLine (mask v m) = maskLine (ascii "mask ") v m
-testLine (negatedMask v m) = maskLine (ascii "not ") v m
+testLine (byte v) = byteLine (ascii "byte ") (v % byteSize)
+testLine (mask v m) = maskLine (ascii "mask ") (v % byteSize) (m % byteSize)
+testLine (negatedMask v m) = maskLine (ascii "not ") (v % byteSize) (m % byteSize)
 testLine any = []
 testLine dot = ascii "dot\n"
 

@@ -14,8 +14,8 @@ example : listing (compiled (word 0 0x61 0 ∷ word 4 0 2 ∷ word 0 0x63 0 ∷ 
 unfolding digit hexOf digitsIn decimalOf flatMap numberLine numbersLine byteLine maskLine nodeLine programLines literalLine literalLines literalsLines gotLines programsLines listing shape shapeBy
 example = refl
 
-other-words : flatMap nodeLine (word 1 0xA0 0xF0 ∷ word 2 0x0B 0x0F ∷ word 3 255 0 ∷ word 5 0 0 ∷ word 6 0xE8 3 ∷ word 7 10 0 ∷ [])
-    ≡ ascii "mask A0 F0\nnot 0B 0F\njump 255\ndot\nalt 1000\nbranch 10\n"
+other-words : flatMap nodeLine (word 1 0xA0 0xF0 ∷ word 2 0x0B 0x0F ∷ word 3 65535 0 ∷ word 4 256 65535 ∷ word 5 0 0 ∷ word 6 1000 0 ∷ word 7 10 0 ∷ [])
+    ≡ ascii "mask A0 F0\nnot 0B 0F\njump 65535\nrange 256 65535\ndot\nalt 1000\nbranch 10\n"
 unfolding digit hexOf digitsIn decimalOf flatMap numberLine numbersLine byteLine maskLine nodeLine shape shapeBy
 other-words = refl
 

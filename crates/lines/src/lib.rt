@@ -5,10 +5,11 @@ ghost use lib.ListN.{length};
 ghost use Rattle.printing.specs.Laid.{Put};
 ghost use Rattle.nodes.specs.Nodes.{testOf};
 ghost use Rattle.lines.specs.Lines.{numberLine, numbersLine, byteLine, maskLine, testLine, nodeLine, programLines, literalLine, literalLines, literalsLines, cut, refusedLine, literalsRefusedLine, programsLines};
-ghost use Rattle.lines.specs.Listed.{listedOf};
+ghost use Rattle.lines.specs.Listed.{lineLimit, listedOf};
 use nodes::ByteTest;
 use nodes::Node;
 use nodes::NodeWord;
+use nodes::byte_of;
 ghost use mathlib.Core.List.{flatMap};
 
 // A line that ends with a number.
@@ -58,14 +59,15 @@ fn put_mask_line(out: &mut [u8], at: usize, name: &[u8], v: u8, m: u8) -> usize
     put_byte_line(out, told, b" ", m)
 }
 
+// The line of a test. Values and masks of a sound program are bytes: the remainder spares a requirement.
 fn put_test(out: &mut [u8], at: usize, t: ByteTest) -> usize
     requires { ⌜ at + 16 < 2 ^ 64 ⌝ }
     ensures { λ r. ⌜ Put (now (out .entry)) at (testLine (testOf t)) r (now (out .exit)) ⌝ }
 {
     match t {
-        ByteTest::Byte(v) => put_byte_line(out, at, b"byte ", v),
-        ByteTest::Mask(v, m) => put_mask_line(out, at, b"mask ", v, m),
-        ByteTest::NegatedMask(v, m) => put_mask_line(out, at, b"not ", v, m),
+        ByteTest::Byte(v) => put_byte_line(out, at, b"byte ", byte_of(v)),
+        ByteTest::Mask(v, m) => put_mask_line(out, at, b"mask ", byte_of(v), byte_of(m)),
+        ByteTest::NegatedMask(v, m) => put_mask_line(out, at, b"not ", byte_of(v), byte_of(m)),
         ByteTest::Dot => printing::put_bytes(out, at, b"dot\n"),
     }
 }
@@ -87,7 +89,7 @@ fn put_node(out: &mut [u8], at: usize, w: NodeWord) -> usize
 }
 
 fn put_nodes(out: &mut [u8], at: usize, words: &[NodeWord]) -> usize
-    requires { ⌜ at + 64 + 14 * length (now words) < 2 ^ 64 ⌝ }
+    requires { ⌜ at + 64 + lineLimit * length (now words) < 2 ^ 64 ⌝ }
     ensures { λ r. ⌜ Put (now (out .entry)) at (flatMap nodeLine (now (words .entry))) r (now (out .exit)) ⌝ }
 {
     let mut k = at;
@@ -101,7 +103,7 @@ fn put_nodes(out: &mut [u8], at: usize, words: &[NodeWord]) -> usize
 
 // A program: its name with the count of its nodes, and their lines.
 fn put_program(out: &mut [u8], at: usize, name: &[u8], words: &[NodeWord]) -> usize
-    requires { ⌜ at + length (now name) + 85 + 14 * length (now words) < 2 ^ 64 ⌝ }
+    requires { ⌜ at + length (now name) + 85 + lineLimit * length (now words) < 2 ^ 64 ⌝ }
     ensures { λ r. ⌜ Put (now (out .entry)) at (programLines (now (name .entry)) (now (words .entry))) r (now (out .exit)) ⌝ }
 {
     let k = put_number_line(out, at, name, words.len());
@@ -166,7 +168,7 @@ pub fn put_literals_refused(out: &mut [u8], at: usize, number: usize) -> usize
 
 // Both programs, from the buffer's start.
 pub fn put_programs(out: &mut [u8], forward: &[NodeWord], reverse: &[NodeWord]) -> usize
-    requires { ⌜ 250 + 14 * length (now forward) + 14 * length (now reverse) < 2 ^ 64 ⌝ }
+    requires { ⌜ 250 + lineLimit * length (now forward) + lineLimit * length (now reverse) < 2 ^ 64 ⌝ }
     ensures { λ r. ⌜ Put (now (out .entry)) 0 (programsLines (now (forward .entry)) (now (reverse .entry))) r (now (out .exit)) ⌝ }
 {
     let k = put_program(out, 0, b"forward ", forward);

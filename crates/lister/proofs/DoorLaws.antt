@@ -188,9 +188,9 @@ made-sizes {o} {n} {m} {f} {r} d =
     (rw (length-take (n - 0) f) (omega arith), rw (length-take (m - 0) r) (omega arith))
 
 -- the lines of programs that small end early
-pub programs-end : {p q : List ℕ} (f r : List ℕ) {n : ℕ} → Put p 0 (programsLines f r) n q → length f ≤ nodePool → length r ≤ nodePool → n ≤ 14360
+pub programs-end : {p q : List ℕ} (f r : List ℕ) {n : ℕ} → Put p 0 (programsLines f r) n q → length f ≤ nodePool → length r ≤ nodePool → n ≤ 18456
 programs-end {p} {q} f r {n} w h k =
-    let l : length (programsLines f r) ≤ 14360 = programs-fit f r h k in
+    let l : length (programsLines f r) ≤ 18456 = programs-fit f r h k in
     let e : n ≡ 0 + length (programsLines f r) = w .next in
     omega arith
 

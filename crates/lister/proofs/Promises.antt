@@ -1,4 +1,4 @@
--- What listing promises: a single outcome, and that 81,920 bytes have room for the listing of every text. Assumes nothing.
+-- What listing promises: a single outcome, and that 86,016 bytes have room for the listing of every text. Assumes nothing.
 use mathlib.Core.Path.{_≡_, refl, sym, ap, _∙_}
 use mathlib.Core.Bool.{Bool, true, false, cond, _&&_}
 use mathlib.Core.List.{List, _++_, flatten}
@@ -112,7 +112,7 @@ Lists t p r q = (r ≡ listedOf (length (listingOf t)) (length p)) × (q ≡ lai
 pub list-single : (t p : List ℕ) (a b : Listed) (u v : List ℕ) → Lists t p a u → Lists t p b v → (a ≡ b) × (u ≡ v)
 list-single t p a b u v h k = (h .0 ∙ sym (k .0), h .1 ∙ sym (k .1))
 
--- and with 81,920 bytes lent, or more, the whole listing stands at their front
+-- and with 86,016 bytes lent, or more, the whole listing stands at their front
 pub list-whole : (t p : List ℕ) (r : Listed) (q : List ℕ) → listingLimit ≤ length p → Lists t p r q → (r ≡ Wrote (length (listingOf t))) × (q ≡ listingOf t ++ drop (length (listingOf t)) p)
 list-whole t p r q h (a, b) =
     let l : length (listingOf t) ≤ listingLimit = listing-room t in

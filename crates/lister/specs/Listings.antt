@@ -21,7 +21,7 @@ lentLengths = 256
 
 -- the most bytes that a listing has (proofs/Promises.antt, `listing-room`)
 abbrev pub listingLimit : ℕ
-listingLimit = 81920
+listingLimit = 86016
 
 -- the literals, if there is room for them
 unfoldable pub withRoom : Picked → LiteralsGot

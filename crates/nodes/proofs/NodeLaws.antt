@@ -3,13 +3,14 @@ use mathlib.Core.Path.{_≡_, refl, sym, ap, _∙_, subst}
 use mathlib.Core.Bool.{Bool, true, false, _&&_}
 use Prim.Native.Nat.{ℕ, _<_}
 use native.Mathlib.Omega.{arith}
-use lib.Dec.{eqb, ltb}
+use lib.Dec.{eqb, leb, ltb}
 use borrow.Author.Tests.{eqb-true, ltb-true}
+use Rattle.def_meaning.specs.Limits.{branchLimit}
 use Rattle.def_meaning.specs.Programs.{Test, byte, mask, negatedMask, any, dot, one, jump, range, alt}
-use Rattle.def_meaning.specs.Words.{fieldSize, word, kindOf, firstOf, secondOf, wordSize, Shape, item, opens, mark, wrong, shapeBy, shape, properBy, proper}
+use Rattle.def_meaning.specs.Words.{byteSize, fieldSize, word, kindOf, firstOf, secondOf, wordSize, Shape, item, opens, mark, wrong, shapeBy, shape, properBy, proper}
 use Rattle.def_meaning.proofs.SoundLaws.{and-left, and-right, false-true}
 use Rattle.def_meaning.proofs.FieldLaws.{word-made}
-use Rattle.def_meaning.proofs.MadeLaws.{made-shape, count-shape}
+use Rattle.def_meaning.proofs.MadeLaws.{made-shape}
 use Rattle.nodes.specs.declared.ByteTest.the-variants.{Byte, Mask, NegatedMask, Dot}
 use Rattle.nodes.specs.declared.Node.{Node}
 use Rattle.nodes.specs.declared.Node.the-variants.{One, Jump, JumpRange, Alternation, AltBranch, Bad}
@@ -56,17 +57,17 @@ node-in (Alternation n) = refl
 node-in (AltBranch n) = refl
 node-in Bad = refl
 
-made-again : (k a b : ℕ) → a < fieldSize → b < fieldSize → properBy k a b ≡ true → wordOf (nodeIn (shapeBy k a b)) ≡ word k a b
+made-again : (k a b : ℕ) → properBy k a b ≡ true → wordOf (nodeIn (shapeBy k a b)) ≡ word k a b
 unfolding nodeIn testIn shapeBy properBy
-made-again k a b ha hb = by-kind (λ (j : ℕ). properBy j a b ≡ true → wordOf (nodeIn (shapeBy j a b)) ≡ word j a b) k
-    (λ h. zero-field 0 h)
+made-again k a b = by-kind (λ (j : ℕ). properBy j a b ≡ true → wordOf (nodeIn (shapeBy j a b)) ≡ word j a b) k
+    (λ h. zero-field 0 (and-right (ltb a byteSize) (eqb b 0) h))
     (λ h. refl)
     (λ h. refl)
     (λ h. zero-field 3 h)
     (λ h. refl)
     (λ h. both h)
-    (λ h. omega arith)
-    (λ h. zero-field 7 h)
+    (λ h. zero-field 6 (and-right (leb 1 a) (eqb b 0) h))
+    (λ h. zero-field 7 (and-right (leb a branchLimit) (eqb b 0) h))
     (λ e0 e1 e2 e3 e4 e5 e6 e7 h. false-true (rw (e0, e1, e2, e3, e4, e5, e6, e7) at h))
   where
     zero-field : (j : ℕ) → eqb b 0 ≡ true → word j a 0 ≡ word j a b
@@ -81,7 +82,7 @@ unfolding proper shape
 word-again w n p e =
     let l : w < wordSize = ltb-true _ _ (and-left (ltb w (wordSize)) (properBy (kindOf w) (firstOf w) (secondOf w)) p) in
     let f : properBy (kindOf w) (firstOf w) (secondOf w) ≡ true = and-right (ltb w (wordSize)) _ p in
-    sym (ap wordOf (node-in n)) ∙ ap (λ (s : Shape). wordOf (nodeIn s)) e ∙ made-again (kindOf w) (firstOf w) (secondOf w) (omega arith) (omega arith) f ∙ word-made fieldSize w l
+    sym (ap wordOf (node-in n)) ∙ ap (λ (s : Shape). wordOf (nodeIn s)) e ∙ made-again (kindOf w) (firstOf w) (secondOf w) f ∙ word-made fieldSize w l
 
 -- the word of a node says that node: node_of (node_word n) = n
 pub shape-again : (n : Node) → NodeFits n → shape (wordOf n) ≡ shapeOf n
@@ -92,6 +93,6 @@ shape-again (One (NegatedMask v m)) h = made-shape 2 v m (omega arith) (h .0) (h
 shape-again (One Dot) h = made-shape 5 0 0 (omega arith) (omega arith) (omega arith)
 shape-again (Jump n) h = made-shape 3 n 0 (omega arith) h (omega arith)
 shape-again (JumpRange a b) h = made-shape 4 a b (omega arith) (h .0) (h .1)
-shape-again (Alternation n) h = count-shape n h
+shape-again (Alternation n) h = made-shape 6 n 0 (omega arith) h (omega arith)
 shape-again (AltBranch n) h = made-shape 7 n 0 (omega arith) h (omega arith)
 shape-again Bad h = made-shape 8 0 0 (omega arith) (omega arith) (omega arith)

@@ -3,7 +3,7 @@
 use mathlib.Core.List.{List, [], _∷_}
 use Prim.Native.Nat.{ℕ, _<_}
 use Rattle.def_meaning.specs.Programs.{Test, byte, mask, negatedMask, dot, one, jump, range}
-use Rattle.def_meaning.specs.Words.{fieldSize, word, countSize, countWord, Shape, item, opens, mark, wrong}
+use Rattle.def_meaning.specs.Words.{fieldSize, word, Shape, item, opens, mark, wrong}
 use Rattle.nodes.specs.declared.ByteTest.{ByteTest}
 use Rattle.nodes.specs.declared.ByteTest.the-variants.{Byte, Mask, NegatedMask, Dot}
 use Rattle.nodes.specs.declared.Node.{Node}
@@ -37,7 +37,7 @@ abbrev pub wordOf : Node → ℕ
 wordOf (One t) = testWord t
 wordOf (Jump n) = word 3 n 0
 wordOf (JumpRange a b) = word 4 a b
-wordOf (Alternation n) = countWord n
+wordOf (Alternation n) = word 6 n 0
 wordOf (AltBranch n) = word 7 n 0
 wordOf Bad = word 8 0 0
 
@@ -52,7 +52,7 @@ abbrev pub NodeFits : Node → Type 0
 NodeFits (One t) = TestFits t
 NodeFits (Jump n) = n < fieldSize
 NodeFits (JumpRange a b) = (a < fieldSize) × (b < fieldSize)
-NodeFits (Alternation n) = n < countSize
+NodeFits (Alternation n) = n < fieldSize
 NodeFits (AltBranch n) = n < fieldSize
 NodeFits Bad = Unit {0}
 

@@ -1,19 +1,18 @@
 // Translated from boreal's boreal/src/matcher/validator/simple.rs (MIT OR Apache-2.0), commit 7010b5e967; see NOTICE.
 // A node word and the node that it says: the one taken apart into the other, and made from it. Nowhere else is a word taken apart or made by
-// arithmetic, so what a word's layout is stands here: the types, the sizes, and the small functions for kind, fields and count.
+// arithmetic, so what a word's layout is stands here: the types, the sizes, and the small functions for kind and fields.
 ghost use mathlib.Core.Path.{_≡_};
 ghost use Prim.Native.Nat.{_%_, _≤_, _<_};
 ghost use lib.ListN.{length};
 ghost use Rattle.base.specs.Pools.{zeroed};
-ghost use Rattle.def_meaning.specs.Words.{fieldSize, kindOf, firstOf, secondOf, countOf, word, countWord, shape, proper};
+ghost use Rattle.def_meaning.specs.Words.{byteSize, fieldSize, kindOf, firstOf, secondOf, countOf, word, shape, proper};
 ghost use Rattle.nodes.specs.Nodes.{shapeOf, testWord, wordOf, firstWord};
+use base::BRANCH_LIMIT;
 
-// A word of a program; a field of it; and an Alternation's count, which takes both fields.
-pub type NodeWord = u32;
+// A word of a program, and a field of it.
+pub type NodeWord = u64;
 
-pub type Field = u8;
-
-pub type Count = u16;
+pub type Field = u16;
 
 // The kinds, in the lowest part of a word. They keep the word's type: of kinds that are bytes the compiler makes one table of jumps in
 // the searches, bytes of a pattern included, and they take up to twice the time.
@@ -33,22 +32,23 @@ pub const ALTERNATION: NodeWord = 6;
 
 pub const ALT_BRANCH: NodeWord = 7;
 
-// How many values a kind has, a field, and a count; where the second field begins; and how many words there are.
+// How many values a kind has, and a field; where the second field begins; and how many words there are.
 const KINDS: NodeWord = 256;
 
-const FIELDS: NodeWord = 256;
-
-const COUNTS: NodeWord = FIELDS * FIELDS;
+const FIELDS: NodeWord = 65536;
 
 const SECOND: NodeWord = KINDS * FIELDS;
 
 const WORDS: NodeWord = SECOND * FIELDS;
 
-// What is asked of one byte.
+// How many values a byte has: the values and masks of a sound program are bytes.
+const BYTES: Field = 256;
+
+// What is asked of one byte. Values and masks are fields here, since every word says a node.
 pub enum ByteTest {
-    Byte(u8),
-    Mask(u8, u8),
-    NegatedMask(u8, u8),
+    Byte(Field),
+    Mask(Field, Field),
+    NegatedMask(Field, Field),
     Dot,
 }
 
@@ -57,7 +57,7 @@ pub enum Node {
     One(ByteTest),
     Jump(Field),
     JumpRange(Field, Field),
-    Alternation(Count),
+    Alternation(Field),
     AltBranch(Field),
     Bad,
 }
@@ -97,17 +97,24 @@ pub fn second(w: NodeWord) -> Field
 }
 
 // What an Alternation counts.
-pub fn count(w: NodeWord) -> Count
+pub fn count(w: NodeWord) -> Field
     ensures { λ r. ⌜ r ≡ countOf w ⌝ }
 {
-    (w / KINDS % COUNTS) as Count
+    first(w)
 }
 
 // What of a number fits a field.
 pub fn field(n: u32) -> Field
     ensures { λ r. ⌜ r ≡ n % fieldSize ⌝ }
 {
-    (n % FIELDS) as Field
+    ((n as NodeWord) % FIELDS) as Field
+}
+
+// What of a field fits a byte.
+pub fn byte_of(a: Field) -> u8
+    ensures { λ r. ⌜ r ≡ a % byteSize ⌝ }
+{
+    (a % BYTES) as u8
 }
 
 // The node that a word says.
@@ -137,13 +144,6 @@ fn made(k: NodeWord, a: Field, b: Field) -> NodeWord
     k + KINDS * (a as NodeWord) + SECOND * (b as NodeWord)
 }
 
-// The word of an Alternation.
-fn counted(n: Count) -> NodeWord
-    ensures { λ r. ⌜ r ≡ countWord n ⌝ }
-{
-    ALTERNATION + KINDS * (n as NodeWord)
-}
-
 fn test_word(t: ByteTest) -> NodeWord
     ensures { λ r. ⌜ r ≡ testWord t ⌝ }
 {
@@ -163,7 +163,7 @@ pub fn node_word(n: Node) -> NodeWord
         Node::One(t) => test_word(t),
         Node::Jump(a) => made(JUMP, a, 0),
         Node::JumpRange(a, b) => made(JUMP_RANGE, a, b),
-        Node::Alternation(k) => counted(k),
+        Node::Alternation(a) => made(ALTERNATION, a, 0),
         Node::AltBranch(a) => made(ALT_BRANCH, a, 0),
         Node::Bad => made(8, 0, 0),
     }
@@ -187,14 +187,14 @@ pub fn proper_word(w: NodeWord) -> bool
     let a = first(w);
     let b = second(w);
     match kind(w) {
-        BYTE => b == 0,
-        MASK => true,
-        NEGATED_MASK => true,
+        BYTE => a < BYTES && b == 0,
+        MASK => a < BYTES && b < BYTES,
+        NEGATED_MASK => a < BYTES && b < BYTES,
         JUMP => b == 0,
         JUMP_RANGE => a <= b,
         DOT => a == 0 && b == 0,
-        ALTERNATION => 1 <= count(w),
-        ALT_BRANCH => b == 0,
+        ALTERNATION => 1 <= a && b == 0,
+        ALT_BRANCH => (a as usize) <= BRANCH_LIMIT && b == 0,
         _ => false,
     }
 }

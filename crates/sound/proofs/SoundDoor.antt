@@ -2,7 +2,8 @@
 use mathlib.Core.Path.{_≡_, refl, sym, _∙_}
 use mathlib.Core.Bool.{Bool, true, not, _&&_}
 use mathlib.Core.List.{List, [], _∷_}
-use Prim.Native.Nat.{ℕ}
+use Prim.Native.Nat.{ℕ, _^_}
+use lib.ListN.{replicate}
 use Rattle.def_meaning.specs.Words.{word, sound, soundWords, soundBranches, flatWords, isFlat, proper, properBy, shape, shapeBy}
 
 -- the promise leaves one outcome; the words lent are only read
@@ -24,7 +25,7 @@ value-outside-mask = refl
 
 -- and these are not: a range whose min is above its max; a branch outside an alternation; an alternation without a branch;
 -- counts that are not filled exactly, or not by branches; a range in a branch; a field that is not named and not 0; a kind
--- that is none; a word of more than 24 bits
+-- that is none; a value, a mask and a branch's count above 255; a word of more than 40 bits
 unfoldable pub unsound : List (List ℕ)
 unsound =
     (word 4 2 1 ∷ [])
@@ -36,7 +37,13 @@ unsound =
     ∷ (word 6 2 0 ∷ word 7 1 0 ∷ word 4 1 2 ∷ [])
     ∷ (word 0 1 1 ∷ [])
     ∷ (word 8 0 0 ∷ [])
-    ∷ (word 1 1 256 ∷ [])
+    ∷ (word 6 1 1 ∷ word 7 0 0 ∷ [])
+    ∷ (word 0 256 0 ∷ [])
+    ∷ (word 1 256 255 ∷ [])
+    ∷ (word 2 1 256 ∷ [])
+    ∷ (word 6 257 0 ∷ word 7 256 0 ∷ replicate 256 (word 5 0 0))
+    ∷ (word 1 1 65536 ∷ [])
+    ∷ (2 ^ 40 ∷ [])
     ∷ []
 
 unfoldable pub noneSound : List (List ℕ) → Bool

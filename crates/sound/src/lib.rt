@@ -1,6 +1,6 @@
 // The soundness test of node words: any words at all are sound or not. Each function is one loop, linear in the words.
 use base::NODE_LIMIT;
-use nodes::Count;
+use nodes::Field;
 use nodes::NextWord;
 use nodes::Node;
 use nodes::NodeWord;
@@ -15,7 +15,7 @@ ghost use Rattle.sound.specs.Steps.{inItem, inBranch, itemInside, branch
 
 // How many of the words after a word belong to it.
 pub enum Inside {
-    Words(Count),
+    Words(Field),
     Unfit,
 }
 
@@ -51,7 +51,7 @@ fn in_branch(n: Node) -> Inside
         Node::Jump(_) => Inside::Unfit,
         Node::JumpRange(_, _) => Inside::Unfit,
         Node::Alternation(_) => Inside::Unfit,
-        Node::AltBranch(k) => Inside::Words(k as Count),
+        Node::AltBranch(k) => Inside::Words(k),
         Node::Bad => Inside::Unfit,
     }
 }

@@ -6,15 +6,15 @@ use lib.Dec.{eqb}
 use borrow.Author.Tests.{ne-eqb}
 use native.Mathlib.Omega.{arith}
 use Rattle.def_meaning.specs.Programs.{Test, pass, one, jump, range, alt}
-use Rattle.def_meaning.specs.Words.{countBy, Shape, item, opens, mark, wrong, shapeBy, shape}
+use Rattle.def_meaning.specs.Words.{Shape, item, opens, mark, wrong, shapeBy, shape}
 use Rattle.steps.specs.Steps.{isTest, passShape}
 
 -- a word of none of the four kinds is no test
-no-kind : (k a b : ℕ) → (k ≡ 0 → ⊥) → (k ≡ 1 → ⊥) → (k ≡ 2 → ⊥) → (k ≡ 5 → ⊥) → (P : Shape → Type 0) → P (item (jump a)) → P (item (range a b)) → P (opens (countBy a b)) → P (mark a) → P wrong → P (shapeBy k a b)
+no-kind : (k a b : ℕ) → (k ≡ 0 → ⊥) → (k ≡ 1 → ⊥) → (k ≡ 2 → ⊥) → (k ≡ 5 → ⊥) → (P : Shape → Type 0) → P (item (jump a)) → P (item (range a b)) → P (opens a) → P (mark a) → P wrong → P (shapeBy k a b)
 unfolding shapeBy
 no-kind k a b n0 n1 n2 n5 P j r o m w = rw (ne-eqb k 0 n0, ne-eqb k 1 n1, ne-eqb k 2 n2, ne-eqb k 5 n5) (go (eqb k 3) (eqb k 4) (eqb k 6) (eqb k 7))
   where
-    go : (u v t q : Bool) → P (cond u (item (jump a)) (cond v (item (range a b)) (cond t (opens (countBy a b)) (cond q (mark a) wrong))))
+    go : (u v t q : Bool) → P (cond u (item (jump a)) (cond v (item (range a b)) (cond t (opens a) (cond q (mark a) wrong))))
     go true v t q = j
     go false true t q = r
     go false false true q = o

@@ -6,6 +6,7 @@ ghost use Rattle.def_meaning.specs.Words.{shape};
 ghost use Rattle.steps.specs.Steps.{firstByte, isTest, passShape};
 use nodes::BYTE;
 use nodes::DOT;
+use nodes::Field;
 use nodes::MASK;
 use nodes::NEGATED_MASK;
 use nodes::NodeWord;
@@ -69,12 +70,13 @@ pub fn word_passes(w: NodeWord, c: u8) -> bool
     let a = first(w);
     let b = second(w);
     let k = kind(w);
+    let v = c as Field;
     if k == BYTE {
-        return c == a;
+        return v == a;
     }
     match k {
-        MASK => (c & b) == a,
-        NEGATED_MASK => (c & b) != a,
+        MASK => (v & b) == a,
+        NEGATED_MASK => (v & b) != a,
         DOT => c != 10,
         _ => false,
     }

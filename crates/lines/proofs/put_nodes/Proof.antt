@@ -6,6 +6,7 @@ use lib.ListN.{length, take, getD}
 use lib.Seq.{take-all}
 use Rattle.printing.specs.Laid.{Put}
 use Rattle.lines.specs.Lines.{nodeLine}
+use Rattle.lines.specs.Listed.{lineLimit}
 use Rattle.printing.proofs.LaidLaws.{put-none, put-same, put-each, put-length, flatMap-none}
 use Rattle.lines.proofs.LineLaws.{length-node}
 use native.Mathlib.Omega.{arith}
@@ -14,7 +15,7 @@ use Rattle.lines.proofs.put_nodes.Statement.{statement}
 use Rattle.lines.proofs.put_nodes.Tie as tie
 
 abbrev Inv-loop : tie.InvT-loop
-Inv-loop out₀ at words k₀ i₀ out k i = (i ≤ length words) × (k ≤ at + 14 * i) × Put out₀ at (flatMap nodeLine (take i words)) k out
+Inv-loop out₀ at words k₀ i₀ out k i = (i ≤ length words) × (k ≤ at + lineLimit * i) × Put out₀ at (flatMap nodeLine (take i words)) k out
 
 abbrev μ-loop : tie.MeasureT-loop
 μ-loop out₀ at words k₀ i₀ out k i = length words - i
