@@ -1,4 +1,4 @@
--- The samples by the desk that 01 marks P, as one list, and when a sample is right. Assumes nothing: these are definitions.
+-- The samples by the desk that 01 marks P, with 02's words, as one list, and when a sample is right. Assumes nothing: these are definitions.
 -- To be believed: all.
 use mathlib.Core.Bool.{Bool, true, false, _&&_}
 use mathlib.Core.List.{List, [], _∷_}
@@ -77,5 +77,6 @@ samples =
     ∷ reaches (ascii "{ AB } zz") 7
     ∷ ends (ascii "{ (61|61 62) 63 }") (0x61 ∷ 0x62 ∷ 0x63 ∷ []) 3
     ∷ ends (ascii "{ (61 62|61) }") (0x61 ∷ 0x62 ∷ []) 2
-    ∷ says (ascii "{ A? }") (0x00F0A001 ∷ [])
+    ∷ says (ascii "{ A? }") (0xF000A001 ∷ [])
+    ∷ says (ascii "{ AB [100] [200] [50] [100] CD }") (0xAB00 ∷ 0x1C203 ∷ 0xCD00 ∷ [])
     ∷ []

@@ -11,7 +11,7 @@ use borrow.Author.Tests.{eq-eqb, ne-eqb}
 use borrow.Rule.Slice.PartMut.{putMid}
 use Rattle.base.proofs.LentLaws.{lent-rest}
 use Rattle.def_meaning.specs.Programs.{Item, Prog, Branches, one, jump, range, alt, end, _▹_, _⧺_}
-use Rattle.def_meaning.specs.Words.{countWord}
+use Rattle.def_meaning.specs.Words.{word}
 use Rattle.def_compiling.specs.ProgramWords.{opening, wordsFor, wordsOf, wordsIn}
 use Rattle.def_compiling.specs.Compiling.{jumpOf, add}
 use Rattle.def_compiling.specs.Compile.{shortIn, shortOf}
@@ -95,7 +95,7 @@ module _ (ws : List ℕ) (at : ℕ) where
 
     -- the alternation's word before its branches
     pub alternation : (b : Bool) (out ys : List ℕ) (count w : ℕ) (long : Bool) → 1 ≤ length out → count ≡ length (wordsIn (branchesAt b (getD ws (at + 1) 0) handed))
-        → long ≡ not (shortIn (branchesAt b (getD ws (at + 1) 0) handed)) → ys ≡ wordsIn (branchesAt b (getD ws (at + 1) 0) handed) ++ drop count (take (length out - 1) (drop 1 out)) → w ≡ countWord count
+        → long ≡ not (shortIn (branchesAt b (getD ws (at + 1) 0) handed)) → ys ≡ wordsIn (branchesAt b (getD ws (at + 1) 0) handed) ++ drop count (take (length out - 1) (drop 1 out)) → w ≡ word 6 count 0
         → (count + 1 ≡ length (wordsFor (alt (altAt b ws at)))) × (long ≡ not (shortIn (altAt b ws at))) × (set (putMid 1 (length out - 1) out ys) 0 w ≡ wordsFor (alt (altAt b ws at)) ++ drop (count + 1) out)
     unfolding wordsFor opening
     alternation b out ys count w long r ec el ey ew =

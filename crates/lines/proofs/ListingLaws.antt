@@ -30,7 +30,7 @@ length-nodes : (ws : List ℕ) → length (flatMap nodeLine ws) ≤ lineLimit * 
 unfolding flatMap
 length-nodes [] = omega arith
 length-nodes (w ∷ ws) =
-    let a : length (nodeLine w) ≤ 14 = length-node w in
+    let a : length (nodeLine w) ≤ lineLimit = length-node w in
     let b : length (flatMap nodeLine ws) ≤ lineLimit * length ws = length-nodes ws in
     rw (length-append (nodeLine w) (flatMap nodeLine ws)) (omega arith)
 

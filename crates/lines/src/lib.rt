@@ -1,12 +1,14 @@
 // The lines of a listing, written into lent bytes as crate printing's writers do.
 ghost use mathlib.Core.Path.{_≡_};
-ghost use Prim.Native.Nat.{_+_, _*_, _<_, _^_, min};
+ghost use Prim.Native.Nat.{_+_, _*_, _%_, _<_, _^_, min};
 ghost use lib.ListN.{length};
 ghost use Rattle.printing.specs.Laid.{Put};
+ghost use Rattle.def_meaning.specs.Words.{byteSize};
 ghost use Rattle.nodes.specs.Nodes.{testOf};
 ghost use Rattle.lines.specs.Lines.{numberLine, numbersLine, byteLine, maskLine, testLine, nodeLine, programLines, literalLine, literalLines, literalsLines, cut, refusedLine, literalsRefusedLine, programsLines};
 ghost use Rattle.lines.specs.Listed.{lineLimit, listedOf};
 use nodes::ByteTest;
+use nodes::Field;
 use nodes::Node;
 use nodes::NodeWord;
 use nodes::byte_of;
@@ -39,35 +41,34 @@ fn put_numbers_line(
     put_number_line(out, told, between, m)
 }
 
-// A line that ends with a byte.
-fn put_byte_line(out: &mut [u8], at: usize, name: &[u8], v: u8) -> usize
+// A line that ends with a byte. The values and masks of a sound program are bytes: the remainder spares a requirement.
+fn put_byte_line(out: &mut [u8], at: usize, name: &[u8], v: Field) -> usize
     requires { ⌜ at + length (now name) + 3 < 2 ^ 64 ⌝ }
-    ensures { λ r. ⌜ Put (now (out .entry)) at (byteLine (now (name .entry)) v) r (now (out .exit)) ⌝ }
+    ensures { λ r. ⌜ Put (now (out .entry)) at (byteLine (now (name .entry)) (v % byteSize)) r (now (out .exit)) ⌝ }
 {
     let named = printing::put_bytes(out, at, name);
-    let told = printing::put_hex(out, named, v);
+    let told = printing::put_hex(out, named, byte_of(v));
     printing::put_byte(out, told, b'\n')
 }
 
 // A line that ends with a value and a mask.
-fn put_mask_line(out: &mut [u8], at: usize, name: &[u8], v: u8, m: u8) -> usize
+fn put_mask_line(out: &mut [u8], at: usize, name: &[u8], v: Field, m: Field) -> usize
     requires { ⌜ at + length (now name) + 6 < 2 ^ 64 ⌝ }
-    ensures { λ r. ⌜ Put (now (out .entry)) at (maskLine (now (name .entry)) v m) r (now (out .exit)) ⌝ }
+    ensures { λ r. ⌜ Put (now (out .entry)) at (maskLine (now (name .entry)) (v % byteSize) (m % byteSize)) r (now (out .exit)) ⌝ }
 {
     let named = printing::put_bytes(out, at, name);
-    let told = printing::put_hex(out, named, v);
+    let told = printing::put_hex(out, named, byte_of(v));
     put_byte_line(out, told, b" ", m)
 }
 
-// The line of a test. Values and masks of a sound program are bytes: the remainder spares a requirement.
 fn put_test(out: &mut [u8], at: usize, t: ByteTest) -> usize
     requires { ⌜ at + 16 < 2 ^ 64 ⌝ }
     ensures { λ r. ⌜ Put (now (out .entry)) at (testLine (testOf t)) r (now (out .exit)) ⌝ }
 {
     match t {
-        ByteTest::Byte(v) => put_byte_line(out, at, b"byte ", byte_of(v)),
-        ByteTest::Mask(v, m) => put_mask_line(out, at, b"mask ", byte_of(v), byte_of(m)),
-        ByteTest::NegatedMask(v, m) => put_mask_line(out, at, b"not ", byte_of(v), byte_of(m)),
+        ByteTest::Byte(v) => put_byte_line(out, at, b"byte ", v),
+        ByteTest::Mask(v, m) => put_mask_line(out, at, b"mask ", v, m),
+        ByteTest::NegatedMask(v, m) => put_mask_line(out, at, b"not ", v, m),
         ByteTest::Dot => printing::put_bytes(out, at, b"dot\n"),
     }
 }

@@ -107,8 +107,8 @@ add-lists-requires c κs =
     let p = law.handed-long (at-start .args .tokens .now) (at-start .args .at) (at-start .pre .0) (at-start .pre .1) in
     (law.handed-lists (at-start .args .tokens .now) (at-start .args .at) (at-start .pre .0) (at-start .pre .1), omega arith, simp (length-take, length-drop) (omega arith))
 
-cast-t23 : tie.Need-cast-t23
-cast-t23 c =
+cast-t24 : tie.Need-cast-t24
+cast-t24 c =
     let at-add-lists = c .before .before .add-lists in
     let at-start = c .before .before .before .before .before .before .before .before .before in
     let f = law.alt-fits (at-start .args .tokens .now) (at-start .args .at) (at-start .pre .0) (at-start .pre .1) in
@@ -124,8 +124,8 @@ slice-write-out c =
     let at-start = c .before .before .before .before .before .before .before .before .before .before in
     let f = law.alt-fits (at-start .args .tokens .now) (at-start .args .at) (at-start .pre .0) (at-start .pre .1) in let s = law.size-five (at-start .args .tokens .now) (at-start .args .at) (at-start .pre .1) in let pre = at-start .pre in omega arith
 
-add-t15 : tie.Need-add-t15
-add-t15 c =
+add-t11 : tie.Need-add-t11
+add-t11 c =
     let at-start = c .before .before .before .before .before .before .before .before .before .before in
     let f = law.alt-fits (at-start .args .tokens .now) (at-start .args .at) (at-start .pre .0) (at-start .pre .1) in let s = law.size-five (at-start .args .tokens .now) (at-start .args .at) (at-start .pre .1) in let pre = at-start .pre in omega arith
 
@@ -166,9 +166,9 @@ add-alternation-spec =
     part-add-lists-start-2
     part-add-lists-end-2
     add-lists-requires
-    cast-t23
+    cast-t24
     node-word-requires
     slice-write-out
-    add-t15
+    add-t11
     same-length
     returns)

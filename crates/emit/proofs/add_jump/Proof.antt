@@ -53,8 +53,8 @@ sub-at c =
     let at-start = c .before .before .before .before .before in
     law.behind (at-start .args .n) (at-start .args .last) (at-last .given .0 .0) (at-last .given .1) (at-start .pre .1)
 
-cast-t15 : tie.Need-cast-t15
-cast-t15 c = search needs
+cast-t16 : tie.Need-cast-t16
+cast-t16 c = search needs
 
 node-word-requires : tie.Need-node-word-requires
 node-word-requires c κs = search needs
@@ -65,8 +65,8 @@ mul-out c = search needs
 slice-write-out : tie.Need-slice-write-out
 slice-write-out c = search needs
 
-cast-t15-2 : tie.Need-cast-t15-2
-cast-t15-2 c = search needs
+cast-t16-2 : tie.Need-cast-t16-2
+cast-t16-2 c = search needs
 
 same-length-3 : tie.Need-same-length-3
 same-length-3 c = search needs
@@ -94,10 +94,10 @@ add-jump-spec =
     same-length-2
     returns-2
     sub-at
-    cast-t15
+    cast-t16
     node-word-requires
     mul-out
     slice-write-out
-    cast-t15-2
+    cast-t16-2
     same-length-3
     returns-3)

@@ -25,20 +25,20 @@ made-requires-2 c κs = search needs
 enum-known-n-4 : tie.Need-enum-known-n-4
 enum-known-n-4 c = search needs
 
-counted-requires : tie.Need-counted-requires
-counted-requires c κs = search needs
+made-requires-3 : tie.Need-made-requires-3
+made-requires-3 c κs = search needs
 
 enum-known-n-5 : tie.Need-enum-known-n-5
 enum-known-n-5 c = search needs
 
-made-requires-3 : tie.Need-made-requires-3
-made-requires-3 c κs = search needs
+made-requires-4 : tie.Need-made-requires-4
+made-requires-4 c κs = search needs
 
 enum-told : tie.Need-enum-told
 enum-told c = search needs
 
-made-requires-4 : tie.Need-made-requires-4
-made-requires-4 c κs = search needs
+made-requires-5 : tie.Need-made-requires-5
+made-requires-5 c κs = search needs
 
 returns : tie.Need-returns
 returns c = search needs
@@ -57,15 +57,15 @@ returns-3 c =
 
 returns-4 : tie.Need-returns-4
 returns-4 c =
-    let at-counted = c .counted in
+    let at-made3 = c .made3 in
     let at-n4 = c .before .before .n4 in
-    at-counted .ensures ∙ rw (at-n4 .given .1)
+    at-made3 .ensures ∙ rw (at-n4 .given .1)
 
 returns-5 : tie.Need-returns-5
 returns-5 c =
-    let at-made3 = c .made3 in
+    let at-made4 = c .made4 in
     let at-n5 = c .before .before .n5 in
-    at-made3 .ensures ∙ rw (at-n5 .given .1)
+    at-made4 .ensures ∙ rw (at-n5 .given .1)
 
 returns-6 : tie.Need-returns-6
 returns-6 c = search needs
@@ -81,11 +81,11 @@ node-word-spec =
     enum-known-n-3
     made-requires-2
     enum-known-n-4
-    counted-requires
-    enum-known-n-5
     made-requires-3
-    enum-told
+    enum-known-n-5
     made-requires-4
+    enum-told
+    made-requires-5
     returns
     returns-2
     returns-3

@@ -18,9 +18,6 @@ enum-told-4 c = search needs
 enum-known-n : tie.Need-enum-known-n
 enum-known-n c = search needs
 
-cast-t4 : tie.Need-cast-t4
-cast-t4 c = search needs
-
 enum-told-5 : tie.Need-enum-told-5
 enum-told-5 c = search needs
 
@@ -53,7 +50,6 @@ in-branch-spec =
     enum-told-3
     enum-told-4
     enum-known-n
-    cast-t4
     enum-told-5
     returns
     returns-2
