@@ -1,14 +1,16 @@
 -- Each node of a sound program has the listed line, and no other. Assumes nothing.
-use mathlib.Core.Path.{_≡_, sym, ap, subst}
+use mathlib.Core.Path.{_≡_, sym, ap, ap₂, _∙_, subst}
 use mathlib.Core.Logic.{_⊎_, ⊎-elim}
 use mathlib.Core.List.{List, [], _∷_, _++_, List·Memᴰ, List·Memᴰ·not-nil, List·Memᴰ·cases-cons, List·Memᴰ·append-cases}
 use Prim.Native.Nat.{ℕ, _+_, _<_}
 use native.Mathlib.Omega.{arith}
+use native.Mathlib.Nat.{mod-eq-of-lt}
 use lib.ListN.{length}
 use Rattle.def_meaning.specs.Programs.{Item, Prog, Branches}
 use Rattle.def_meaning.specs.Words.{fieldSize, shapeBy}
 use Rattle.def_meaning.proofs.MadeLaws.{made-shape}
-use Rattle.lines.specs.Lines.{shapeLine, nodeLine}
+use Rattle.base.specs.Text.{ascii}
+use Rattle.lines.specs.Lines.{byteLine, maskLine, shapeLine, nodeLine}
 use Rattle.def_promise.specs.NodeWords as words
 use Rattle.def_promise.specs.NodeWords.{word, Flat, Flats, Branched, Nodes}
 use Rattle.def_promise.specs.Lines.{NodeLine}
@@ -21,9 +23,9 @@ made k a b h f g = ap shapeLine (made-shape k a b h f g)
 -- a listed line is the computed one
 pub line-one : {w : ℕ} {l : List ℕ} → NodeLine w l → l ≡ nodeLine w
 unfolding shapeBy
-line-one (lines.kind-0 {v = v} h) = sym (made 0 v 0 (omega arith) (omega arith) (omega arith))
-line-one (lines.kind-1 {v = v} {m = m} h g) = sym (made 1 v m (omega arith) (omega arith) (omega arith))
-line-one (lines.kind-2 {v = v} {m = m} h g) = sym (made 2 v m (omega arith) (omega arith) (omega arith))
+line-one (lines.kind-0 {v = v} h) = ap (byteLine (ascii "byte ")) (sym (mod-eq-of-lt h)) ∙ sym (made 0 v 0 (omega arith) (omega arith) (omega arith))
+line-one (lines.kind-1 {v = v} {m = m} h g) = ap₂ (maskLine (ascii "mask ")) (sym (mod-eq-of-lt h)) (sym (mod-eq-of-lt g)) ∙ sym (made 1 v m (omega arith) (omega arith) (omega arith))
+line-one (lines.kind-2 {v = v} {m = m} h g) = ap₂ (maskLine (ascii "not ")) (sym (mod-eq-of-lt h)) (sym (mod-eq-of-lt g)) ∙ sym (made 2 v m (omega arith) (omega arith) (omega arith))
 line-one (lines.kind-3 {n = n} h) = sym (made 3 n 0 (omega arith) h (omega arith))
 line-one (lines.kind-4 {a = a} {b = b} h g) = sym (made 4 a b (omega arith) h g)
 line-one lines.kind-5 = sym (made 5 0 0 (omega arith) (omega arith) (omega arith))

@@ -112,6 +112,10 @@ pub fn left(pool: &[NodeWord], used: usize, size: usize) {
     tell(b" old ", holding(pool, size, pool.len(), OLD) as u64);
 }
 
+fn wide(w: u32) -> NodeWord {
+    w as NodeWord
+}
+
 // Tokens, which have narrower words: widened, they are told as the words of a program are.
 fn widen(tokens: &[u32], out: &mut [NodeWord]) {
     let mut i = 0;
@@ -119,7 +123,7 @@ fn widen(tokens: &[u32], out: &mut [NodeWord]) {
         if out.len() <= i {
             return;
         }
-        out[i] = tokens[i] as NodeWord;
+        out[i] = wide(tokens[i]);
         i += 1;
     }
 }
@@ -134,7 +138,7 @@ pub fn tokens_left(pool: &[u32], used: usize, size: usize) {
     let mut wide: [NodeWord; TOKENS] = [0; TOKENS];
     widen(pool, &mut wide);
     let n = least(pool.len(), TOKENS);
-    left(&wide[..n], used, size);
+    left(&wide[0..n], used, size);
 }
 
 fn digit(v: u8) -> u8
