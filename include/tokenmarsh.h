@@ -24,7 +24,7 @@
  *    9  ~??, which fits no byte                                          the ~
  *   10  a ninth list level; the outer list is the first                  where the list would begin
  *   11  a 513th token                                                    its first byte
- *   12  not simple: a jump unbounded or above 255; in a branch, a range or nested alternatives
+ *   12  not simple: a jump unbounded or above 65,535; in a branch, a range or nested alternatives
  *   13  more than 512 nodes
  *   14  a branch above 255 nodes
  *   15  unsound program
