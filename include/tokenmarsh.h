@@ -24,7 +24,7 @@
  *    9  ~??, which fits no byte                                          the ~
  *   10  a ninth list level; the outer list is the first                  where the list would begin
  *   11  a 513th token                                                    its first byte
- *   12  not simple: a jump unbounded or above 255; in a branch, a range or nested alternatives
+ *   12  not simple: a jump unbounded or above 65,535; in a branch, a range or nested alternatives
  *   13  more than 512 nodes
  *   14  a branch above 255 nodes
  *   15  unsound program
@@ -43,17 +43,17 @@
 extern "C" {
 #endif
 
-/* The version that this header describes, and in one number. The structs change between versions. */
+/* The version that this header describes, and in one number. The structs and the words of pools change between versions. */
 #define TM_VERSION_MAJOR 0
-#define TM_VERSION_MINOR 2
+#define TM_VERSION_MINOR 3
 #define TM_VERSION_PATCH 0
 #define TM_VERSION (TM_VERSION_MAJOR * 65536u + TM_VERSION_MINOR * 256u + TM_VERSION_PATCH)
 
 /* The version of the library. A program that was compiled with one header and is linked or loaded with a library for which
- * tm_version() != TM_VERSION must not go on: it would misread the structs that the other functions answer. */
+ * tm_version() != TM_VERSION must not go on: it would misread the structs that the other functions answer, or lend them pools of other words. */
 uint32_t tm_version(void);
 
-/* The longest text, and the words that each kind of pool must have. */
+/* The longest text, and the words that each kind of pool must have: of 32 bits for tokens, of 64 for nodes. */
 #define TM_TEXT_LIMIT 4096
 #define TM_TOKEN_POOL 4096
 #define TM_NODE_POOL 512
@@ -90,17 +90,17 @@ typedef struct {
 } tm_compile_result;
 
 /* Compiles a hexadecimal string into its forward and its reverse program: the one for tm_forward and tm_tail, the other for tm_reverse.
- * A program is at most 512 node words. A word is kind + 256 * first + 65536 * second, where first and second are 0 if not named:
+ * A program is at most 512 node words. A word is kind + 2^8 * first + 2^24 * second, where first and second are below 2^16, and 0 if not named:
  *    0  byte           first: its value              4  range          first: the fewest, second: the most of any bytes
  *    1  mask           first: value, second: mask    5  dot            any byte but 0A
- *    2  not a mask     first: value, second: mask    6  alternation    first + 256 * second: so many words follow, which are branches
+ *    2  not a mask     first: value, second: mask    6  alternation    first: so many words follow, which are branches
  *    3  jump           first: so many of any bytes   7  branch         first: so many words follow that are in it
  * A mask fits the bytes whose bits under the mask equal the value, its negation all others.
  * A check takes any sound program: with that of the other direction it refuses nothing, and finds what the pattern does not match or misses what it does.
  * Anything after the closing brace and its blanks is ignored: it begins at `reached`, which is text_len if nothing follows.
  * Refused: 18 if either pool is below 512 words, and then nothing changes; else 1 to 11, 12, 14, 13, and then the first 512 words of
  * both pools are 0. Success: the used words, 0 in the rest of the first 512. Words beyond those stay. */
-tm_compile_result tm_compile(const uint8_t *text, size_t text_len, uint32_t *forward, size_t forward_len, uint32_t *reverse, size_t reverse_len);
+tm_compile_result tm_compile(const uint8_t *text, size_t text_len, uint64_t *forward, size_t forward_len, uint64_t *reverse, size_t reverse_len);
 
 typedef struct {
     uint32_t refusal;
@@ -126,11 +126,11 @@ typedef struct {
 /* Whether a program fits the window of the haystack, the bytes from `start` to before `end`, from its first byte on: the end of the first
  * choice that does, branches being tried from first to last and short ranges before long ones.
  * Refused: 16, then 13, 15. Bytes outside the window are not looked at. */
-tm_check_result tm_forward(const uint32_t *program, size_t program_len, const uint8_t *haystack, size_t haystack_len, size_t start, size_t end);
+tm_check_result tm_forward(const uint64_t *program, size_t program_len, const uint8_t *haystack, size_t haystack_len, size_t start, size_t end);
 
 /* Whether a reverse program fits the window's tail, up to `end`: the start of the first choice that does, branches being tried from first to
  * last and long ranges before short ones. Refused: 16, then 13, 15. Bytes outside the window are not looked at. */
-tm_check_result tm_reverse(const uint32_t *program, size_t program_len, const uint8_t *haystack, size_t haystack_len, size_t start, size_t end);
+tm_check_result tm_reverse(const uint64_t *program, size_t program_len, const uint8_t *haystack, size_t haystack_len, size_t start, size_t end);
 
 typedef struct {
     uint64_t offset;
@@ -139,7 +139,7 @@ typedef struct {
 
 /* What tm_forward leaves of the window, as a part of the haystack; offset and length are 0 after no match and after a refusal, which tm_forward
  * tells apart, also from a match in an empty window at 0. */
-tm_tail_result tm_tail(const uint32_t *program, size_t program_len, const uint8_t *haystack, size_t haystack_len, size_t start, size_t end);
+tm_tail_result tm_tail(const uint64_t *program, size_t program_len, const uint8_t *haystack, size_t haystack_len, size_t start, size_t end);
 
 typedef struct {
     uint32_t refusal;
@@ -149,12 +149,12 @@ typedef struct {
 /* The mirror of a program: its items and each branch's contents reversed, the branches of an alternation in their order.
  * Refused: 18 if pool_len is below 512, and then nothing changes; else 13, 15, and then the first 512 words are 0.
  * Success: the used words, 0 in the rest of the first 512. Words beyond those stay. */
-tm_mirror_result tm_mirror(const uint32_t *program, size_t program_len, uint32_t *pool, size_t pool_len);
+tm_mirror_result tm_mirror(const uint64_t *program, size_t program_len, uint64_t *pool, size_t pool_len);
 
-/* 1 if the words are a sound program, else 0. Sound are at most 512 words of the kinds that tm_compile names, each below 2^24 and with 0 where
- * nothing is named; a range has its fewest at most its most; an alternation is filled exactly by one or more branches, which stand nowhere
- * else; a branch holds only kinds 0, 1, 2, 3 and 5, or nothing. */
-uint32_t tm_sound(const uint32_t *program, size_t program_len);
+/* 1 if the words are a sound program, else 0. Sound are at most 512 words of the kinds that tm_compile names, each below 2^40 and with 0 where
+ * nothing is named; values and masks are bytes; a range has its fewest at most its most; an alternation is filled exactly by one or more
+ * branches, which stand nowhere else; a branch holds at most 255 words, only of the kinds 0, 1, 2, 3 and 5, or nothing. */
+uint32_t tm_sound(const uint64_t *program, size_t program_len);
 
 #ifdef __cplusplus
 }

@@ -31,7 +31,7 @@ static uint8_t *whole(size_t *n)
 
 /* A line for each match, all of them written: 0, or -1 and errno says why. A check that is refused is no miss; with sound words and a window inside
  * the bytes it is refused by another library alone. */
-static int list(const uint32_t *forward, size_t nodes, const uint8_t *bytes, size_t n)
+static int list(const uint64_t *forward, size_t nodes, const uint8_t *bytes, size_t n)
 {
     for (size_t start = 0; start < n; start++) {
         tm_check_result r = tm_forward(forward, nodes, bytes, n, start, n);
@@ -58,7 +58,7 @@ static int lost(void)
 
 int main(int argc, char **argv)
 {
-    static uint32_t forward[TM_NODE_POOL], reverse[TM_NODE_POOL];
+    static uint64_t forward[TM_NODE_POOL], reverse[TM_NODE_POOL];
 
     if (argc != 2) {
         fprintf(stderr, "usage: example PATTERN < FILE\n");

@@ -12,7 +12,7 @@
 
 #include "tokenmarsh.h"
 
-static uint32_t forward[TM_NODE_POOL], reverse[TM_NODE_POOL];
+static uint64_t forward[TM_NODE_POOL], reverse[TM_NODE_POOL];
 static uint8_t literal_bytes[TM_LITERAL_BYTES];
 static uint16_t lengths[TM_LITERALS];
 
@@ -21,17 +21,17 @@ static size_t places[TM_LITERALS];
 static size_t next[TM_LITERALS], first[256];
 
 /* The bytes of the longest match of so many node words. */
-static size_t longest(const uint32_t *words, size_t count)
+static size_t longest(const uint64_t *words, size_t count)
 {
     size_t sum = 0;
 
     for (size_t i = 0; i < count;) {
-        uint32_t kind = words[i] & 255, a = words[i] >> 8 & 255, b = words[i] >> 16;
+        size_t kind = words[i] & 255, a = words[i] >> 8 & 65535, b = words[i] >> 24 & 65535;
         i++;
         if (kind == 6) {
-            size_t most = 0, end = i + a + 256 * b;
+            size_t most = 0, end = i + a;
             while (i < end) {
-                size_t nodes = words[i] >> 8, one = longest(words + i + 1, nodes);
+                size_t nodes = words[i] >> 8 & 65535, one = longest(words + i + 1, nodes);
                 most = one > most ? one : most;
                 i += 1 + nodes;
             }

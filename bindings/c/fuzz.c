@@ -75,7 +75,7 @@ static void zero(guarded g, size_t from, size_t to, const char *door)
 }
 
 static const char *const pieces[] = {"{", "}", "(", ")", "|", "[", "]", "-", "~", "?", " ", "\n", "00", "4F", "a?", "?b", "??", "[2]", "[1-3]", "[4-]", "[0-255]", "(41|42 43)",
-                                     "( 41 [2] 43 | ~42 )", "[4294967296]", "[3-2]", "\xff"};
+                                     "( 41 [2] 43 | ~42 )", "[4294967296]", "[3-2]", "\xff", "[256]", "[65535]", "[65536]"};
 
 static size_t put(uint8_t *t, size_t n, const char *what, uint32_t times)
 {
@@ -111,6 +111,9 @@ static size_t text(uint8_t *t)
     }
     for (uint32_t i = 0; i < tokens; i++) {
         const char *p = wild ? pieces[below(sizeof pieces / sizeof *pieces)] : pieces[10 + below(13)];
+        /* seldom, since no window here is as long; and no wide range, for several of them multiply a check's time */
+        if (!wild && below(64) == 0)
+            p = "[65535]";
         memcpy(t + n, p, strlen(p));
         n += strlen(p);
         if (below(2))
@@ -170,25 +173,25 @@ static void reading(const uint8_t *t, size_t n, size_t lent)
     back(pool, "tm_read: guard");
 }
 
-static void compiling(const uint8_t *t, size_t n, size_t forward, size_t reverse, uint32_t *program, size_t *words)
+static void compiling(const uint8_t *t, size_t n, size_t forward, size_t reverse, uint64_t *program, size_t *words)
 {
-    guarded f = lend(4 * forward), b = lend(4 * reverse);
-    tm_compile_result r = tm_compile(t, n, (uint32_t *)f.lent, f.n / 4, (uint32_t *)b.lent, b.n / 4);
+    guarded f = lend(8 * forward), b = lend(8 * reverse);
+    tm_compile_result r = tm_compile(t, n, (uint64_t *)f.lent, f.n / 8, (uint64_t *)b.lent, b.n / 8);
     answered(r.refusal, "tm_compile", TEXT | 1u << 12 | 1u << 13 | 1u << 14 | 1u << 18);
-    if ((f.n / 4 < TM_NODE_POOL || b.n / 4 < TM_NODE_POOL) != (r.refusal == 18))
+    if ((f.n / 8 < TM_NODE_POOL || b.n / 8 < TM_NODE_POOL) != (r.refusal == 18))
         fault("tm_compile: 18");
     if (r.refusal == 18) {
         same(f, 0, "tm_compile: 18 changed a pool");
         same(b, 0, "tm_compile: 18 changed a pool");
     } else {
-        zero(f, 4 * r.forward, 4 * TM_NODE_POOL, "tm_compile: words not zeroed");
-        zero(b, 4 * r.reverse, 4 * TM_NODE_POOL, "tm_compile: words not zeroed");
-        same(f, 4 * TM_NODE_POOL, "tm_compile: words beyond changed");
-        same(b, 4 * TM_NODE_POOL, "tm_compile: words beyond changed");
+        zero(f, 8 * r.forward, 8 * TM_NODE_POOL, "tm_compile: words not zeroed");
+        zero(b, 8 * r.reverse, 8 * TM_NODE_POOL, "tm_compile: words not zeroed");
+        same(f, 8 * TM_NODE_POOL, "tm_compile: words beyond changed");
+        same(b, 8 * TM_NODE_POOL, "tm_compile: words beyond changed");
         if (r.refusal == 0) {
-            if (!tm_sound((uint32_t *)f.lent, r.forward) || !tm_sound((uint32_t *)b.lent, r.reverse))
+            if (!tm_sound((uint64_t *)f.lent, r.forward) || !tm_sound((uint64_t *)b.lent, r.reverse))
                 fault("tm_compile: unsound");
-            memcpy(program, f.lent, 4 * r.forward);
+            memcpy(program, f.lent, 8 * r.forward);
             *words = r.forward;
         }
     }
@@ -248,7 +251,7 @@ static void rooms(const uint8_t *t, size_t n, int every)
     }
 }
 
-static void checking(const uint32_t *program, size_t words, size_t bytes, size_t start, size_t end)
+static void checking(const uint64_t *program, size_t words, size_t bytes, size_t start, size_t end)
 {
     guarded hay = lend(bytes);
     for (size_t i = 0; i < hay.n; i++)
@@ -269,25 +272,25 @@ static void checking(const uint32_t *program, size_t words, size_t bytes, size_t
 }
 
 /* A haystack and a window, mostly inside it. */
-static void somewhere(const uint32_t *program, size_t words)
+static void somewhere(const uint64_t *program, size_t words)
 {
     size_t bytes = below(64), start = below((uint32_t)bytes + 2);
     checking(program, words, bytes, start, below(16) ? start + below((uint32_t)bytes + 2) : below(2) ? SIZE_MAX : 0);
 }
 
-static void mirroring(const uint32_t *program, size_t words, size_t lent)
+static void mirroring(const uint64_t *program, size_t words, size_t lent)
 {
-    guarded pool = lend(4 * lent);
-    tm_mirror_result r = tm_mirror(program, words, (uint32_t *)pool.lent, pool.n / 4);
+    guarded pool = lend(8 * lent);
+    tm_mirror_result r = tm_mirror(program, words, (uint64_t *)pool.lent, pool.n / 8);
     answered(r.refusal, "tm_mirror", 1u << 13 | 1u << 15 | 1u << 18);
-    if ((pool.n / 4 < TM_NODE_POOL) != (r.refusal == 18))
+    if ((pool.n / 8 < TM_NODE_POOL) != (r.refusal == 18))
         fault("tm_mirror: 18");
     if (r.refusal == 18)
         same(pool, 0, "tm_mirror: 18 changed the pool");
     else {
-        zero(pool, 4 * r.words, 4 * TM_NODE_POOL, "tm_mirror: words not zeroed");
-        same(pool, 4 * TM_NODE_POOL, "tm_mirror: words beyond changed");
-        if (r.refusal == 0 && (r.words != words || !tm_sound((uint32_t *)pool.lent, r.words)))
+        zero(pool, 8 * r.words, 8 * TM_NODE_POOL, "tm_mirror: words not zeroed");
+        same(pool, 8 * TM_NODE_POOL, "tm_mirror: words beyond changed");
+        if (r.refusal == 0 && (r.words != words || !tm_sound((uint64_t *)pool.lent, r.words)))
             fault("tm_mirror: not a mirror");
     }
     if (r.refusal != 0 && r.words != 0)
@@ -301,7 +304,7 @@ static const char *const texts[] = {"{ 41 [0-2] ( 42 | 43 44 ) }", "{ 41 [2-] 42
 static void every_length(void)
 {
     static uint8_t spaces[4097];
-    static uint32_t program[600];
+    static uint64_t program[600];
     size_t words = 0;
 
     memset(spaces, ' ', sizeof spaces);
@@ -319,7 +322,7 @@ static void every_length(void)
     }
     /* a program, its first word alone, none, an unsound one and one that is too long */
     for (size_t lent = 0; lent <= TM_NODE_POOL + 1; lent++) {
-        const uint32_t branch = 7;
+        const uint64_t branch = 7;
         mirroring(program, words, lent);
         mirroring(program, 1, lent);
         mirroring(NULL, 0, lent);
@@ -335,12 +338,13 @@ static void every_length(void)
 /* A null pointer where nothing is lent. */
 static void nulls(void)
 {
-    static uint32_t pool[TM_TOKEN_POOL], other[TM_NODE_POOL];
+    static uint32_t tokens[TM_TOKEN_POOL];
+    static uint64_t pool[TM_NODE_POOL], other[TM_NODE_POOL];
     static const uint8_t any[] = {'{', '?', '?', '}'};
     tm_check_result f = tm_forward(NULL, 0, NULL, 0, 0, 0), b = tm_reverse(NULL, 0, NULL, 0, 0, 0);
     tm_tail_result tail = tm_tail(NULL, 0, NULL, 0, 0, 0);
 
-    if (tm_read(NULL, 0, NULL, 0).refusal != 18 || tm_read(NULL, 0, pool, TM_TOKEN_POOL).refusal != 2)
+    if (tm_read(NULL, 0, NULL, 0).refusal != 18 || tm_read(NULL, 0, tokens, TM_TOKEN_POOL).refusal != 2)
         fault("tm_read: null");
     if (tm_compile(NULL, 0, NULL, 0, NULL, 0).refusal != 18 || tm_compile(NULL, 0, pool, TM_NODE_POOL, other, TM_NODE_POOL).refusal != 2)
         fault("tm_compile: null");
@@ -352,11 +356,13 @@ static void nulls(void)
         fault("tm_mirror, tm_sound: null");
 }
 
-/* The pool holds the words due, and 0 after them. */
-static void holds(const uint32_t *pool, size_t pool_len, const uint32_t *due, size_t words, const char *door)
+/* So many bytes of a pool hold the words due, and 0 after them. */
+static void holds(const void *pool, size_t pool_size, const void *due, size_t size, const char *door)
 {
-    for (size_t i = 0; i < pool_len; i++)
-        if (pool[i] != (i < words ? due[i] : 0))
+    if (memcmp(pool, due, size) != 0)
+        fault(door);
+    for (size_t i = size; i < pool_size; i++)
+        if (((const uint8_t *)pool)[i] != 0)
             fault(door);
 }
 
@@ -367,26 +373,27 @@ static void known(void)
 {
     static const char tokens[] = "{ AB ~?c [4-] ( 01 | 2? [1] ) 03 } zz", nodes[] = "{ 41 [0-2] ( 42 | 43 44 ) }", picks[] = "{ 01 02 ?3 04 }", empty[] = "{ AB [0] CD }";
     static const uint32_t entries[] = {0, 0xAB, 0, 0, 3, 0xC, 0, 0, 4, 4, 0, 0, 5, 2, 5, 0, 6, 1, 1, 0, 0, 1, 0, 0, 6, 2, 2, 0, 2, 2, 1, 0, 2, 0, 2, 0, 0, 3, 0, 0};
-    static const uint32_t ahead[] = {0x4100, 0x20004, 0x506, 0x107, 0x4200, 0x207, 0x4300, 0x4400}, behind[] = {0x506, 0x107, 0x4200, 0x207, 0x4400, 0x4300, 0x20004, 0x4100};
-    static const uint32_t branch = 7, gap[] = {0x6100, 0x20004, 0x6300}, gap_behind[] = {0x6300, 0x20004, 0x6100};
+    static const uint64_t ahead[] = {0x4100, 0x2000004, 0x506, 0x107, 0x4200, 0x207, 0x4300, 0x4400}, behind[] = {0x506, 0x107, 0x4200, 0x207, 0x4400, 0x4300, 0x2000004, 0x4100};
+    static const uint64_t branch = 7, gap[] = {0x6100, 0x2000004, 0x6300}, gap_behind[] = {0x6300, 0x2000004, 0x6100};
     static const uint8_t hay[] = {'x', 'x', 'a', 'b', 'c', 'x', 'a', 'c', 'y', 'y'};
-    static uint32_t pool[TM_TOKEN_POOL], other[TM_NODE_POOL + 1];
+    static uint32_t token_pool[TM_TOKEN_POOL];
+    static uint64_t pool[TM_NODE_POOL], other[TM_NODE_POOL + 1];
     static uint8_t bytes[TM_LITERAL_BYTES];
     static uint16_t lengths[TM_LITERALS];
 
-    tm_read_result r = tm_read((const uint8_t *)tokens, sizeof tokens - 1, pool, TM_TOKEN_POOL);
+    tm_read_result r = tm_read((const uint8_t *)tokens, sizeof tokens - 1, token_pool, TM_TOKEN_POOL);
     if (r.refusal != 0 || r.place != 0 || r.reached != 35 || r.words != 40)
         fault("tm_read: a known answer");
-    holds(pool, TM_TOKEN_POOL, entries, 40, "tm_read: known words");
-    r = tm_read((const uint8_t *)empty, sizeof empty - 1, pool, TM_TOKEN_POOL);
+    holds(token_pool, sizeof token_pool, entries, sizeof entries, "tm_read: known words");
+    r = tm_read((const uint8_t *)empty, sizeof empty - 1, token_pool, TM_TOKEN_POOL);
     if (r.refusal != 4 || r.place != 5 || r.reached != 0 || r.words != 0)
         fault("tm_read: a known refusal");
 
     tm_compile_result c = tm_compile((const uint8_t *)nodes, sizeof nodes - 1, pool, TM_NODE_POOL, other, TM_NODE_POOL + 1);
     if (c.refusal != 0 || c.place != 0 || c.reached != 27 || c.forward != 8 || c.reverse != 8)
         fault("tm_compile: a known answer");
-    holds(pool, TM_NODE_POOL, ahead, 8, "tm_compile: known forward words");
-    holds(other, TM_NODE_POOL, behind, 8, "tm_compile: known reverse words");
+    holds(pool, sizeof pool, ahead, sizeof ahead, "tm_compile: known forward words");
+    holds(other, sizeof other, behind, sizeof behind, "tm_compile: known reverse words");
     c = tm_compile((const uint8_t *)empty, sizeof empty - 1, pool, TM_NODE_POOL, other, TM_NODE_POOL + 1);
     if (c.refusal != 4 || c.place != 5 || c.reached != 0 || c.forward != 0 || c.reverse != 0)
         fault("tm_compile: a known refusal");
@@ -418,7 +425,7 @@ static void known(void)
     tm_mirror_result m = tm_mirror(ahead, 8, pool, TM_NODE_POOL);
     if (m.refusal != 0 || m.words != 8)
         fault("tm_mirror: a known answer");
-    holds(pool, TM_NODE_POOL, behind, 8, "tm_mirror: known words");
+    holds(pool, sizeof pool, behind, sizeof behind, "tm_mirror: known words");
     m = tm_mirror(&branch, 1, pool, TM_NODE_POOL);
     if (m.refusal != 15 || m.words != 0)
         fault("tm_mirror: a known refusal");
@@ -426,10 +433,140 @@ static void known(void)
         fault("tm_sound: a known answer");
 }
 
+/* A node word by its kind and fields, and the longest jump. */
+#define WORD(kind, first, second) ((uint64_t)(kind) + ((uint64_t)(first) << 8) + ((uint64_t)(second) << 24))
+enum { LONGEST = 65535 };
+
+/* A text compiles to these words. */
+static void compiles(const char *text, const uint64_t *ahead, const uint64_t *behind, size_t words)
+{
+    static uint64_t forward[TM_NODE_POOL], reverse[TM_NODE_POOL];
+    tm_compile_result r = tm_compile((const uint8_t *)text, strlen(text), forward, TM_NODE_POOL, reverse, TM_NODE_POOL);
+
+    if (r.refusal != 0 || r.forward != words || r.reverse != words)
+        fault(text);
+    holds(forward, sizeof forward, ahead, 8 * words, text);
+    holds(reverse, sizeof reverse, behind, 8 * words, text);
+}
+
+/* Every door says that these words are no sound program. */
+static void unsound(const uint64_t *program, size_t words, const char *why)
+{
+    static const uint8_t hay[] = {'A', 'A'};
+    static uint64_t pool[TM_NODE_POOL];
+
+    if (tm_sound(program, words) != 0 || tm_forward(program, words, hay, 2, 0, 2).refusal != 15 || tm_reverse(program, words, hay, 2, 0, 2).refusal != 15 ||
+        tm_mirror(program, words, pool, TM_NODE_POOL).refusal != 15)
+        fault(why);
+}
+
+/* A program fits just the whole haystack, or nothing in it, and so does its mirror. */
+static void fits(const uint64_t *program, size_t words, const uint8_t *hay, size_t n, uint32_t whole, const char *why)
+{
+    static uint64_t pool[TM_NODE_POOL];
+    tm_mirror_result m = tm_mirror(program, words, pool, TM_NODE_POOL);
+    tm_check_result f = tm_forward(program, words, hay, n, 0, n), b = tm_reverse(pool, words, hay, n, 0, n);
+
+    if (tm_sound(program, words) != 1 || m.refusal != 0 || f.refusal != 0 || f.found != whole || f.offset != (whole ? n : 0) || b.refusal != 0 || b.found != whole || b.offset != 0)
+        fault(why);
+}
+
+/* The same, of a word between two bytes and a gap between them. */
+static void gaps(uint64_t word, size_t gap, uint32_t whole, const char *why)
+{
+    const uint64_t program[] = {WORD(0, 'B', 0), word, WORD(0, 'A', 0)};
+    uint8_t *hay = calloc(gap + 2, 1);
+
+    hay[0] = 'B', hay[gap + 1] = 'A';
+    fits(program, 3, hay, gap + 2, whole, why);
+    free(hay);
+}
+
+/* Texts that compile, and jumps that are too long for it. */
+static void compiled(void)
+{
+    static const uint64_t mask[] = {0xF000A001}, run[] = {0xAB00, WORD(3, 450, 0), 0xCD00}, run_behind[] = {0xCD00, WORD(3, 450, 0), 0xAB00};
+    /* No mirror of each other: what a node has room for depends on the side that is begun from. */
+    static const uint64_t jumps[] = {0xAB00, WORD(3, 25000, 0), WORD(3, 62000, 0), WORD(3, 25000, 0), 0xCD00};
+    static const uint64_t jumps_behind[] = {0xCD00, WORD(3, 37000, 0), WORD(3, 50000, 0), WORD(3, 25000, 0), 0xAB00};
+    static const uint64_t most[] = {0xAB00, WORD(3, LONGEST, 0), 0xCD00}, most_behind[] = {0xCD00, WORD(3, LONGEST, 0), 0xAB00};
+    static const uint64_t over[] = {0xAB00, WORD(3, LONGEST, 0), WORD(3, 1, 0), 0xCD00}, over_behind[] = {0xCD00, WORD(3, 1, 0), WORD(3, LONGEST, 0), 0xAB00};
+    static const uint64_t upto[] = {0xAB00, WORD(4, 256, LONGEST), 0xCD00}, upto_behind[] = {0xCD00, WORD(4, 256, LONGEST), 0xAB00};
+    static const char *const others[] = {"{ AB [65536] CD }", "{ AB [0-65536] CD }", "{ AB [4294967295] CD }", "{ AB [65535-] CD }", "{ AB [-] CD }"};
+    static uint64_t pool[TM_NODE_POOL], other[TM_NODE_POOL];
+
+    compiles("{ A? }", mask, mask, 1);
+    compiles("{ AB [100] [200] [50] [100] CD }", run, run_behind, 3);
+    compiles("{ AB [25000] [50000] [12000] [25000] CD }", jumps, jumps_behind, 5);
+    compiles("{ AB [65535] CD }", most, most_behind, 3);
+    compiles("{ AB [65534] ?? CD }", most, most_behind, 3);
+    compiles("{ AB [65535] ?? CD }", over, over_behind, 4);
+    compiles("{ AB [256-65535] CD }", upto, upto_behind, 3);
+    for (size_t k = 0; k < sizeof others / sizeof *others; k++)
+        if (tm_compile((const uint8_t *)others[k], strlen(others[k]), pool, TM_NODE_POOL, other, TM_NODE_POOL).refusal != 12)
+            fault(others[k]);
+}
+
+/* Where the fields of a word begin and end, and what is only a byte. */
+static void fields(void)
+{
+    static const uint64_t wrong[] = {WORD(0, 256, 0), WORD(1, 256, 255), WORD(1, 0, 256), WORD(2, 256, 255), WORD(2, 0, 256), WORD(0, 65, 1), WORD(3, 1, 1),
+                                     WORD(4, 2, 1), WORD(5, 1, 0), WORD(5, 0, 1), WORD(8, 0, 0), UINT64_MAX, 4 + 256 * 1 + 65536 * 2, 1 + 256 * 0xA0 + 65536 * 0xF0};
+    static const uint64_t one[] = {WORD(6, 1, 0), WORD(7, 0, 0)}, counts_above[] = {WORD(6, 1, 1), WORD(7, 0, 0)};
+    static uint64_t program[TM_NODE_POOL];
+    static uint8_t as[255];
+
+    for (int bit = 40; bit < 64; bit++) {
+        const uint64_t word = WORD(0, 65, 0) + ((uint64_t)1 << bit);
+        unsound(&word, 1, "a bit above a word's fields");
+    }
+    for (size_t k = 0; k < sizeof wrong / sizeof *wrong; k++)
+        unsound(wrong + k, 1, "a word that is wrong by itself");
+    if (tm_sound(one, 2) != 1)
+        fault("an empty branch");
+    unsound(counts_above, 2, "an alternation that counts in its second field");
+
+    memset(as, 'A', sizeof as);
+    for (size_t k = 2; k < TM_NODE_POOL; k++)
+        program[k] = WORD(0, 'A', 0);
+    program[0] = WORD(6, 256, 0), program[1] = WORD(7, 255, 0);
+    fits(program, 257, as, 255, 1, "a branch of 255");
+    program[0] = WORD(6, 257, 0), program[1] = WORD(7, 256, 0);
+    unsound(program, 258, "a branch of 256");
+    program[0] = WORD(6, 511, 0), program[1] = WORD(7, 255, 0), program[257] = WORD(7, 254, 0);
+    fits(program, 512, as, 255, 1, "an alternation of 511");
+}
+
+/* Jumps and ranges that 8 bits have no room for, in what is too short for them, just long enough and too long. */
+static void lengths(void)
+{
+    static uint64_t program[TM_NODE_POOL];
+    size_t sum = (size_t)TM_NODE_POOL * LONGEST;
+    uint8_t *hay = calloc(sum, 1);
+
+    for (size_t gap = 0; gap < 4; gap++)
+        gaps(WORD(4, 1, 2), gap, gap == 1 || gap == 2, "a range of 1 to 2");
+    static const size_t tried[] = {0, 1, 44, 255, 256, 300, 301, LONGEST - 1, LONGEST, LONGEST + 1};
+    for (size_t k = 0; k < sizeof tried / sizeof *tried; k++) {
+        gaps(WORD(4, 256, 300), tried[k], tried[k] >= 256 && tried[k] <= 300, "a range of 256 to 300");
+        gaps(WORD(4, 0, LONGEST), tried[k], tried[k] <= LONGEST, "the longest range");
+        gaps(WORD(3, 300, 0), tried[k], tried[k] == 300, "a jump of 300");
+        gaps(WORD(3, LONGEST, 0), tried[k], tried[k] == LONGEST, "the longest jump");
+    }
+    /* The most that a program can ask for, in as many bytes, and in as many as 8 and 16 bits of their number say. */
+    for (size_t k = 0; k < TM_NODE_POOL; k++)
+        program[k] = WORD(3, LONGEST, 0);
+    fits(program, TM_NODE_POOL, hay, sum, 1, "512 of the longest jumps");
+    fits(program, TM_NODE_POOL, hay, sum - 1, 0, "512 of the longest jumps, a byte short");
+    fits(program, TM_NODE_POOL, hay, sum & 255, 0, "512 of the longest jumps in 8 bits");
+    fits(program, TM_NODE_POOL, hay, sum & 65535, 0, "512 of the longest jumps in 16 bits");
+    free(hay);
+}
+
 int main(int argc, char **argv)
 {
     static uint8_t t[8192];
-    static uint32_t program[600], spoilt[600];
+    static uint64_t program[600], spoilt[600];
     size_t words = 0;
     unsigned long rounds = argc > 2 ? strtoul(argv[2], NULL, 10) : 10000;
 
@@ -437,6 +574,9 @@ int main(int argc, char **argv)
         fault("tm_version");
     state = argc > 1 ? strtoull(argv[1], NULL, 10) * 2 + 1 : 1;
     known();
+    compiled();
+    fields();
+    lengths();
     nulls();
     every_length();
     for (unsigned long i = 0; i < rounds; i++) {
@@ -450,7 +590,7 @@ int main(int argc, char **argv)
         /* a damaged copy, and now and then one that is too long */
         memcpy(spoilt, program, sizeof program);
         if (words > 0)
-            spoilt[below((uint32_t)words)] ^= 1u << below(32);
+            spoilt[below((uint32_t)words)] ^= (uint64_t)1 << below(64);
         somewhere(spoilt, below(50) ? words : 600);
         mirroring(spoilt, below(50) ? words : 600, around(TM_NODE_POOL));
     }

@@ -35,7 +35,7 @@ tm_read_result tm_read(const uint8_t *text, size_t text_len, uint32_t *pool, siz
     ANSWER(tm_read_result);
 }
 
-tm_compile_result tm_compile(const uint8_t *text, size_t text_len, uint32_t *forward, size_t forward_len, uint32_t *reverse, size_t reverse_len)
+tm_compile_result tm_compile(const uint8_t *text, size_t text_len, uint64_t *forward, size_t forward_len, uint64_t *reverse, size_t reverse_len)
 {
     (void)text, (void)forward, (void)forward_len, (void)reverse, (void)reverse_len;
     if (is("late"))
@@ -49,32 +49,32 @@ tm_literals_result tm_literals(const uint8_t *text, size_t text_len, uint8_t *by
     ANSWER(tm_literals_result);
 }
 
-tm_check_result tm_forward(const uint32_t *program, size_t program_len, const uint8_t *haystack, size_t haystack_len, size_t start, size_t end)
+tm_check_result tm_forward(const uint64_t *program, size_t program_len, const uint8_t *haystack, size_t haystack_len, size_t start, size_t end)
 {
     (void)program, (void)program_len, (void)haystack, (void)haystack_len, (void)start, (void)end;
     ANSWER(tm_check_result);
 }
 
-tm_check_result tm_reverse(const uint32_t *program, size_t program_len, const uint8_t *haystack, size_t haystack_len, size_t start, size_t end)
+tm_check_result tm_reverse(const uint64_t *program, size_t program_len, const uint8_t *haystack, size_t haystack_len, size_t start, size_t end)
 {
     return tm_forward(program, program_len, haystack, haystack_len, start, end);
 }
 
 /* Without a refusal, and 0 and 0 after one. */
-tm_tail_result tm_tail(const uint32_t *program, size_t program_len, const uint8_t *haystack, size_t haystack_len, size_t start, size_t end)
+tm_tail_result tm_tail(const uint64_t *program, size_t program_len, const uint8_t *haystack, size_t haystack_len, size_t start, size_t end)
 {
     (void)program, (void)program_len, (void)haystack, (void)haystack_len, (void)start, (void)end;
     return (tm_tail_result){0, 0};
 }
 
-tm_mirror_result tm_mirror(const uint32_t *program, size_t program_len, uint32_t *pool, size_t pool_len)
+tm_mirror_result tm_mirror(const uint64_t *program, size_t program_len, uint64_t *pool, size_t pool_len)
 {
     (void)program, (void)program_len, (void)pool, (void)pool_len;
     ANSWER(tm_mirror_result);
 }
 
 /* Every program is sound, so that there are some to be checked. */
-uint32_t tm_sound(const uint32_t *program, size_t program_len)
+uint32_t tm_sound(const uint64_t *program, size_t program_len)
 {
     (void)program, (void)program_len;
     return 1;

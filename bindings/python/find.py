@@ -18,12 +18,12 @@ def longest(words: Sequence[int]) -> int:
     """The bytes of the longest match of some node words."""
     total, i = 0, 0
     while i < len(words):
-        kind, a, b = words[i] & 255, words[i] >> 8 & 255, words[i] >> 16
+        kind, a, b = words[i] & 255, words[i] >> 8 & 65535, words[i] >> 24 & 65535
         i += 1
         if kind == 6:
-            most, end = 0, i + a + 256 * b
+            most, end = 0, i + a
             while i < end:
-                nodes = words[i] >> 8
+                nodes = words[i] >> 8 & 65535
                 most = max(most, longest(words[i + 1:i + 1 + nodes]))
                 i += 1 + nodes
             total += most

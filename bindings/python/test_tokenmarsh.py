@@ -7,8 +7,17 @@ import random
 import threading
 import unittest
 
+import find
 import tokenmarsh
 from tokenmarsh import Alternatives, Byte, Forward, Jump, Mask, MaskedByte, NotByte, NotMaskedByte, Refusal, Refused, Reverse
+
+# The longest jump that is compiled.
+LONGEST = 65535
+
+
+def word(kind, first=0, second=0):
+    """A node word by its kind and fields."""
+    return kind + (first << 8) + (second << 24)
 
 
 def some_tokens(dice, most, nested=False):
@@ -53,8 +62,17 @@ class Doors(unittest.TestCase):
         self.assertEqual(tokenmarsh.read(b"{ ~AB }").tokens, (NotByte(0xAB),))
 
     def test_programs(self):
-        self.assertEqual(tokenmarsh.compile(b"{ A? }").forward.words, (0x00F0A001,))
-        self.refused(lambda: tokenmarsh.compile(b"{ AB [256] CD }"), Refusal.NOT_SIMPLE)
+        self.assertEqual(tokenmarsh.compile(b"{ A? }").forward.words, (0xF000A001,))
+        self.assertEqual(repr(tokenmarsh.compile(b"{ A? }").reverse), "Reverse([0x00F000A001])")
+        self.assertEqual(tokenmarsh.compile(b"{ AB [256-65535] CD }").forward.words, (0xAB00, word(4, 256, LONGEST), 0xCD00))
+        for jump in ("[65536]", "[0-65536]", "[4294967295]", "[65535-]", "[-]"):
+            self.refused(lambda: tokenmarsh.compile(b"{ AB %s CD }" % jump.encode()), Refusal.NOT_SIMPLE)
+        # between AB and CD, what jumps become forward and in reverse
+        for jumps, ahead, back in (("[100] [200] [50] [100]", [450], [450]), ("[25000] [50000] [12000] [25000]", [25000, 62000, 25000], [37000, 50000, 25000]),
+                                   ("[256]", [256], [256]), ("[65535]", [LONGEST], [LONGEST]), ("[65534] ??", [LONGEST], [LONGEST]), ("[65535] ??", [LONGEST, 1], [1, LONGEST])):
+            pattern = tokenmarsh.compile(b"{ AB %s CD }" % jumps.encode())
+            self.assertEqual(pattern.forward.words, (0xAB00, *(word(3, n) for n in ahead), 0xCD00), jumps)
+            self.assertEqual(pattern.reverse.words, (0xCD00, *(word(3, n) for n in back), 0xAB00), jumps)
         for kind in (Forward, Reverse):
             self.refused(lambda: kind([7]), Refusal.UNSOUND)
             self.refused(lambda: kind([7] * 513), Refusal.TOO_MANY_NODES)
@@ -69,15 +87,68 @@ class Doors(unittest.TestCase):
         self.assertNotEqual(pattern.forward, pattern.reverse)
         self.assertFalse(hasattr(pattern.forward, "start") or hasattr(pattern.reverse, "end"))
 
-    def test_words_have_32_bits(self):
-        for words in ([1 << 32], (-1,), [0, 1 << 64]):
-            for door in (Forward, Reverse, tokenmarsh.sound, tokenmarsh.mirror, lambda w: tokenmarsh.forward(w, b"", 0, 0)):
+    WORD_DOORS = (Forward, Reverse, tokenmarsh.mirror, lambda w: tokenmarsh.forward(w, b"", 0, 0), lambda w: tokenmarsh.reverse(w, b"", 0, 0))
+
+    def test_words_have_64_bits(self):
+        # the last is 0 in 64 bits, and that word is sound
+        for words in ((-1,), [0, (1 << 64) + 1], [1 << 64]):
+            for door in (tokenmarsh.sound, *self.WORD_DOORS):
                 with self.assertRaises(ValueError) as caught:
                     door(words)
                 self.assertNotIsInstance(caught.exception, Refused)
-        self.assertFalse(tokenmarsh.sound([(1 << 32) - 1]))
-        self.assertRaises(TypeError, Forward, [0.0])
-        self.assertRaises(TypeError, Forward, ["0"])
+        for words in ([0.0], ["0"], [None], "0", 0):
+            for door in (tokenmarsh.sound, *self.WORD_DOORS):
+                self.assertRaises(TypeError, door, words)
+        # to Python a bool is a number
+        self.assertEqual(Forward([False]).words, (0,))
+        self.unsound([(1 << 64) - 1])
+
+    def unsound(self, words):
+        self.assertFalse(tokenmarsh.sound(words), words)
+        for door in self.WORD_DOORS:
+            self.refused(lambda: door(words), Refusal.UNSOUND)
+
+    def test_unsound_words(self):
+        # all above the fields
+        for bit in range(40, 64):
+            self.unsound([0x4100 + (1 << bit)])
+        # the second field begins at 2^24, and not at 2^16
+        self.assertTrue(tokenmarsh.sound([word(4, 1, 2)]))
+        self.unsound([4 + 256 * 1 + 65536 * 2])
+        self.unsound([word(4, 2, 1)])
+        # values and masks are bytes
+        for one in (word(0, 256), word(1, 256, 255), word(1, 0, 256), word(2, 256, 255), word(2, 0, 256)):
+            self.unsound([one])
+        # a branch has at most 255 words; an alternation may count more, and in its first field alone
+        def branch(count):
+            return [word(7, count)] + [0x4100] * count
+        self.assertTrue(tokenmarsh.sound([word(6, 256), *branch(255)]))
+        self.unsound([word(6, 257), *branch(256)])
+        self.assertTrue(tokenmarsh.sound([word(6, 511), *branch(255), *branch(254)]))
+        self.unsound([word(6, 1, 1), word(7)])
+
+    def test_fields_have_their_width(self):
+        for gap in (0, 1, 2, 3, 44, 255, 256, 300, 301, LONGEST - 1, LONGEST, LONGEST + 1):
+            window = b"B" + bytes(gap) + b"A"
+            for one, fits in ((word(4, 1, 2), 1 <= gap <= 2), (word(4, 256, 300), 256 <= gap <= 300), (word(4, 0, LONGEST), gap <= LONGEST),
+                              (word(3, 300), gap == 300), (word(3, LONGEST), gap == LONGEST)):
+                program = Forward([0x4200, one, 0x4100])
+                self.assertEqual((program.end(window), program.mirror().start(window)), (len(window), 0) if fits else (None, None), (hex(one), gap))
+
+    def test_lengths_do_not_overflow(self):
+        # the most that a program can ask for, in as many bytes, one fewer, and as many as 8 and 16 bits of their number say
+        program, window = Forward([word(3, LONGEST)] * 512), bytes(512 * LONGEST)
+        self.assertEqual((program.end(window), program.mirror().start(window)), (len(window), 0))
+        for length in (len(window) - 1, len(window) & 255, len(window) & 65535):
+            self.assertEqual((program.end(window[:length]), program.mirror().start(window[:length])), (None, None), length)
+
+    def test_the_longest_match(self):
+        short, long = [word(7), word(7, 1), word(3, 7)], [word(7, 2), word(3, 300), 0x4100]
+        alternation = [word(6, 3 * 86 + 3), *short * 86, *long]
+        for words, due in (([], 0), ([0x4100, word(1, 0xA0, 0xF0), word(2, 0, 255), word(5)], 4), ([word(3, 300)], 300), ([word(4, 256, LONGEST)], LONGEST),
+                           ([*alternation, 0x4100], 302), ([word(3, LONGEST)] * 512, 512 * LONGEST)):
+            self.assertTrue(tokenmarsh.sound(words))
+            self.assertEqual(find.longest(words), due)
 
     def test_first_choice(self):
         self.assertEqual(tokenmarsh.compile(b"{ (61|61 62) 63 }").forward.end(b"abc"), 3)

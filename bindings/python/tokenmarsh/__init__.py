@@ -13,7 +13,7 @@ A pattern, a window and a haystack are `bytes` or anything whose items are bytes
 each call, so a long haystack that is searched at many places should be `bytes`, and the places the numbers that `forward` and `reverse` take.
 
 A call that has no answer raises `Refused`, which has the refusal's number and its place in the text, and says what was expected and what stands there. What is
-no bytes at all is a TypeError, and a word that has more than 32 bits a ValueError. An answer that no library of this version gives is a RuntimeError.
+no bytes at all is a TypeError, and a word that is negative or has more than 64 bits a ValueError. An answer that no library of this version gives is a RuntimeError.
 
 What follows a pattern's closing brace and its blanks is ignored; `reached` is where it begins. Patterns of others should be taken by `strict=True`:
 
@@ -47,7 +47,7 @@ from typing import Any, Iterable, List, NamedTuple, Optional, Sequence, Tuple, U
 
 from . import _messages
 
-__version__ = "0.2.0"
+__version__ = "0.3.0"
 
 __all__ = ["Buffer", "Refusal", "Refused", "Leftover", "Mask", "Byte", "NotByte", "MaskedByte", "NotMaskedByte", "Jump", "Alternatives", "Token", "Read", "Forward", "Reverse",
            "Pattern", "Literals", "read", "compile", "literals", "forward", "reverse", "mirror", "sound"]
@@ -224,9 +224,9 @@ def _load() -> ctypes.CDLL:
     named = os.environ.get("TOKENMARSH_SO")
     # The repository's own build, or PREFIX/lib as `make install` lays it out, three folders above this one; else where the system looks.
     above = os.path.abspath(os.path.join(os.path.dirname(__file__), "..", "..", ".."))
-    near = [os.path.join(above, "target", "staticlib", "libtokenmarsh.so"), os.path.join(above, "libtokenmarsh.so.0.2")]
+    near = [os.path.join(above, "target", "staticlib", "libtokenmarsh.so"), os.path.join(above, "libtokenmarsh.so.0.3")]
     # A name without a folder is a file here, and not one where the system looks.
-    path = os.path.abspath(named) if named else next(filter(os.path.exists, near), "libtokenmarsh.so.0.2")
+    path = os.path.abspath(named) if named else next(filter(os.path.exists, near), "libtokenmarsh.so.0.3")
     try:
         lib = _declared(ctypes.CDLL(path))
     except (OSError, AttributeError) as error:
@@ -243,18 +243,18 @@ def _load() -> ctypes.CDLL:
 def _declared(lib: ctypes.CDLL) -> ctypes.CDLL:
     """The library, its functions declared. An AttributeError if it lacks one, and so is another library."""
     text = [ctypes.c_char_p, _size]
-    words = [ctypes.POINTER(_u32), _size]
-    window = words + [ctypes.c_char_p, _size, _size, _size]
+    tokens, nodes = [ctypes.POINTER(_u32), _size], [ctypes.POINTER(_u64), _size]
+    window = nodes + [ctypes.c_char_p, _size, _size, _size]
     for name, result, arguments in (
         ("tm_version", _u32, []),
-        ("tm_read", _ReadResult, text + words),
-        ("tm_compile", _CompileResult, text + words + words),
+        ("tm_read", _ReadResult, text + tokens),
+        ("tm_compile", _CompileResult, text + nodes + nodes),
         ("tm_literals", _LiteralsResult, text + [ctypes.POINTER(_u8), _size, ctypes.POINTER(_u16), _size]),
         ("tm_forward", _CheckResult, window),
         ("tm_reverse", _CheckResult, window),
         ("tm_tail", _TailResult, window),
-        ("tm_mirror", _MirrorResult, words + words),
-        ("tm_sound", _u32, words),
+        ("tm_mirror", _MirrorResult, nodes + nodes),
+        ("tm_sound", _u32, nodes),
     ):
         function = getattr(lib, name)
         function.restype, function.argtypes = result, arguments
@@ -272,11 +272,12 @@ def _bytes(lent: Buffer) -> bytes:
     return lent if type(lent) is bytes else bytes(view)
 
 
-def _words(words: Iterable[int]) -> Tuple["ctypes.Array[ctypes.c_uint32]", int]:
+def _words(words: Iterable[int]) -> Tuple["ctypes.Array[ctypes.c_uint64]", int]:
+    """Node words to lend. ctypes would cut a number down to 64 bits, and what is cut may be sound."""
     lent = tuple(map(operator.index, words))
-    if any(not 0 <= w < 1 << 32 for w in lent):
-        raise ValueError("a word has 32 bits")
-    return (_u32 * len(lent))(*lent), len(lent)
+    if any(not 0 <= w < 1 << 64 for w in lent):
+        raise ValueError("a word has 64 bits")
+    return (_u64 * len(lent))(*lent), len(lent)
 
 
 def _offset(number: int) -> int:
@@ -358,7 +359,7 @@ class _Program:
 
     @property
     def words(self) -> Tuple[int, ...]:
-        """Its node words."""
+        """Its node words, each kind + 2**8 * first + 2**24 * second: include/tokenmarsh.h says what these mean."""
         return self._words
 
     def __eq__(self, other: object) -> bool:
@@ -368,7 +369,7 @@ class _Program:
         return hash((type(self), self.words))
 
     def __repr__(self) -> str:
-        return "%s([%s])" % (type(self).__name__, ", ".join(f"0x{w:08X}" for w in self.words))
+        return "%s([%s])" % (type(self).__name__, ", ".join(f"0x{w:010X}" for w in self.words))
 
 
 class Forward(_Program):
@@ -413,7 +414,7 @@ class Pattern(NamedTuple):
 def compile(text: Buffer, *, strict: bool = False) -> Pattern:
     """The two programs of a hexadecimal string. Refusals 1 to 11, then 12, 14, 13; then, if strict, what follows the closing brace and its blanks."""
     text = _bytes(text)
-    ahead, back = (_u32 * NODE_POOL)(), (_u32 * NODE_POOL)()
+    ahead, back = (_u64 * NODE_POOL)(), (_u64 * NODE_POOL)()
     r = _answered(_lib.tm_compile(text, len(text), ahead, NODE_POOL, back, NODE_POOL), text)
     return Pattern(Forward(ahead[:_within(r.forward, NODE_POOL)]), Reverse(back[:_within(r.reverse, NODE_POOL)]), _reached(r, text, strict))
 
@@ -451,7 +452,7 @@ def reverse(words: Iterable[int], haystack: Buffer, start: int, end: int) -> Opt
 def mirror(words: Iterable[int]) -> Tuple[int, ...]:
     """The words of the mirror. Refusals 13, 15."""
     lent, n = _words(words)
-    pool = (_u32 * NODE_POOL)()
+    pool = (_u64 * NODE_POOL)()
     r = _answered(_lib.tm_mirror(lent, n, pool, NODE_POOL))
     return tuple(pool[:_within(r.words, NODE_POOL)])
 

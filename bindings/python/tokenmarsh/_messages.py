@@ -160,9 +160,9 @@ def _not_simple(text: bytes, token: _Token) -> str:
     """Refusal 12: why this token is not simple, if it isn't."""
     jump = f"the jump {_jump_at(text, token.at)} at {token.at} is"
     if token.signs == b"[" and token.to is None:
-        return f"{jump} unbounded, and 255 is the most"
-    if token.to is not None and token.to > 255:
-        return f"{jump} above 255"
+        return f"{jump} unbounded, and 65,535 is the most"
+    if token.to is not None and token.to > 65535:
+        return f"{jump} above 65,535"
     if token.to is not None and token.to != token.start and token.depth:
         return f"{jump} a range, and in alternatives only [n] compiles"
     if token.signs == b"(" and token.depth:

@@ -11,23 +11,23 @@ use std::io::{self, BufWriter, ErrorKind, Write};
 use std::os::unix::ffi::OsStrExt;
 use std::{env, error::Error, fs, process::ExitCode};
 
-use tokenmarsh::{Pattern, literals};
+use tokenmarsh::{NodeWord, Pattern, literals};
 
 /// The bytes of the longest match of some node words.
-fn longest(mut words: &[u32]) -> usize {
+fn longest(mut words: &[NodeWord]) -> usize {
     let mut sum = 0;
     while let Some((word, rest)) = words.split_first() {
-        let (kind, a, b) = (word & 255, (word >> 8 & 255) as usize, (word >> 16) as usize);
+        let (kind, a, b) = (word & 255, (word >> 8 & 65535) as usize, (word >> 24 & 65535) as usize);
         words = rest;
         sum += match kind {
             3 => a,
             4 => b,
             6 => {
-                let (mut branches, rest) = words.split_at(a + 256 * b);
+                let (mut branches, rest) = words.split_at(a);
                 words = rest;
                 let mut most = 0;
                 while let Some((branch, rest)) = branches.split_first() {
-                    let (nodes, rest) = rest.split_at((branch >> 8) as usize);
+                    let (nodes, rest) = rest.split_at((branch >> 8 & 65535) as usize);
                     most = most.max(longest(nodes));
                     branches = rest;
                 }

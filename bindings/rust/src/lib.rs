@@ -2,7 +2,7 @@
 //!
 //! The work is done by libtokenmarsh.a, a library whose every function is proved to meet its contract; this crate is a thin and safe layer over
 //! its C functions. What the types rule out needs no test at run time: a program is sound and has one direction ([`Forward`],
-//! [`Reverse`]), and a window is a slice.
+//! [`Reverse`]), and a window is a slice. The words of a program are [`NodeWord`]s.
 //!
 //! A text that is refused is an error that says what was expected, what stands there and where ([`Refused`]). What follows a pattern's closing brace is
 //! ignored; [`Pattern::compile_strict`] refuses it. A library of another version is an error too, and an answer that no library of this version gives
@@ -47,7 +47,7 @@ mod tokens;
 use std::fmt::Arguments;
 
 pub use literals::{Literals, literals, literals_strict};
-pub use program::{Forward, Pattern, Reverse};
+pub use program::{Forward, NodeWord, Pattern, Reverse};
 pub use refusal::{Refusal, Refused};
 pub use tokens::{Mask, Token, Tokens, read, read_strict};
 

@@ -216,9 +216,11 @@ fn not_simple(text: &[u8], token: &Token) -> Option<String> {
     let at = token.at;
     match token.kind {
         Kind::Jump(_, None) => {
-            Some(format!("the jump {} at {at} is unbounded, and 255 is the most", jump_at(text, at)))
+            Some(format!("the jump {} at {at} is unbounded, and 65,535 is the most", jump_at(text, at)))
         }
-        Kind::Jump(_, Some(to)) if to > 255 => Some(format!("the jump {} at {at} is above 255", jump_at(text, at))),
+        Kind::Jump(_, Some(to)) if to > 65535 => {
+            Some(format!("the jump {} at {at} is above 65,535", jump_at(text, at)))
+        }
         Kind::Jump(from, Some(to)) if from != to && token.depth > 0 => {
             Some(format!("the jump {} at {at} is a range, and in alternatives only [n] compiles", jump_at(text, at)))
         }

@@ -1,12 +1,26 @@
 use crate::refusal::{Refusal, Refused};
 use crate::{NODE_POOL, broken, nothing_after, of_this_version, raw, refused, within};
 
+/// A word of a program: kind + 2^8 * first + 2^24 * second, of a kind below 2^8 and two fields below 2^16. What they mean stands in include/tokenmarsh.h
+/// at `tm_compile`, and which words are sound at `tm_sound`.
+///
+/// ```
+/// use tokenmarsh::{Forward, NodeWord, Pattern, Refusal};
+///
+/// // A mask, with its value and its bits.
+/// let word: NodeWord = 1 + (0xA0 << 8) + (0xF0 << 24);
+/// assert_eq!(Pattern::compile(b"{ A? }").unwrap().forward.words(), [word]);
+/// // What is above the fields is 0 in a sound program.
+/// assert_eq!(Forward::new(&[word + (1 << 40)]), Err(Refusal::Unsound));
+/// ```
+pub type NodeWord = u64;
+
 /// Words that are a sound program: tested once, or written by a proved function that promises it.
 #[derive(Clone, Debug, PartialEq, Eq, Hash)]
-struct Sound(Box<[u32]>);
+struct Sound(Box<[NodeWord]>);
 
 impl Sound {
-    fn tested(words: &[u32]) -> Result<Self, Refusal> {
+    fn tested(words: &[NodeWord]) -> Result<Self, Refusal> {
         of_this_version()?;
         if words.len() > NODE_POOL {
             return Err(Refusal::TooManyNodes);
@@ -20,7 +34,7 @@ impl Sound {
     }
 
     fn mirror(&self) -> Self {
-        let mut pool = vec![0u32; NODE_POOL];
+        let mut pool: Vec<NodeWord> = vec![0; NODE_POOL];
         // SAFETY: both slices are good for their lengths, and they do not overlap.
         let r = unsafe { raw::tm_mirror(self.0.as_ptr(), self.0.len(), pool.as_mut_ptr(), pool.len()) };
         if r.refusal != 0 {
@@ -57,13 +71,13 @@ impl Forward {
     /// # Errors
     ///
     /// 13 for more than 512 words, 15 for words that are no sound program.
-    pub fn new(words: &[u32]) -> Result<Self, Refusal> {
+    pub fn new(words: &[NodeWord]) -> Result<Self, Refusal> {
         Sound::tested(words).map(Self)
     }
 
     /// Its node words.
     #[must_use]
-    pub fn words(&self) -> &[u32] {
+    pub fn words(&self) -> &[NodeWord] {
         &self.0.0
     }
 
@@ -117,13 +131,13 @@ impl Reverse {
     /// # Errors
     ///
     /// 13 for more than 512 words, 15 for words that are no sound program.
-    pub fn new(words: &[u32]) -> Result<Self, Refusal> {
+    pub fn new(words: &[NodeWord]) -> Result<Self, Refusal> {
         Sound::tested(words).map(Self)
     }
 
     /// Its node words.
     #[must_use]
-    pub fn words(&self) -> &[u32] {
+    pub fn words(&self) -> &[NodeWord] {
         &self.0.0
     }
 
@@ -170,8 +184,8 @@ impl Pattern {
     /// Refusals 1 to 11 with their places, then 12, 14, 13.
     pub fn compile(text: &[u8]) -> Result<Self, Refused> {
         of_this_version()?;
-        let mut forward = vec![0u32; NODE_POOL];
-        let mut reverse = vec![0u32; NODE_POOL];
+        let mut forward: Vec<NodeWord> = vec![0; NODE_POOL];
+        let mut reverse: Vec<NodeWord> = vec![0; NODE_POOL];
         // SAFETY: the three slices are good for their lengths, and they do not overlap.
         let r = unsafe {
             raw::tm_compile(

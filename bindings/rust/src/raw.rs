@@ -60,9 +60,9 @@ extern "C" {
     pub fn tm_compile(
         text: *const u8,
         text_len: usize,
-        forward: *mut u32,
+        forward: *mut u64,
         forward_len: usize,
-        reverse: *mut u32,
+        reverse: *mut u64,
         reverse_len: usize,
     ) -> CompileResult;
     pub fn tm_literals(
@@ -74,7 +74,7 @@ extern "C" {
         lengths_len: usize,
     ) -> LiteralsResult;
     pub fn tm_forward(
-        program: *const u32,
+        program: *const u64,
         program_len: usize,
         haystack: *const u8,
         haystack_len: usize,
@@ -82,7 +82,7 @@ extern "C" {
         end: usize,
     ) -> CheckResult;
     pub fn tm_reverse(
-        program: *const u32,
+        program: *const u64,
         program_len: usize,
         haystack: *const u8,
         haystack_len: usize,
@@ -90,13 +90,13 @@ extern "C" {
         end: usize,
     ) -> CheckResult;
     pub fn tm_tail(
-        program: *const u32,
+        program: *const u64,
         program_len: usize,
         haystack: *const u8,
         haystack_len: usize,
         start: usize,
         end: usize,
     ) -> TailResult;
-    pub fn tm_mirror(program: *const u32, program_len: usize, pool: *mut u32, pool_len: usize) -> MirrorResult;
-    pub fn tm_sound(program: *const u32, program_len: usize) -> u32;
+    pub fn tm_mirror(program: *const u64, program_len: usize, pool: *mut u64, pool_len: usize) -> MirrorResult;
+    pub fn tm_sound(program: *const u64, program_len: usize) -> u32;
 }

@@ -29,7 +29,7 @@ pub enum Refusal {
     HexStringTooDeep,
     /// 11: a 513th token.
     TooManyTokens,
-    /// 12: a jump unbounded or above 255; in a branch, a range or nested alternatives.
+    /// 12: a jump unbounded or above 65,535; in a branch, a range or nested alternatives.
     NotSimple,
     /// 13: more than 512 nodes.
     TooManyNodes,

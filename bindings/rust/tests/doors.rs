@@ -4,8 +4,17 @@ use std::error::Error;
 use std::thread;
 
 use tokenmarsh::{
-    Forward, Mask, Pattern, Refusal, Refused, Reverse, Token, literals, literals_strict, raw, read, read_strict,
+    Forward, Mask, NodeWord, Pattern, Refusal, Refused, Reverse, Token, literals, literals_strict, raw, read,
+    read_strict,
 };
+
+/// The longest jump that is compiled.
+const LONGEST: usize = 65535;
+
+/// A node word by its kind and fields.
+fn word(kind: NodeWord, first: usize, second: usize) -> NodeWord {
+    kind + ((first as NodeWord) << 8) + ((second as NodeWord) << 24)
+}
 
 fn refusal(text: &str) -> (u32, usize) {
     let Refused { refusal, place, .. } = read(text.as_bytes()).expect_err(text);
@@ -52,15 +61,59 @@ fn tokens_are_nested() {
 
 #[test]
 fn programs_are_those_of_the_samples() {
-    let word = |text: &[u8]| Pattern::compile(text).unwrap().forward.words().to_vec();
-    assert_eq!(word(b"{ A? }"), [0x00F0_A001]);
-    let jumps = Pattern::compile(b"{ AB [100] [200] [50] [100] CD }").unwrap();
-    let lengths = |words: &[u32]| words[1..4].iter().map(|w| w >> 8).collect::<Vec<_>>();
-    assert_eq!(lengths(jumps.forward.words()), [100, 250, 100]);
-    assert_eq!(lengths(jumps.reverse.words()), [150, 200, 100]);
-    assert!(Pattern::compile(b"{ AB [255] CD }").is_ok());
-    assert_eq!(Pattern::compile(b"{ AB [256] CD }").unwrap_err().refusal, Refusal::NotSimple);
-    assert_eq!(Pattern::compile(b"{ AB [4294967295] CD }").unwrap_err().refusal, Refusal::NotSimple);
+    let forward = |text: &[u8]| Pattern::compile(text).unwrap().forward.words().to_vec();
+    assert_eq!(forward(b"{ A? }"), [0xF000_A001]);
+    assert_eq!(forward(b"{ AB [256-65535] CD }"), [0xAB00, word(4, 256, LONGEST), 0xCD00]);
+    // Between AB and CD, what jumps become forward and in reverse.
+    for (jumps, ahead, behind) in [
+        ("[100] [200] [50] [100]", vec![450], vec![450]),
+        ("[25000] [50000] [12000] [25000]", vec![25000, 62000, 25000], vec![37000, 50000, 25000]),
+        ("[256]", vec![256], vec![256]),
+        ("[65535]", vec![LONGEST], vec![LONGEST]),
+        ("[65534] ??", vec![LONGEST], vec![LONGEST]),
+        ("[65535] ??", vec![LONGEST, 1], vec![1, LONGEST]),
+    ] {
+        let pattern = Pattern::compile(format!("{{ AB {jumps} CD }}").as_bytes()).unwrap();
+        let nodes = |lengths: &[usize]| lengths.iter().map(|n| word(3, *n, 0)).collect::<Vec<_>>();
+        assert_eq!(pattern.forward.words(), [vec![0xAB00], nodes(&ahead), vec![0xCD00]].concat(), "{jumps}");
+        assert_eq!(pattern.reverse.words(), [vec![0xCD00], nodes(&behind), vec![0xAB00]].concat(), "{jumps}");
+    }
+    for jump in ["[65536]", "[0-65536]", "[4294967295]", "[65535-]", "[-]"] {
+        let refused = Pattern::compile(format!("{{ AB {jump} CD }}").as_bytes()).unwrap_err();
+        assert_eq!(refused.refusal, Refusal::NotSimple, "{jump}");
+    }
+}
+
+#[test]
+fn fields_have_their_width() {
+    // A word between two bytes, and so much between these: forward and by the mirror.
+    let fits = |word: NodeWord, gap: usize| {
+        let forward = Forward::new(&[0x4200, word, 0x4100]).unwrap();
+        let window = [&b"B"[..], &vec![0; gap], b"A"].concat();
+        let (end, start) = (forward.end(&window), forward.mirror().start(&window));
+        assert_eq!(end.map(|_| 0), start, "{word:X} {gap}");
+        assert!(end.map_or(true, |end| end == window.len()), "{word:X} {gap}");
+        end.is_some()
+    };
+    for gap in [0, 1, 2, 3, 44, 255, 256, 300, 301, LONGEST - 1, LONGEST, LONGEST + 1] {
+        assert_eq!(fits(word(4, 1, 2), gap), (1..=2).contains(&gap), "{gap}");
+        assert_eq!(fits(word(4, 256, 300), gap), (256..=300).contains(&gap), "{gap}");
+        assert_eq!(fits(word(4, 0, LONGEST), gap), gap <= LONGEST, "{gap}");
+        assert_eq!(fits(word(3, 300, 0), gap), gap == 300, "{gap}");
+        assert_eq!(fits(word(3, LONGEST, 0), gap), gap == LONGEST, "{gap}");
+    }
+}
+
+#[test]
+fn lengths_do_not_overflow() {
+    // The most that a program can ask for, in as many bytes, one fewer, and as many as 8 and 16 bits of their number say.
+    let forward = Forward::new(&[word(3, LONGEST, 0); 512]).unwrap();
+    let reverse = forward.mirror();
+    let window = vec![0; 512 * LONGEST];
+    assert_eq!((forward.end(&window), reverse.start(&window)), (Some(window.len()), Some(0)));
+    for length in [window.len() - 1, window.len() & 255, window.len() & 65535] {
+        assert_eq!((forward.end(&window[..length]), reverse.start(&window[..length])), (None, None), "{length}");
+    }
 }
 
 #[test]
@@ -150,14 +203,43 @@ fn eight_threads_at_once() {
 
 #[test]
 fn unsound_words_make_no_program() {
-    let refused = |words: &[u32]| {
+    // Neither as a value of this crate, nor where the words are only lent.
+    let refused = |words: &[NodeWord]| {
         let refusal = Forward::new(words).err();
         assert_eq!(refusal, Reverse::new(words).err());
+        let (program, count, mut pool) = (words.as_ptr(), words.len(), [0; 512]);
+        // SAFETY: the slices are good for their lengths, and the pool is none of the others.
+        let numbers = unsafe {
+            [
+                raw::tm_forward(program, count, [].as_ptr(), 0, 0, 0).refusal,
+                raw::tm_reverse(program, count, [].as_ptr(), 0, 0, 0).refusal,
+                raw::tm_mirror(program, count, pool.as_mut_ptr(), pool.len()).refusal,
+            ]
+        };
+        assert_eq!(numbers, [refusal.map_or(0, |refusal| refusal.number().unwrap()); 3]);
         refusal
     };
     assert_eq!(refused(&[7]), Some(Refusal::Unsound));
-    assert_eq!(refused(&[0x0001_0204]), Some(Refusal::Unsound));
-    assert_eq!(refused(&[u32::MAX]), Some(Refusal::Unsound));
+    assert_eq!(refused(&[word(4, 2, 1)]), Some(Refusal::Unsound));
+    assert_eq!(refused(&[NodeWord::MAX]), Some(Refusal::Unsound));
+    // All above the fields.
+    for bit in 40..64 {
+        assert_eq!(refused(&[0x4100 + (1 << bit)]), Some(Refusal::Unsound), "{bit}");
+    }
+    // The second field begins at 2^24, and not at 2^16.
+    assert_eq!(refused(&[word(4, 1, 2)]), None);
+    assert_eq!(refused(&[4 + 256 + 2 * 65536]), Some(Refusal::Unsound));
+    // Values and masks are bytes.
+    for (kind, first, second) in [(0, 256, 0), (1, 256, 255), (1, 0, 256), (2, 256, 255), (2, 0, 256)] {
+        assert_eq!(refused(&[word(kind, first, second)]), Some(Refusal::Unsound), "{kind} {first} {second}");
+    }
+    // A branch has at most 255 words. An alternation may count more, and in its first field alone.
+    let branch = |count: usize| [vec![word(7, count, 0)], vec![0x4100; count]].concat();
+    let alternation = |branches: &[NodeWord]| [&[word(6, branches.len(), 0)], branches].concat();
+    assert_eq!(refused(&alternation(&branch(255))), None);
+    assert_eq!(refused(&alternation(&branch(256))), Some(Refusal::Unsound));
+    assert_eq!(refused(&alternation(&[branch(255), branch(254)].concat())), None);
+    assert_eq!(refused(&[word(6, 1, 1), word(7, 0, 0)]), Some(Refusal::Unsound));
     assert_eq!(refused(&[7; 513]), Some(Refusal::TooManyNodes));
     assert_eq!(refused(&[0; 512]), None);
     assert_eq!(refused(&[]), None);
@@ -188,7 +270,7 @@ fn any_bytes_are_a_text() {
 
 #[test]
 fn refusals_are_errors() {
-    fn words(words: &[u32]) -> Result<Forward, Box<dyn Error>> {
+    fn words(words: &[NodeWord]) -> Result<Forward, Box<dyn Error>> {
         Ok(Forward::new(words)?)
     }
     fn text(text: &[u8]) -> Result<Pattern, Box<dyn Error>> {
@@ -226,7 +308,7 @@ fn literals_are_refused_by_their_own_numbers() {
     assert_eq!(refused(&format!("{{ ({}41) }}", "41|".repeat(256))), (Refusal::TooManyLiterals, 0));
     assert_eq!(refused("{ AB [0] CD }"), (Refusal::JumpEmpty, 5));
     // What is not simple may still have literals.
-    assert_eq!(literals(b"{ 41 [256] 42 43 }").unwrap().literals, [[0x42, 0x43]]);
+    assert_eq!(literals(b"{ 41 [65536] 42 43 }").unwrap().literals, [[0x42, 0x43]]);
 }
 
 #[test]
