@@ -22,6 +22,7 @@ use nodes::second;
 use steps::Found;
 use steps::NextByte;
 use steps::last_byte;
+use steps::longest;
 use steps::tests_byte;
 use steps::word_passes;
 
@@ -115,24 +116,22 @@ fn choices(w: NodeWord, rest: &[NodeWord], mem: &[u8]) -> Found
     branches(&rest[..size], &after[0..], &mem[0..], 0, 0)
 }
 
-// A range before the rest: the longest length for which the rest fits; those longer than mem are passed over.
+// A range before the rest: the longest length for which the rest fits, from the longest on that mem has room for.
 fn jumps(rest: &[NodeWord], mem: &[u8], from: Field, to: Field) -> Found
     requires { ⌜ Sound (now rest) ⌝ }
     ensures { λ r. ⌜ r ≡ answer (backward (range from to ▹ prog (now (rest .entry))) (now (mem .entry))) ⌝ }
 {
     let least = from as usize;
-    let mut n = to as usize + 1;
+    let mut n = longest(to, mem.len()) + 1;
     let end = loop {
         if n <= least {
             break Found::Nothing;
         }
         n -= 1;
-        if n <= mem.len() {
-            let keep = mem.len() - n;
-            let got = check(rest, &mem[..keep]);
-            if let Found::Left(left) = got {
-                break Found::Left(left);
-            }
+        let keep = mem.len() - n;
+        let got = check(rest, &mem[..keep]);
+        if let Found::Left(left) = got {
+            break Found::Left(left);
         }
     };
     end
@@ -154,15 +153,13 @@ fn branches(alts: &[NodeWord], rest: &[NodeWord], mem: &[u8], from: Field, to: F
         let got = flat(&bs[..size], mem);
         if let Found::Left(left) = got {
             let head = &mem[..left];
-            let mut n = to as usize + 1;
+            let mut n = longest(to, head.len()) + 1;
             while least < n {
                 n -= 1;
-                if n <= head.len() {
-                    let keep = head.len() - n;
-                    let got = check(&rest[0..], &head[..keep]);
-                    if let Found::Left(start) = got {
-                        break 'branches Found::Left(start);
-                    }
+                let keep = head.len() - n;
+                let got = check(&rest[0..], &head[..keep]);
+                if let Found::Left(start) = got {
+                    break 'branches Found::Left(start);
                 }
             }
         }

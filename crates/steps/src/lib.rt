@@ -2,6 +2,7 @@
 // What both checks do at one word and one byte.
 ghost use mathlib.Core.Path.{_≡_};
 ghost use mathlib.Core.List.{reverse};
+ghost use Prim.Native.Nat.{min};
 ghost use Rattle.def_meaning.specs.Words.{shape};
 ghost use Rattle.steps.specs.Steps.{firstByte, isTest, passShape};
 use nodes::BYTE;
@@ -45,6 +46,14 @@ pub fn last_byte(s: &[u8]) -> NextByte
     } else {
         NextByte::NoByte
     }
+}
+
+// The longest length of a range that so many bytes have room for.
+pub fn longest(to: Field, room: usize) -> usize
+    ensures { λ r. ⌜ r ≡ min to room ⌝ }
+{
+    let n = to as usize;
+    if n < room { n } else { room }
 }
 
 // Whether a word asks something of one byte. Byte stands first here and below: most nodes are bytes.

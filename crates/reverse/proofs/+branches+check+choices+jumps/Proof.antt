@@ -13,7 +13,7 @@ use Rattle.def_meaning.specs.Choices.{long}
 use Rattle.def_meaning.specs.Rows.{backward}
 use Rattle.def_meaning.specs.Words.{prog, branchesOf, Sound, SoundBranches}
 use Rattle.def_meaning.proofs.KindLaws.{kind-jump}
-use Rattle.def_meaning.proofs.RunLaws.{below, range-below, below-none}
+use Rattle.def_meaning.proofs.RunLaws.{below, below-none}
 use Rattle.steps.specs.declared.Found.the-variants.{Left}
 use Rattle.steps.specs.Steps.{answer}
 use Rattle.nodes.proofs.WordHeads.{word-pos}
@@ -47,6 +47,7 @@ use Rattle.nodes.proofs.kind.Reads as kind-reads
 use Rattle.nodes.proofs.second.Reads as second-reads
 use Rattle.reverse.proofs.flat.Reads as flat-reads
 use Rattle.steps.proofs.last_byte.Reads as last-byte-reads
+use Rattle.steps.proofs.longest.Reads as longest-reads
 use Rattle.steps.proofs.tests_byte.Reads as tests-byte-reads
 use Rattle.steps.proofs.word_passes.Reads as word-passes-reads
 use Rattle.reverse.proofs.+branches+check+choices+jumps.{statement}
@@ -89,7 +90,7 @@ abbrev jumps-below : ℕ → In 2 jumps-kinds.ps
 jumps-below t = and 2 jumps-kinds.ps (falls 2 jumps-kinds.ps _<_ μ-jumps t) jumps.Pre
 
 abbrev branches-claims : ℕ → branches-lts.Claims
-branches-claims t = (first-word-reads.Asked, first-word-reads.Learnt, first-reads.Asked, first-reads.Learnt, flat-reads.Asked, flat-reads.Learnt, check-below t, check.Post)
+branches-claims t = (first-word-reads.Asked, first-word-reads.Learnt, first-reads.Asked, first-reads.Learnt, flat-reads.Asked, flat-reads.Learnt, longest-reads.Asked, longest-reads.Learnt, check-below t, check.Post)
 
 abbrev check-claims : ℕ → check-lts.Claims
 check-claims t = (first-word-reads.Asked, first-word-reads.Learnt, tests-byte-reads.Asked, tests-byte-reads.Learnt, last-byte-reads.Asked, last-byte-reads.Learnt, word-passes-reads.Asked, word-passes-reads.Learnt, kind-reads.Asked, kind-reads.Learnt, first-reads.Asked, first-reads.Learnt, choices-below t, choices.Post)
@@ -98,10 +99,10 @@ abbrev choices-claims : ℕ → choices-lts.Claims
 choices-claims t = (kind-reads.Asked, kind-reads.Learnt, first-reads.Asked, first-reads.Learnt, second-reads.Asked, second-reads.Learnt, jumps-below t, jumps.Post, count-reads.Asked, count-reads.Learnt, first-word-reads.Asked, first-word-reads.Learnt, branches-below t, branches.Post)
 
 abbrev jumps-claims : ℕ → jumps-lts.Claims
-jumps-claims t = (check-below t, check.Post)
+jumps-claims t = (longest-reads.Asked, longest-reads.Learnt, check-below t, check.Post)
 
 abbrev branches-Inv-loop : branches-lts.InvT-loop
-branches-Inv-loop alts rest mem from to least bs w size left head n₀ n = (n ≤ to + 1) × (backward (range from to ▹ prog rest) head ≡ below from n (prog rest) (reverse head))
+branches-Inv-loop alts rest mem from to least bs w size left head n₀ n = (n ≤ length head + 1) × (backward (range from to ▹ prog rest) head ≡ below from n (prog rest) (reverse head))
 
 abbrev branches-μ-loop : branches-lts.MeasureT-loop
 branches-μ-loop alts rest mem from to least bs w size left head n₀ n = n
@@ -119,7 +120,7 @@ abbrev check-μ-loop : check-lts.MeasureT-loop
 check-μ-loop nodes mem ns₀ m₀ ns m = length ns
 
 abbrev jumps-Inv-loop : jumps-lts.InvT-loop
-jumps-Inv-loop rest mem from to least n₀ n = (n ≤ to + 1) × (backward (range from to ▹ prog rest) mem ≡ below from n (prog rest) (reverse mem))
+jumps-Inv-loop rest mem from to least n₀ n = (n ≤ length mem + 1) × (backward (range from to ▹ prog rest) mem ≡ below from n (prog rest) (reverse mem))
 
 abbrev jumps-μ-loop : jumps-lts.MeasureT-loop
 jumps-μ-loop rest mem from to least n₀ n = n
@@ -207,19 +208,23 @@ module _ (t : ℕ) where
       let within = left-fits long _ (reverse M) _ fits in
       sym (length-take-le _ M (omega (arith, within, length-reverse M)))
 
+  branches-longest-requires : branches-lts.Need-longest-requires (branches-claims t) (branches-at t) branches.Post branches-Inv-loop branches-μ-loop branches-Inv-branches branches-μ-branches
+  branches-longest-requires c κs = search needs
+
   branches-add-n : branches-lts.Need-add-n (branches-claims t) (branches-at t) branches.Post branches-Inv-loop branches-μ-loop branches-Inv-branches branches-μ-branches
   branches-add-n c = search needs
 
   branches-loop-holds : branches-lts.Need-loop-holds (branches-claims t) (branches-at t) branches.Post branches-Inv-loop branches-μ-loop branches-Inv-branches branches-μ-branches
   branches-loop-holds c =
-      let at-got = c .before .before .got in
-      let at-start = c .before .before .before .before .before .before .before .before .before .before .before .before .before .before .before .before in
+      let at-got = c .before .before .before .got in
+      let at-start = c .before .before .before .before .before .before .before .before .before .before .before .before .before .before .before .before .before in
       let p = prog (at-start .args .rest .now) in
       let M = at-start .args .mem .now in
+      let at-longest = c .longest in
       let N = take (at-got .given .0 .0) M in
       let F = at-start .args .from in
       let T = at-start .args .to in
-      (omega arith, range-below p (reverse N) F T)
+      (omega (arith, at-longest .ensures), ranges.range-back p N F T _ (at-longest .ensures))
 
   branches-sub-n : branches-lts.Need-sub-n (branches-claims t) (branches-at t) branches.Post branches-Inv-loop branches-μ-loop branches-Inv-branches branches-μ-branches
   branches-sub-n c = search needs
@@ -264,37 +269,20 @@ module _ (t : ℕ) where
   branches-loop-again c =
       let at-enum-told2 = c .enum-told2 in
       let at-check = c .before .before .check in
-      let to-if1 = c .before .before .before .before .before in
-      let at-if1 = to-if1 .if1 in
-      let at-loop-test = to-if1 .before .loop-test in
-      let at-loop = to-if1 .before .before .loop in
-      let at-got = to-if1 .before .before .before .before .before .got in
-      let at-start = to-if1 .before .before .before .before .before .before .before .before .before .before .before .before .before .before .before .before .before .before .before in
+      let to-loop-test = c .before .before .before .before .before in
+      let at-loop-test = to-loop-test .loop-test in
+      let at-loop = to-loop-test .before .loop in
+      let at-got = to-loop-test .before .before .before .before .before .got in
+      let at-start = to-loop-test .before .before .before .before .before .before .before .before .before .before .before .before .before .before .before .before .before .before .before in
       let p = prog (at-start .args .rest .now) in
       let M = at-start .args .mem .now in
       let N = take (at-got .given .0 .0) M in
       let F = at-start .args .from in
       let n = at-loop .n in
+      let room : n - 1 ≤ length N = omega (arith, at-loop .inv .0) in
       let R = at-start .args .rest .now in
       let tried = at-check .ensures ∙ ap (λ (l : List ℕ). answer (backward (prog l) (take (length N - (n - 1)) N))) (whole R) in
-      (omega (arith, at-loop .inv .0), at-loop .inv .1 ∙ ranges.below-next p (reverse N) F n (at-loop-test .taken) _ (back-part _ N (at-if1 .taken)) (omega (arith, at-if1 .taken, length-reverse N)) (sym (at-enum-told2 .given .1) ∙ tried))
-
-  branches-loop-less-2 : branches-lts.Need-loop-less-2 (branches-claims t) (branches-at t) branches.Post branches-Inv-loop branches-μ-loop branches-Inv-branches branches-μ-branches
-  branches-loop-less-2 c = search needs
-
-  branches-loop-again-2 : branches-lts.Need-loop-again-2 (branches-claims t) (branches-at t) branches.Post branches-Inv-loop branches-μ-loop branches-Inv-branches branches-μ-branches
-  branches-loop-again-2 c =
-      let at-if1 = c .if1 in
-      let at-loop-test = c .before .loop-test in
-      let at-loop = c .before .before .loop in
-      let at-got = c .before .before .before .before .before .got in
-      let at-start = c .before .before .before .before .before .before .before .before .before .before .before .before .before .before .before .before .before .before .before in
-      let p = prog (at-start .args .rest .now) in
-      let M = at-start .args .mem .now in
-      let N = take (at-got .given .0 .0) M in
-      let F = at-start .args .from in
-      let n = at-loop .n in
-      (omega (arith, at-loop .inv .0), at-loop .inv .1 ∙ ranges.below-skip p (reverse N) F n (at-loop-test .taken) (omega (arith, at-if1 .left, length-reverse N)))
+      (omega (arith, at-loop .inv .0), at-loop .inv .1 ∙ ranges.below-next p (reverse N) F n (at-loop-test .taken) _ (back-part _ N room) (omega (arith, room, length-reverse N)) (sym (at-enum-told2 .given .1) ∙ tried))
 
   branches-enum-told-3 : branches-lts.Need-enum-told-3 (branches-claims t) (branches-at t) branches.Post branches-Inv-loop branches-μ-loop branches-Inv-branches branches-μ-branches
   branches-enum-told-3 c = search needs
@@ -365,7 +353,7 @@ module _ (t : ℕ) where
       let F = at-start .args .from in (
         alts.head-after L W e (at-first .ensures) sb,
         at-branches .inv .1 ∙ ⊎-elim
-            (λ w. alts.head-skip L W e (at-first .ensures) sb long q (reverse M) _ _ (back-left _ M) (sym (w .1 .given .1) ∙ at-flat .ensures) (w .4 .inv .1 ∙ below-none p _ F (w .4 .n) (w .5 .left)))
+            (λ w. alts.head-skip L W e (at-first .ensures) sb long q (reverse M) _ _ (back-left _ M) (sym (w .1 .given .1) ∙ at-flat .ensures) (w .5 .inv .1 ∙ below-none p _ F (w .5 .n) (w .6 .left)))
             (λ w. alts.head-none L W e (at-first .ensures) sb long q (reverse M) (sym (w .1 .given .1) ∙ at-flat .ensures))
             (at-match2 .came),
       )
@@ -386,11 +374,10 @@ module _ (t : ℕ) where
   branches-returns-2 c =
       let at-got2 = c .before .got2 in
       let at-check = c .before .before .before .check in
-      let to-if1 = c .before .before .before .before .before .before in
-      let at-if1 = to-if1 .if1 in
-      let at-loop-test = to-if1 .before .loop-test in
-      let at-loop = to-if1 .before .before .loop in
-      let to-got = to-if1 .before .before .before .before .before in
+      let to-loop-test = c .before .before .before .before .before .before in
+      let at-loop-test = to-loop-test .loop-test in
+      let at-loop = to-loop-test .before .loop in
+      let to-got = to-loop-test .before .before .before .before .before in
       let at-got = to-got .got in
       let at-flat = to-got .before .before .flat in
       let at-first = to-got .before .before .before .before .first in
@@ -410,10 +397,11 @@ module _ (t : ℕ) where
       let N = take (at-got .given .0 .0) M in
       let F = at-start .args .from in
       let n = at-loop .n in
+      let room : n - 1 ≤ length N = omega (arith, at-loop .inv .0) in
       let R = at-start .args .rest .now in
       let tried = at-check .ensures ∙ ap (λ (l : List ℕ). answer (backward (prog l) (take (length N - (n - 1)) N))) (whole R) in
       alts.head-take L W e (at-first .ensures) sb long q (reverse M) _ _ (back-left _ M) fits _
-      (ranges.below-take p (reverse N) F n (at-loop-test .taken) _ (back-part _ N (at-if1 .taken)) (omega (arith, at-if1 .taken, length-reverse N)) _ (sym (at-got2 .given .1) ∙ tried) ∙ ap answer (sym (at-loop .inv .1)))
+      (ranges.below-take p (reverse N) F n (at-loop-test .taken) _ (back-part _ N room) (omega (arith, room, length-reverse N)) _ (sym (at-got2 .given .1) ∙ tried) ∙ ap answer (sym (at-loop .inv .1)))
       ∙ ap answer (sym (at-branches .inv .1))
 
   check-loop-holds : check-lts.Need-loop-holds (check-claims t) (check-at t) check.Post check-Inv-loop check-μ-loop
@@ -962,17 +950,21 @@ module _ (t : ℕ) where
       let M = at-start .args .mem .now in
       at-branches2 .ensures ∙ ap answer (choice.alt-alone W R k (at-count .ensures) long (reverse M) _ (ap reverse (whole M)))
 
+  jumps-longest-requires : jumps-lts.Need-longest-requires (jumps-claims t) (jumps-at t) jumps.Post jumps-Inv-loop jumps-μ-loop
+  jumps-longest-requires c κs = search needs
+
   jumps-add-n : jumps-lts.Need-add-n (jumps-claims t) (jumps-at t) jumps.Post jumps-Inv-loop jumps-μ-loop
   jumps-add-n c = search needs
 
   jumps-loop-holds : jumps-lts.Need-loop-holds (jumps-claims t) (jumps-at t) jumps.Post jumps-Inv-loop jumps-μ-loop
   jumps-loop-holds c =
-      let at-start = c .before .before in
+      let at-longest = c .longest in
+      let at-start = c .before .before .before in
       let p = prog (at-start .args .rest .now) in
       let M = at-start .args .mem .now in
       let F = at-start .args .from in
       let T = at-start .args .to in
-      (omega arith, range-below p (reverse M) F T)
+      (omega (arith, at-longest .ensures), ranges.range-back p M F T _ (at-longest .ensures))
 
   jumps-sub-n : jumps-lts.Need-sub-n (jumps-claims t) (jumps-at t) jumps.Post jumps-Inv-loop jumps-μ-loop
   jumps-sub-n c = search needs
@@ -1002,39 +994,23 @@ module _ (t : ℕ) where
   jumps-loop-again c =
       let at-enum-told = c .enum-told in
       let at-check = c .before .before .check in
-      let to-if2 = c .before .before .before .before in
-      let at-if2 = to-if2 .if2 in
-      let at-if1 = to-if2 .before .if1 in
-      let at-loop = to-if2 .before .before .loop in
-      let at-start = to-if2 .before .before .before .before .before in
+      let to-if1 = c .before .before .before .before in
+      let at-if1 = to-if1 .if1 in
+      let at-loop = to-if1 .before .loop in
+      let at-start = to-if1 .before .before .before .before .before in
       let inv = at-loop .inv .1 in
       let p = prog (at-start .args .rest .now) in
       let M = at-start .args .mem .now in
       let F = at-start .args .from in
       let n = at-loop .n in
-      (omega (arith, at-loop .inv .0), inv ∙ ranges.below-next p (reverse M) F n (at-if1 .left) _ (back-part _ M (at-if2 .taken)) (omega (arith, at-if2 .taken, length-reverse M)) (sym (at-enum-told .given .1) ∙ at-check .ensures))
-
-  jumps-loop-less-2 : jumps-lts.Need-loop-less-2 (jumps-claims t) (jumps-at t) jumps.Post jumps-Inv-loop jumps-μ-loop
-  jumps-loop-less-2 c = search needs
-
-  jumps-loop-again-2 : jumps-lts.Need-loop-again-2 (jumps-claims t) (jumps-at t) jumps.Post jumps-Inv-loop jumps-μ-loop
-  jumps-loop-again-2 c =
-      let at-if2 = c .if2 in
-      let at-if1 = c .before .if1 in
-      let at-loop = c .before .before .loop in
-      let at-start = c .before .before .before .before .before in
-      let inv = at-loop .inv .1 in
-      let p = prog (at-start .args .rest .now) in
-      let M = at-start .args .mem .now in
-      let F = at-start .args .from in
-      let n = at-loop .n in
-      (omega (arith, at-loop .inv .0), inv ∙ ranges.below-skip p (reverse M) F n (at-if1 .left) (omega (arith, at-if2 .left, length-reverse M)))
+      let room : n - 1 ≤ length M = omega (arith, at-loop .inv .0) in
+      (omega (arith, at-loop .inv .0), inv ∙ ranges.below-next p (reverse M) F n (at-if1 .left) _ (back-part _ M room) (omega (arith, room, length-reverse M)) (sym (at-enum-told .given .1) ∙ at-check .ensures))
 
   jumps-returns : jumps-lts.Need-returns (jumps-claims t) (jumps-at t) jumps.Post jumps-Inv-loop jumps-μ-loop
   jumps-returns c =
       let at-if1 = c .if1 in
       let at-loop = c .before .loop in
-      let at-start = c .before .before .before .before in
+      let at-start = c .before .before .before .before .before in
       let inv = at-loop .inv .1 in
       let p = prog (at-start .args .rest .now) in
       let M = at-start .args .mem .now in
@@ -1046,17 +1022,17 @@ module _ (t : ℕ) where
   jumps-returns-2 c =
       let at-got = c .before .got in
       let at-check = c .before .before .before .check in
-      let to-if2 = c .before .before .before .before .before in
-      let at-if2 = to-if2 .if2 in
-      let at-if1 = to-if2 .before .if1 in
-      let at-loop = to-if2 .before .before .loop in
-      let at-start = to-if2 .before .before .before .before .before in
+      let to-if1 = c .before .before .before .before .before in
+      let at-if1 = to-if1 .if1 in
+      let at-loop = to-if1 .before .loop in
+      let at-start = to-if1 .before .before .before .before .before in
       let p = prog (at-start .args .rest .now) in
       let M = at-start .args .mem .now in
       let F = at-start .args .from in
       let n = at-loop .n in
+      let room : n - 1 ≤ length M = omega (arith, at-loop .inv .0) in
       let inv = at-loop .inv .1 in
-      ranges.below-take p (reverse M) F n (at-if1 .left) _ (back-part _ M (at-if2 .taken)) (omega (arith, at-if2 .taken, length-reverse M)) _ (sym (at-got .given .1) ∙ at-check .ensures) ∙ ap answer (sym inv)
+      ranges.below-take p (reverse M) F n (at-if1 .left) _ (back-part _ M room) (omega (arith, room, length-reverse M)) _ (sym (at-got .given .1) ∙ at-check .ensures) ∙ ap answer (sym inv)
 
 pub +branches+check+choices+jumps-spec : {M : Type 1} → statement M
 +branches+check+choices+jumps-spec =
@@ -1065,10 +1041,10 @@ pub +branches+check+choices+jumps-spec : {M : Type 1} → statement M
     (branches-branches-holds t) (branches-first-word-requires t) (branches-enum-known-w t) (branches-enum-told t)
     (branches-sub-bs t) (branches-part-bs-start t) (branches-part-bs-end t) (branches-first-requires t) (branches-cast-size t)
     (branches-slice-aggregate-flat t) (branches-flat-requires t) (branches-enum-known-got t) (branches-slice-aggregate-head t)
-    (branches-add-n t) (branches-loop-holds t) (branches-sub-n t) (branches-sub-keep t)
+    (branches-longest-requires t) (branches-add-n t) (branches-loop-holds t) (branches-sub-n t) (branches-sub-keep t)
     (branches-sub-check t) (branches-part-check-start t) (branches-part-check-end t) (branches-slice-aggregate-check t)
     (branches-check-requires t) (branches-enum-known-got-2 t) (branches-enum-told-2 t) (branches-loop-less t)
-    (branches-loop-again t) (branches-loop-less-2 t) (branches-loop-again-2 t) (branches-enum-told-3 t)
+    (branches-loop-again t) (branches-enum-told-3 t)
     (branches-mul-bs t) (branches-sub-bs-2 t) (branches-part-bs-start-2 t) (branches-part-bs-end-2 t)
     (branches-branches-less t) (branches-branches-again t) (branches-returns t) (branches-returns-2 t))
     (λ t. check-lts.spec (check-claims t) (check-at t) check.Post check-Inv-loop check-μ-loop
@@ -1093,7 +1069,7 @@ pub +branches+check+choices+jumps-spec : {M : Type 1} → statement M
     (choices-part-branches-end-3 t) (choices-sub-branches-4 t) (choices-part-branches-start-4 t) (choices-part-branches-end-4 t)
     (choices-branches-requires-2 t) (choices-returns-3 t))
     (λ t. jumps-lts.spec (jumps-claims t) (jumps-at t) jumps.Post jumps-Inv-loop jumps-μ-loop
-    (jumps-add-n t) (jumps-loop-holds t) (jumps-sub-n t) (jumps-sub-keep t)
+    (jumps-longest-requires t) (jumps-add-n t) (jumps-loop-holds t) (jumps-sub-n t) (jumps-sub-keep t)
     (jumps-slice-aggregate-check t) (jumps-check-requires t) (jumps-enum-known-got t) (jumps-enum-told t)
-    (jumps-loop-less t) (jumps-loop-again t) (jumps-loop-less-2 t) (jumps-loop-again-2 t)
+    (jumps-loop-less t) (jumps-loop-again t)
     (jumps-returns t) (jumps-returns-2 t))
