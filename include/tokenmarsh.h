@@ -93,8 +93,8 @@ typedef struct {
  * A program is at most 512 node words. A word is kind + 2^8 * first + 2^24 * second, where first and second are below 2^16, and 0 if not named:
  *    0  byte           first: its value              4  range          first: the fewest, second: the most of any bytes
  *    1  mask           first: value, second: mask    5  dot            any byte but 0A
- *    2  not a mask     first: value, second: mask    6  alternation    first: so many words follow, which are branches
- *    3  jump           first: so many of any bytes   7  branch         first: so many words follow that are in it
+ *    2  not a mask     first: value, second: mask    6  alternation    first: so many words its branches take
+ *    3  jump           first: so many of any bytes   7  branch         first: so many words its nodes take
  * A mask fits the bytes whose bits under the mask equal the value, its negation all others.
  * A check takes any sound program: with that of the other direction it refuses nothing, and finds what the pattern does not match or misses what it does.
  * Anything after the closing brace and its blanks is ignored: it begins at `reached`, which is text_len if nothing follows.

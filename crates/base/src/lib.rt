@@ -5,7 +5,7 @@ ghost use lib.ListN.{length};
 ghost use Rattle.base.specs.Refusals.{numberOf};
 ghost use Rattle.base.specs.Pools.{zeroed};
 
-// 01's limits, each with the refusal that is given above it. The bytes of a text: 1.
+// The limits of 01 and 02, each with the refusal that is given above it. The bytes of a text: 1.
 pub const TEXT_LIMIT: usize = 4096;
 
 // The tokens of a text: 11.

@@ -11,7 +11,7 @@ ghost use lib.ListN.{length, take};
 ghost use Rattle.lister.specs.Listings.{listingOf, listingLimit};
 ghost use Rattle.console.specs.Inputs.{Within};
 
-// The most that a listing has: every text's fits.
+// Room for the listing of every text.
 const LISTING_LIMIT: usize = 86016;
 
 // How many bytes stand before the end of an input, or that a read of it failed.

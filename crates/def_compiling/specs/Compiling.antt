@@ -1,4 +1,4 @@
--- Compiling, as 01 has it: from tokens to a program and its words, both ways round, and the cases of refusals 12, 14 and 13.
+-- Compiling, as 01 and 02 have it: from tokens to a program and its words, both ways round, and the cases of refusals 12, 14 and 13.
 -- Assumes nothing: these are definitions.
 -- To be believed: `itemOf` `added` `branchesFor` `backwardsOf` `backwards` `backwardsIn` `forwardProgram` `reverseProgram` `Either`.
 use mathlib.Core.Bool.{cond}

@@ -1,4 +1,4 @@
--- 01's P samples hold, as one claim over the list: from the texts, by the definitions alone. Assumes nothing.
+-- The P samples hold, as one claim over the list: from the texts, by the definitions alone. Assumes nothing.
 use mathlib.Core.Path.{_≡_, refl}
 use mathlib.Core.Bool.{true}
 use Rattle.def_meaning.specs.Tokens

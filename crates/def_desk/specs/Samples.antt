@@ -1,4 +1,4 @@
--- The samples by the desk that 01 marks P, with 02's words, as one list, and when a sample is right. Assumes nothing: these are definitions.
+-- The samples by the desk that 01 marks P, with 02's words, and one of 02's, as one list, and when a sample is right. Assumes nothing: these are definitions.
 -- To be believed: all.
 use mathlib.Core.Bool.{Bool, true, false, _&&_}
 use mathlib.Core.List.{List, [], _∷_}

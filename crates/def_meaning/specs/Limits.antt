@@ -1,4 +1,4 @@
--- 01's limits, by name. Assumes nothing: these are definitions.
+-- The limits of 01 and 02, by name. Assumes nothing: these are definitions.
 -- To be believed: `textLimit` `tokenLimit` `levelLimit` `numberLimit` `innerJumpLimit` `jumpLimit` `branchLimit` `nodeLimit` `literalLimit` `combinationLimit` `tokenPool` `nodePool`.
 use Prim.Native.Nat.{ℕ, _/_}
 

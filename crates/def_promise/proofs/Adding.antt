@@ -1,4 +1,4 @@
--- The computed addition of an item is 01's. Assumes nothing.
+-- The computed addition of an item is the listed one. Assumes nothing.
 use mathlib.Core.Path.{_≡_, refl, sym, ap, _∙_, subst}
 use mathlib.Core.Bool.{Bool, true, false, cond}
 use mathlib.Core.Option.{Option, none, some}

@@ -19,7 +19,7 @@ lentBytes = 32768
 abbrev pub lentLengths : ℕ
 lentLengths = 256
 
--- the most bytes that a listing has (proofs/Promises.antt, `listing-room`)
+-- bytes that have room for every listing (proofs/Promises.antt, `listing-room`)
 abbrev pub listingLimit : ℕ
 listingLimit = 86016
 
