@@ -414,37 +414,45 @@ pub fn window(rng: &mut Rng, length: usize) -> (usize, usize) {
     }
 }
 
-fn plain_word(rng: &mut Rng, alphabet: &[u8]) -> u32 {
-    let b = u32::from(rng.pick(alphabet));
+pub fn word(kind: u64, first: u64, second: u64) -> u64 {
+    kind + (first << 8) + (second << 24)
+}
+
+/// A number that is below so many.
+fn less(rng: &mut Rng, n: usize) -> u64 {
+    rng.below(n) as u64
+}
+
+fn plain_word(rng: &mut Rng, alphabet: &[u8]) -> u64 {
+    let b = u64::from(rng.pick(alphabet));
     let mask = rng.pick(&[0x00, 0x01, 0x0F, 0xF0, 0xFF, 0x03]);
     match rng.below(9) {
-        0..=3 => 256 * b,
-        4 => 1 + 256 * (b & mask) + 65536 * mask,
-        5 => 2 + 256 * (b & mask) + 65536 * mask,
-        6 => 1 + rng.below(2) as u32 + 256 * b + 65536 * mask,
-        7 => 3 + 256 * rng.below(4) as u32,
+        0..=3 => word(0, b, 0),
+        4 => word(1, b & mask, mask),
+        5 => word(2, b & mask, mask),
+        6 => word(1 + less(rng, 2), b, mask),
+        7 => word(3, less(rng, 4), 0),
         _ => 5,
     }
 }
 
 /// A sound program of about so many items.
-pub fn program(rng: &mut Rng, alphabet: &[u8], most: usize) -> Vec<u32> {
+pub fn program(rng: &mut Rng, alphabet: &[u8], most: usize) -> Vec<u64> {
     let mut words = Vec::new();
     for _ in 0..rng.below(most + 1) {
         match rng.below(8) {
             0 => {
-                let min = rng.below(3) as u32;
-                let max = min + rng.below(4) as u32;
-                words.push(4 + 256 * min + 65536 * max);
+                let min = less(rng, 3);
+                words.push(word(4, min, min + less(rng, 4)));
             }
             1 => {
                 let mut inner = Vec::new();
                 for _ in 0..1 + rng.below(3) {
                     let n = rng.below(4);
-                    inner.push(7 + 256 * n as u32);
+                    inner.push(word(7, n as u64, 0));
                     inner.extend((0..n).map(|_| plain_word(rng, alphabet)));
                 }
-                words.push(6 + 256 * inner.len() as u32);
+                words.push(word(6, inner.len() as u64, 0));
                 words.extend(inner);
             }
             _ => words.push(plain_word(rng, alphabet)),
@@ -453,9 +461,9 @@ pub fn program(rng: &mut Rng, alphabet: &[u8], most: usize) -> Vec<u32> {
     words
 }
 
-/// A sound program with long jumps, or an alternation whose count needs both fields, and a
+/// A sound program with long jumps, or an alternation whose count does not fit a byte, and a
 /// haystack of about its length.
-pub fn wide(rng: &mut Rng) -> (Vec<u32>, Vec<u8>) {
+pub fn wide(rng: &mut Rng) -> (Vec<u64>, Vec<u8>) {
     let most = 200 + rng.below(500);
     let mut hay = vec![0x41; most];
     for _ in 0..rng.below(4) {
@@ -465,54 +473,54 @@ pub fn wide(rng: &mut Rng) -> (Vec<u32>, Vec<u8>) {
     if rng.one_in(2) {
         for _ in 0..1 + rng.below(3) {
             let n = rng.pick(&[100, 200, 254, 255]);
-            words.push(7 + 256 * n);
+            words.push(word(7, n, 0));
             words.extend((0..n).map(|_| if rng.one_in(60) { 0x4200 } else { 0x4100 }));
         }
         words.truncate(500);
         let last = words.iter().rposition(|w| w % 256 == 7).unwrap_or(0);
-        words[last] = 7 + 256 * (words.len() - last - 1) as u32;
-        words.insert(0, 6 + 256 * words.len() as u32);
+        words[last] = word(7, (words.len() - last - 1) as u64, 0);
+        words.insert(0, word(6, words.len() as u64, 0));
     } else {
-        let (a, b) = (rng.below(256) as u32, rng.below(256) as u32);
-        words.push(4 + 256 * a.min(b) + 65536 * a.max(b));
+        let (a, b) = (less(rng, 256), less(rng, 256));
+        words.push(word(4, a.min(b), a.max(b)));
         words.push(0x4200);
-        words.push(3 + 256 * rng.below(256) as u32);
-        words.push(4 + 256 * rng.below(3) as u32 + 65536 * (3 + rng.below(20) as u32));
+        words.push(word(3, less(rng, 256), 0));
+        words.push(word(4, less(rng, 3), 3 + less(rng, 20)));
     }
     words.push(rng.pick(&[0x4200, 0x4100, 5]));
     (words, hay)
 }
 
 /// A program with a few words spoilt, mostly unsound.
-pub fn spoilt(rng: &mut Rng, words: &[u32]) -> Vec<u32> {
+pub fn spoilt(rng: &mut Rng, words: &[u64]) -> Vec<u64> {
     let mut out = words.to_vec();
-    out.push(256 * 0x41);
+    out.push(word(0, 0x41, 0));
     for _ in 0..1 + rng.below(2) {
         let at = rng.below(out.len());
         out[at] = match rng.below(6) {
-            0 => out[at] ^ (1 << rng.below(32)),
-            1 => 7 + 256 * rng.below(3) as u32,
-            2 => 6 + 256 * rng.below(4) as u32,
-            3 => rng.below(12) as u32,
-            4 => 4 + 256 * rng.below(4) as u32 + 65536 * rng.below(4) as u32,
-            _ => rng.next() as u32,
+            0 => out[at] ^ (1 << rng.below(64)),
+            1 => word(7, less(rng, 3), 0),
+            2 => word(6, less(rng, 4), 0),
+            3 => less(rng, 12),
+            4 => word(4, less(rng, 4), less(rng, 4)),
+            _ => rng.next(),
         };
     }
     out
 }
 
 /// The words from which all short programs are made.
-pub const WORDS: &[u32] = &[
+pub const WORDS: &[u64] = &[
     0x0000_4100,
     0x0000_4200,
-    0x0001_0101,
-    0x0001_0102,
+    0x0100_0101,
+    0x0100_0102,
     0x0000_0103,
     0x0000_0203,
-    0x0001_0004,
-    0x0002_0004,
-    0x0002_0104,
-    0x0001_0104,
+    0x0100_0004,
+    0x0200_0004,
+    0x0200_0104,
+    0x0100_0104,
     0x0000_0005,
     0x0000_0206,
     0x0000_0306,

@@ -1,4 +1,4 @@
-//! Below the original's simple validator: nodes from and to the words of document 01, the two
+//! Below the original's simple validator: nodes from and to the words of document 02, the two
 //! checks on them, and the loops that the benchmark times.
 
 use super::{SimpleNode, SimpleValidator, check_nodes, check_nodes_reverse};
@@ -9,8 +9,9 @@ use crate::regex::Hir;
 pub struct Program(SimpleValidator);
 
 impl Program {
-    /// None where a word has no node; nothing else of soundness is tested.
-    pub fn new(words: &[u32]) -> Option<Self> {
+    /// None where a word has no node or does not fit one's fields, which are narrower; nothing else
+    /// of soundness is tested.
+    pub fn new(words: &[u64]) -> Option<Self> {
         let nodes: Option<Vec<_>> = words.iter().map(|word| node(*word)).collect();
         Some(Program(SimpleValidator { nodes: nodes?.into_boxed_slice() }))
     }
@@ -21,7 +22,7 @@ impl Program {
         SimpleValidator::new(hir, &analyze_hir(hir, true), modifiers, reverse).map(Program)
     }
 
-    pub fn words(&self) -> Vec<u32> {
+    pub fn words(&self) -> Vec<u64> {
         self.0.nodes.iter().map(word).collect()
     }
 
@@ -66,31 +67,32 @@ impl Program {
     }
 }
 
-fn node(word: u32) -> Option<SimpleNode> {
-    let [kind, a, b, _] = word.to_le_bytes();
+fn node(word: u64) -> Option<SimpleNode> {
+    let (kind, first, second) = (word as u8, (word >> 8) as u16, word >> 24);
+    let (a, b) = (u8::try_from(first).ok(), u8::try_from(second).ok());
     Some(match kind {
-        0 => SimpleNode::Byte(a),
-        1 => SimpleNode::Mask { value: a, mask: b },
-        2 => SimpleNode::NegatedMask { value: a, mask: b },
-        3 => SimpleNode::Jump(a),
-        4 => SimpleNode::JumpRange(a, b),
+        0 => SimpleNode::Byte(a?),
+        1 => SimpleNode::Mask { value: a?, mask: b? },
+        2 => SimpleNode::NegatedMask { value: a?, mask: b? },
+        3 => SimpleNode::Jump(a?),
+        4 => SimpleNode::JumpRange(a?, b?),
         5 => SimpleNode::Dot,
-        6 => SimpleNode::Alternation(u16::from_le_bytes([a, b])),
-        7 => SimpleNode::AltBranch(a),
+        6 => SimpleNode::Alternation(first),
+        7 => SimpleNode::AltBranch(a?),
         _ => return None,
     })
 }
 
-fn word(node: &SimpleNode) -> u32 {
-    let bytes = match node {
-        SimpleNode::Byte(a) => [0, *a, 0],
-        SimpleNode::Mask { value, mask } => [1, *value, *mask],
-        SimpleNode::NegatedMask { value, mask } => [2, *value, *mask],
-        SimpleNode::Jump(a) => [3, *a, 0],
-        SimpleNode::JumpRange(a, b) => [4, *a, *b],
-        SimpleNode::Dot => [5, 0, 0],
-        SimpleNode::Alternation(count) => [6, count.to_le_bytes()[0], count.to_le_bytes()[1]],
-        SimpleNode::AltBranch(a) => [7, *a, 0],
+fn word(node: &SimpleNode) -> u64 {
+    let (kind, first, second) = match node {
+        SimpleNode::Byte(a) => (0, u16::from(*a), 0),
+        SimpleNode::Mask { value, mask } => (1, u16::from(*value), *mask),
+        SimpleNode::NegatedMask { value, mask } => (2, u16::from(*value), *mask),
+        SimpleNode::Jump(a) => (3, u16::from(*a), 0),
+        SimpleNode::JumpRange(a, b) => (4, u16::from(*a), *b),
+        SimpleNode::Dot => (5, 0, 0),
+        SimpleNode::Alternation(count) => (6, *count, 0),
+        SimpleNode::AltBranch(a) => (7, u16::from(*a), 0),
     };
-    u32::from_le_bytes([bytes[0], bytes[1], bytes[2], 0])
+    kind + (u64::from(first) << 8) + (u64::from(second) << 24)
 }
