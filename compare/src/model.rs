@@ -656,6 +656,21 @@ pub fn ends(list: &[Tok], hay: &[u8], start: usize) -> Vec<usize> {
     places
 }
 
+/// The same backwards: the offsets at which a match that ends at `end` can start. A match of the
+/// tokens read backwards is one of the haystack read backwards.
+pub fn starts(list: &[Tok], hay: &[u8], end: usize) -> Vec<usize> {
+    let back: Vec<u8> = hay[..end].iter().rev().copied().collect();
+    ends(&backwards(list), &back, 0).iter().rev().map(|n| end - n).collect()
+}
+
+fn backwards(list: &[Tok]) -> Vec<Tok> {
+    let one = |token: &Tok| match token {
+        Tok::Alts(lists) => Tok::Alts(lists.iter().map(|l| backwards(l)).collect()),
+        other => other.clone(),
+    };
+    list.iter().rev().map(one).collect()
+}
+
 fn ends_of_token(token: &Tok, hay: &[u8], at: usize) -> Vec<usize> {
     let left = hay.len() - at;
     let one = |fits: bool| if fits { vec![at + 1] } else { Vec::new() };

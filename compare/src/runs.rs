@@ -235,8 +235,8 @@ impl Judge {
         literals.report(&format!("picking from runs, seed {seed}"))
     }
 
-    /// Random patterns on short haystacks: an end is found from a start exactly if the tokens
-    /// match there, and it is one of theirs; the same backwards.
+    /// Random patterns on short haystacks, and some with long jumps on longer ones: an end is found
+    /// from a start exactly if the tokens match there, and it is one of theirs; the same backwards.
     pub fn spans(&self, seed: u64, count: usize) -> bool {
         let mut rng = Rng::new(seed);
         let taste = Taste { odd: 1000, small: true, negations: true, bytes: 4 };
@@ -246,6 +246,10 @@ impl Judge {
             let text = generate::pattern(&mut rng, taste, 1, most);
             let hay = generate::bytes(&mut rng, &[0x41, 0x42, 0x41, 0x00, 0x0A, 0x14], 12);
             let places: Vec<_> = (0..=hay.len()).collect();
+            self.spans_of(&mut spans, &text, &hay, &places);
+        }
+        for at in 0..count / 100 {
+            let (text, hay, places) = generate::far_pattern(&mut rng, at % 50 == 0);
             self.spans_of(&mut spans, &text, &hay, &places);
         }
         let Spans { patterns, windows, found, asked, wrong } = spans;
@@ -299,8 +303,13 @@ impl Judge {
     ) -> bool {
         let (end, start) = self.both_of(programs, hay, at);
         let ends = model::ends(list, hay, at);
-        let starts: Vec<_> =
-            (0..=at).filter(|s| model::ends(list, &hay[..at], *s).contains(&at)).collect();
+        // Backwards as plainly as forwards, where that does not take too long.
+        let starts: Vec<_> = match hay.len() {
+            0..=64 => {
+                (0..=at).filter(|s| model::ends(list, &hay[..at], *s).contains(&at)).collect()
+            }
+            _ => model::starts(list, hay, at),
+        };
         let agree = |answer: &Option<Answer<Found>>, all: &[usize]| match answer {
             Some(Ok(Found::At(place))) => all.contains(place),
             Some(Ok(Found::Nothing)) => all.is_empty(),
@@ -338,7 +347,7 @@ impl Judge {
     pub fn random_checks(&self, seed: u64, count: usize) -> bool {
         let mut rng = Rng::new(seed);
         let (mut checks, mut mirror) = <([Tally; 2], [Tally; 2])>::default();
-        for _ in 0..count {
+        for at in 0..count {
             let alphabet: &[u8] =
                 rng.pick(&[&b"AB"[..], &b"A"[..], &b"AB\n"[..], &b"\x00\x01\x10\xff"[..]]);
             let most = rng.pick(&[3, 6, 10]);
@@ -347,10 +356,15 @@ impl Judge {
                 words = generate::spoilt(&mut rng, &words);
             }
             if rng.one_in(200) {
-                words.resize(rng.pick(&[511, 512, 513]), generate::word(0, 0x41, 0));
+                let filling = rng.pick(&[generate::word(0, 0x41, 0), generate::word(3, 65_535, 0)]);
+                words.resize(rng.pick(&[511, 512, 513]), filling);
             }
-            if rng.one_in(500) {
-                let (words, hay) = generate::wide(&mut rng);
+            let longer = match at % 10_000 {
+                0 => Some(generate::far(&mut rng)),
+                _ if rng.one_in(500) => Some(generate::wide(&mut rng)),
+                _ => None,
+            };
+            if let Some((words, hay)) = longer {
                 self.mirror(&mut mirror, &words);
                 self.checks(&mut checks, &words, Window { hay: &hay, start: 0, end: hay.len() });
             }
