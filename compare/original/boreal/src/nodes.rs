@@ -65,6 +65,67 @@ impl Program {
         }
         n
     }
+
+    /// As `hits`, with a range before the program that the original's fields can't hold.
+    #[inline(never)]
+    pub fn far_hits(&self, (min, max): (u16, u16), hay: &[u8]) -> usize {
+        let nodes = &self.0.nodes[..];
+        let mut n = 0;
+        let mut i = 0;
+        while i < hay.len() {
+            let got = check_range(min, max, nodes, &hay[i..]);
+            i += 1;
+            if got.is_some() {
+                n = i;
+            }
+        }
+        n
+    }
+
+    /// As `hits_back`, with such a range.
+    #[inline(never)]
+    pub fn far_hits_back(&self, (min, max): (u16, u16), hay: &[u8]) -> usize {
+        let nodes = &self.0.nodes[..];
+        let mut n = 0;
+        let mut i = 0;
+        while i < hay.len() {
+            let got = check_range_reverse(min, max, nodes, &hay[..i]);
+            i += 1;
+            if got.is_some() {
+                n = i;
+            }
+        }
+        n
+    }
+}
+
+/// What the original does with a range, for lengths of 16 bits: its own check of the rest after each
+/// length, short before long.
+fn check_range<'a>(min: u16, max: u16, nodes: &[SimpleNode], mem: &'a [u8]) -> Option<&'a [u8]> {
+    for length in min..=max {
+        let rest = mem.get(usize::from(length)..)?;
+        if let Some(left) = check_nodes(nodes, rest) {
+            return Some(left);
+        }
+    }
+    None
+}
+
+/// The same in reverse, long before short; those longer than the window are passed over.
+fn check_range_reverse<'a>(
+    min: u16,
+    max: u16,
+    nodes: &[SimpleNode],
+    mem: &'a [u8],
+) -> Option<&'a [u8]> {
+    for length in (min..=max).rev() {
+        if let Some(keep) = mem.len().checked_sub(usize::from(length)) {
+            if let Some(left) = check_nodes_reverse(nodes, &mem[..keep]) {
+                return Some(left);
+            }
+        }
+    }
+    None
 }
 
 fn node(word: u64) -> Option<SimpleNode> {
