@@ -4,7 +4,8 @@
 use std::path::PathBuf;
 use std::{env, fs};
 
-const DOORS: [&str; 8] = [
+const DOORS: [&str; 9] = [
+    "tm_version",
     "tm_read",
     "tm_compile",
     "tm_sound",

@@ -14,7 +14,7 @@ not compile, or if the reading without a fault does not give every stored answer
 The faults stand in faults/*.txt, with a blank line after each; a line that begins with # is a heading.
 
     fault: NAME
-    01: what the document says, and after 'here' the misreading
+    01: what the document says (01, or 02 where a request has changed it), and after 'here' the misreading
     file: the file in src/, unless it is model.rs
     old: a line, or a part of one, that stands there once; several for lines that follow each other
     new: what is put in its place; old and new may come again

@@ -4,7 +4,7 @@
 use std::fmt::Write;
 
 use crate::model;
-use crate::pools::{OLD, rest};
+use crate::pools::{filled, rest};
 use crate::sample::{found, lines};
 use crate::sides::{Answer, Side, Window, hex};
 
@@ -17,7 +17,7 @@ struct Case {
     hay: Vec<u8>,
     start: usize,
     end: usize,
-    words: Vec<u32>,
+    words: Vec<u64>,
 }
 
 fn case(line: &[u8]) -> Case {
@@ -25,14 +25,14 @@ fn case(line: &[u8]) -> Case {
     let mut next = || columns.next().expect("a haystack and the bounds of a window");
     let hay = hex(next());
     let [start, end] = [next(), next()].map(|bound| bound.parse().expect("a number"));
-    let words = columns.map(|w| u32::from_str_radix(w, 16).expect("hex")).collect();
+    let words = columns.map(|w| u64::from_str_radix(w, 16).expect("hex")).collect();
     Case { hay, start, end, words }
 }
 
 /// The mirror's answer, with what it leaves in a pool of so many words.
-fn mirror(out: &mut String, words: &[u32], lent: usize) {
+fn mirror(out: &mut String, words: &[u64], lent: usize) {
     let mirrored = model::SIDE.mirror.and_then(|f| f(words)).expect("every program is answered");
-    let mut pools = [vec![OLD; lent]];
+    let mut pools = filled::<u64>(&[lent]);
     let answer = model::into_pools(&mut pools, model::NODE_POOL, mirrored.map(|m| vec![m]));
     let used = match answer {
         Ok(counts) => {

@@ -94,9 +94,12 @@ const NUMBERS: &[u64] = &[
     255,
     256,
     257,
+    300,
     1000,
+    65534,
     65535,
     65536,
+    65537,
     4_294_967_294,
     4_294_967_295,
     4_294_967_296,
@@ -271,8 +274,18 @@ pub fn for_literals(rng: &mut Rng) -> Vec<u8> {
 
 /// A pattern near one of the limits.
 pub fn at_limits(rng: &mut Rng) -> Vec<u8> {
-    const LIMITS: [fn(&mut Rng) -> String; 9] =
-        [levels, tokens_513, length, digits, branch, jumps, grown_jump, nodes, literals_257];
+    const LIMITS: [fn(&mut Rng) -> String; 10] = [
+        levels,
+        tokens_513,
+        length,
+        digits,
+        branch,
+        jumps,
+        grown_jump,
+        many_jumps,
+        nodes,
+        literals_257,
+    ];
     format!("{{{}}}", rng.pick(&LIMITS)(rng)).into_bytes()
 }
 
@@ -318,10 +331,12 @@ fn branch(rng: &mut Rng) -> String {
     format!("({}41{})41", rng.pick(&["", "41|"]), inner.repeat(n))
 }
 
-/// Jumps of about 200 and 255, within alternatives and without.
+/// Jumps of about 200, 255 and 65,535, within alternatives and without.
 fn jumps(rng: &mut Rng) -> String {
-    let at = rng.pick(&[0, 1, 2, 199, 200, 201, 202, 254, 255, 256, 257]);
-    let to = rng.pick(&[0, 1, 2, 199, 200, 201, 202, 254, 255, 256, 257]);
+    let near: &[usize] = &[0, 1, 2, 199, 200, 201, 202, 254, 255, 256, 257];
+    let far: &[usize] = &[0, 1, 255, 256, 300, 65_533, 65_534, 65_535, 65_536, 65_537];
+    let about = rng.pick(&[near, far]);
+    let (at, to) = (rng.pick(about), rng.pick(about));
     let jump = match rng.below(4) {
         0 => format!("[{at}]"),
         1 => format!("[-{to}]"),
@@ -332,12 +347,17 @@ fn jumps(rng: &mut Rng) -> String {
         .replace('J', &jump)
 }
 
-/// Successive jumps that sum up to about 255, so that adding one may or may not enlarge the last.
+/// Successive jumps that sum up to about 255 or 65,535, so that adding one may or may not enlarge the
+/// last: the original's ends at 255.
 fn grown_jump(rng: &mut Rng) -> String {
+    let near: &[usize] = &[2, 50, 55, 100, 127, 128, 155, 156, 200, 253, 254, 255];
+    let far: &[usize] =
+        &[2, 255, 256, 12_000, 25_000, 32_767, 32_768, 50_000, 65_279, 65_280, 65_534, 65_535];
+    let about = rng.pick(&[near, near, far]);
     let mut out = rng.pick(&["41", "(41", "(41|42", "??", "(41|42 ??)"]).to_string();
     let close = if out.starts_with('(') && !out.ends_with(')') { "43)" } else { "43" };
     for _ in 0..2 + rng.below(4) {
-        let n = rng.pick(&[2, 50, 55, 100, 127, 128, 155, 156, 200, 253, 254, 255]);
+        let n = rng.pick(about);
         match rng.below(5) {
             0 => out.push_str("??"),
             1 => out.push_str("[1]"),
@@ -346,6 +366,20 @@ fn grown_jump(rng: &mut Rng) -> String {
         }
     }
     out + close
+}
+
+/// So many jumps that they sum up to about 65,535, also in a branch, where each is at most 200.
+fn many_jumps(rng: &mut Rng) -> String {
+    let (jump, times) = rng.pick(&[(200, 327), (255, 256), (199, 329), (150, 436)]);
+    let last = 65_535 - jump * times + rng.pick(&[0, 1, 2]) - 1;
+    let (open, close) =
+        rng.pick(&[("41", "42"), ("(41", "42)"), ("(43|41", "42)44"), ("??", "42")]);
+    let many = format!("[{jump}]").repeat(times);
+    if rng.one_in(2) {
+        format!("{open}{many}[{last}]{close}")
+    } else {
+        format!("{open}[{last}]{many}{close}")
+    }
 }
 
 /// 512 nodes, and fewer or more: a bracket has three for its two tokens. Long runs of classes take
@@ -414,48 +448,93 @@ pub fn window(rng: &mut Rng, length: usize) -> (usize, usize) {
     }
 }
 
-fn plain_word(rng: &mut Rng, alphabet: &[u8]) -> u32 {
-    let b = u32::from(rng.pick(alphabet));
+/// A pattern with a jump of about 255, or about 65,535, a haystack in which it may fit, and places in
+/// that.
+pub fn far_pattern(rng: &mut Rng, long: bool) -> (Vec<u8>, Vec<u8>, Vec<usize>) {
+    let near: &[usize] = &[200, 254, 255, 256, 257, 300, 450];
+    let far: &[usize] = &[40_000, 65_534, 65_535];
+    let n = rng.pick(if long { far } else { near });
+    let part = 2 + rng.below(n / 2 - 2);
+    let jump = match rng.below(6) {
+        0 => format!("[{n}]"),
+        1 => format!("[{part}-{n}]"),
+        2 => format!("[-{n}]"),
+        3 => format!("[{part}][{}]", n - part),
+        4 => format!("[{}]??", n - 1),
+        _ => format!("[{part}-{}][{part}]", n - part),
+    };
+    let text = rng.pick(&["{41J42}", "{(43|41)J42}", "{41J(43|42)}", "{??J42}", "{41J4?}"]);
+    let (before, gap, after) = (rng.below(5), n + rng.below(3) - 1, rng.below(5));
+    let mut hay = vec![0; before + gap + after + 2];
+    hay[before] = 0x41;
+    hay[before + gap + 1] = 0x42;
+    if rng.one_in(2) {
+        let at = rng.below(hay.len());
+        hay[at] = rng.pick(&[0x41, 0x42, 0x43]);
+    }
+    let places = vec![0, before, before + 1, before + gap + 1, before + gap + 2, hay.len()];
+    (text.replace('J', &jump).into_bytes(), hay, places)
+}
+
+pub fn word(kind: u64, first: u64, second: u64) -> u64 {
+    kind + (first << 8) + (second << 24)
+}
+
+/// A number that is below so many.
+fn less(rng: &mut Rng, n: usize) -> u64 {
+    rng.below(n) as u64
+}
+
+/// Lengths about what the original's fields hold and what ours do.
+const LENGTHS: &[u64] = &[0, 1, 2, 254, 255, 256, 257, 300, 65_534, 65_535];
+
+fn plain_word(rng: &mut Rng, alphabet: &[u8], far: bool) -> u64 {
+    let b = u64::from(rng.pick(alphabet));
     let mask = rng.pick(&[0x00, 0x01, 0x0F, 0xF0, 0xFF, 0x03]);
     match rng.below(9) {
-        0..=3 => 256 * b,
-        4 => 1 + 256 * (b & mask) + 65536 * mask,
-        5 => 2 + 256 * (b & mask) + 65536 * mask,
-        6 => 1 + rng.below(2) as u32 + 256 * b + 65536 * mask,
-        7 => 3 + 256 * rng.below(4) as u32,
+        0..=3 => word(0, b, 0),
+        4 => word(1, b & mask, mask),
+        5 => word(2, b & mask, mask),
+        6 => word(1 + less(rng, 2), b, mask),
+        7 if far => word(3, rng.pick(LENGTHS), 0),
+        7 => word(3, less(rng, 4), 0),
         _ => 5,
     }
 }
 
-/// A sound program of about so many items.
-pub fn program(rng: &mut Rng, alphabet: &[u8], most: usize) -> Vec<u32> {
+/// A sound program of about so many items; few have jumps that go far.
+pub fn program(rng: &mut Rng, alphabet: &[u8], most: usize) -> Vec<u64> {
+    let far = rng.one_in(40);
     let mut words = Vec::new();
     for _ in 0..rng.below(most + 1) {
         match rng.below(8) {
+            0 if far => {
+                let (a, b) = (rng.pick(LENGTHS), rng.pick(LENGTHS));
+                words.push(word(4, a.min(b), a.max(b)));
+            }
             0 => {
-                let min = rng.below(3) as u32;
-                let max = min + rng.below(4) as u32;
-                words.push(4 + 256 * min + 65536 * max);
+                let min = less(rng, 3);
+                words.push(word(4, min, min + less(rng, 4)));
             }
             1 => {
                 let mut inner = Vec::new();
                 for _ in 0..1 + rng.below(3) {
                     let n = rng.below(4);
-                    inner.push(7 + 256 * n as u32);
-                    inner.extend((0..n).map(|_| plain_word(rng, alphabet)));
+                    inner.push(word(7, n as u64, 0));
+                    inner.extend((0..n).map(|_| plain_word(rng, alphabet, far)));
                 }
-                words.push(6 + 256 * inner.len() as u32);
+                words.push(word(6, inner.len() as u64, 0));
                 words.extend(inner);
             }
-            _ => words.push(plain_word(rng, alphabet)),
+            _ => words.push(plain_word(rng, alphabet, far)),
         }
     }
     words
 }
 
-/// A sound program with long jumps, or an alternation whose count needs both fields, and a
-/// haystack of about its length.
-pub fn wide(rng: &mut Rng) -> (Vec<u32>, Vec<u8>) {
+/// A program with long jumps, or an alternation whose count does not fit a byte, and a haystack of
+/// about its length. It is sound but for a branch of 256 nodes.
+pub fn wide(rng: &mut Rng) -> (Vec<u64>, Vec<u8>) {
     let most = 200 + rng.below(500);
     let mut hay = vec![0x41; most];
     for _ in 0..rng.below(4) {
@@ -464,55 +543,83 @@ pub fn wide(rng: &mut Rng) -> (Vec<u32>, Vec<u8>) {
     let mut words = Vec::new();
     if rng.one_in(2) {
         for _ in 0..1 + rng.below(3) {
-            let n = rng.pick(&[100, 200, 254, 255]);
-            words.push(7 + 256 * n);
+            let n = rng.pick(&[100, 200, 254, 255, 256]);
+            words.push(word(7, n, 0));
             words.extend((0..n).map(|_| if rng.one_in(60) { 0x4200 } else { 0x4100 }));
         }
         words.truncate(500);
         let last = words.iter().rposition(|w| w % 256 == 7).unwrap_or(0);
-        words[last] = 7 + 256 * (words.len() - last - 1) as u32;
-        words.insert(0, 6 + 256 * words.len() as u32);
+        words[last] = word(7, (words.len() - last - 1) as u64, 0);
+        words.insert(0, word(6, words.len() as u64, 0));
     } else {
-        let (a, b) = (rng.below(256) as u32, rng.below(256) as u32);
-        words.push(4 + 256 * a.min(b) + 65536 * a.max(b));
+        let below = rng.pick(&[256, 256, 700]);
+        let (a, b) = (less(rng, below), less(rng, below));
+        words.push(word(4, a.min(b), a.max(b)));
         words.push(0x4200);
-        words.push(3 + 256 * rng.below(256) as u32);
-        words.push(4 + 256 * rng.below(3) as u32 + 65536 * (3 + rng.below(20) as u32));
+        words.push(word(3, less(rng, below), 0));
+        words.push(word(4, less(rng, 3), 3 + less(rng, 20)));
     }
     words.push(rng.pick(&[0x4200, 0x4100, 5]));
     (words, hay)
 }
 
+/// A sound program with a jump of up to 65,535, and a haystack that is long enough for it.
+pub fn far(rng: &mut Rng) -> (Vec<u64>, Vec<u8>) {
+    let mut hay = vec![0x41; 70_000];
+    let length = 65_535 - less(rng, 4);
+    for at in [length as usize, 69_999 - length as usize, rng.below(70_000), rng.below(70_000)] {
+        hay[at] = 0x42;
+    }
+    let words = match rng.below(5) {
+        0 => vec![word(3, length, 0), 0x4200],
+        1 => vec![word(4, length - less(rng, 60_000), length), 0x4200],
+        2 => vec![word(4, 0, 65_535), 0x4200, word(3, 3, 0)],
+        3 => {
+            let branches =
+                [word(7, 2, 0), word(3, length, 0), 0x4200, word(7, 2, 0), 0x103, 0x4100];
+            [&[word(6, 6, 0)], &branches[..]].concat()
+        }
+        _ => vec![word(3, 65_535, 0); 512],
+    };
+    (words, hay)
+}
+
 /// A program with a few words spoilt, mostly unsound.
-pub fn spoilt(rng: &mut Rng, words: &[u32]) -> Vec<u32> {
+pub fn spoilt(rng: &mut Rng, words: &[u64]) -> Vec<u64> {
+    const FIELDS: &[u64] = &[0, 1, 2, 254, 255, 256, 257, 32_768, 65_534, 65_535];
     let mut out = words.to_vec();
-    out.push(256 * 0x41);
+    out.push(word(0, 0x41, 0));
     for _ in 0..1 + rng.below(2) {
         let at = rng.below(out.len());
-        out[at] = match rng.below(6) {
-            0 => out[at] ^ (1 << rng.below(32)),
-            1 => 7 + 256 * rng.below(3) as u32,
-            2 => 6 + 256 * rng.below(4) as u32,
-            3 => rng.below(12) as u32,
-            4 => 4 + 256 * rng.below(4) as u32 + 65536 * rng.below(4) as u32,
-            _ => rng.next() as u32,
+        out[at] = match rng.below(9) {
+            0 | 1 => out[at] ^ (1 << rng.below(64)),
+            2 => word(7, less(rng, 3), 0),
+            3 => word(6, less(rng, 4), 0),
+            4 => less(rng, 12),
+            5 => word(4, less(rng, 4), less(rng, 4)),
+            6 if rng.one_in(2) => word(less(rng, 9), rng.pick(FIELDS), 0),
+            6 => word(less(rng, 9), rng.pick(FIELDS), rng.pick(FIELDS)),
+            // As words were before: their second field began at bit 16.
+            7 => less(rng, 8) + (less(rng, 256) << 8) + (less(rng, 256) << 16),
+            _ => rng.next() >> rng.pick(&[0, 24, 32]),
         };
     }
     out
 }
 
-/// The words from which all short programs are made.
-pub const WORDS: &[u32] = &[
+/// The words from which all short programs are made. The last three: lengths above 255, which the
+/// original's fields don't hold, and a mask as it was when the second field began at bit 16.
+pub const WORDS: &[u64] = &[
     0x0000_4100,
     0x0000_4200,
-    0x0001_0101,
-    0x0001_0102,
+    0x0100_0101,
+    0x0100_0102,
     0x0000_0103,
     0x0000_0203,
-    0x0001_0004,
-    0x0002_0004,
-    0x0002_0104,
-    0x0001_0104,
+    0x0100_0004,
+    0x0200_0004,
+    0x0200_0104,
+    0x0100_0104,
     0x0000_0005,
     0x0000_0206,
     0x0000_0306,
@@ -520,4 +627,7 @@ pub const WORDS: &[u32] = &[
     0x0000_0007,
     0x0000_0107,
     0x0000_0207,
+    0x0001_0003,
+    0x0001_2C00_0104,
+    0x0001_0101,
 ];

@@ -8,16 +8,16 @@ use crate::model;
 const INPUT: usize = 4097;
 const BYTES: usize = 32_768;
 
-fn node(word: u32) -> String {
-    let (a, b) = (word / 256 % 256, word / 65536 % 256);
-    match word % 256 {
+fn node(word: u64) -> String {
+    let (kind, a, b) = model::fields(word);
+    match kind {
         0 => format!("byte {a:02X}"),
         1 => format!("mask {a:02X} {b:02X}"),
         2 => format!("not {a:02X} {b:02X}"),
         3 => format!("jump {a}"),
         4 => format!("range {a} {b}"),
         5 => "dot".into(),
-        6 => format!("alt {}", a + 256 * b),
+        6 => format!("alt {a}"),
         _ => format!("branch {a}"),
     }
 }

@@ -128,8 +128,8 @@ fn shown(judge: &runs::Judge, args: &[String]) -> Option<bool> {
     match args[0].as_str() {
         "show" => args[1..].iter().for_each(|text| judge.show(text.as_bytes())),
         "nodes" => {
-            let word = |w: &String| u32::from_str_radix(w, 16).expect("hex");
-            let words: Vec<u32> = args[4..].iter().map(word).collect();
+            let word = |w: &String| u64::from_str_radix(w, 16).expect("hex");
+            let words: Vec<u64> = args[4..].iter().map(word).collect();
             let (hay, start, end) = (sides::hex(&args[1]), size(2, 0), size(3, 0));
             judge.show_checks(&words, sides::Window { hay: &hay, start, end });
         }

@@ -1,4 +1,5 @@
-//! Document 01 read a third time, as plainly as it can be written, without regard to speed.
+//! Document 01 read a third time, with the requests of 02 that have landed, as plainly as it can be
+//! written, without regard to speed.
 //!
 //! It gives the answers for which the original has no counterpart (refusals 1 and 11 to 19, of which
 //! 18 for pools only), and shows where the original and the document part.
@@ -232,15 +233,15 @@ pub const NODE_POOL: usize = 512;
 /// A call that writes words into pools of which the first `size` words are lent: 18 before all else
 /// if one is too short, and then nothing changes; else zeros there, under the words of a success.
 /// Answers how many words each pool got.
-pub fn into_pools(
-    pools: &mut [Vec<u32>],
+pub fn into_pools<W: Copy + Default>(
+    pools: &mut [Vec<W>],
     size: usize,
-    answer: Answer<Vec<Vec<u32>>>,
+    answer: Answer<Vec<Vec<W>>>,
 ) -> Answer<Vec<usize>> {
     if pools.iter().any(|pool| pool.len() < size) {
         return refuse(18, 0);
     }
-    pools.iter_mut().for_each(|pool| pool[..size].fill(0));
+    pools.iter_mut().for_each(|pool| pool[..size].fill(W::default()));
     let words = answer?;
     for (pool, words) in pools.iter_mut().zip(&words) {
         pool[..words.len()].copy_from_slice(words);
@@ -252,28 +253,49 @@ pub fn into_pools(
 
 const NODES: usize = 512;
 
-fn word(kind: u32, first: u32, second: u32) -> u32 {
-    kind + 256 * first + 65536 * second
+fn word(kind: u64, first: u64, second: u64) -> u64 {
+    kind + (first << 8) + (second << 24)
 }
 
-fn masked(kind: u32, digit: u8, side: u32) -> u32 {
-    let digit = u32::from(digit);
+pub fn fields(w: u64) -> (u64, u64, u64) {
+    (w % 256, (w >> 8) % 65536, (w >> 24) % 65536)
+}
+
+/// What an alternation or a branch counts.
+fn count(w: u64) -> usize {
+    fields(w).1 as usize
+}
+
+fn masked(kind: u64, digit: u8, side: u32) -> u64 {
+    let digit = u64::from(digit);
     if side == 0 { word(kind, digit, 0x0F) } else { word(kind, 16 * digit, 0xF0) }
 }
 
 /// The nodes of one list, before its alternations are laid out flat.
+#[derive(PartialEq)]
 enum Item {
-    Word(u32),
-    Alternation(Vec<Vec<u32>>),
+    Word(u64),
+    Alternation(Vec<Vec<u64>>),
 }
+
+/// What the document and the original's builder do differently.
+#[derive(Clone, Copy)]
+struct Builder {
+    /// The longest jump, by itself and added up.
+    longest: u64,
+    /// The original's fault: a jump after alternatives enlarges the last branch's.
+    grows: bool,
+}
+
+const DOCUMENT: Builder = Builder { longest: 65_535, grows: false };
+const ORIGINAL: Builder = Builder { longest: 255, grows: true };
 
 /// How a list becomes nodes.
 #[derive(Clone, Copy)]
 struct Making {
     reverse: bool,
     in_branch: bool,
-    /// The original's fault: a jump after alternatives enlarges the last branch's.
-    grows: bool,
+    by: Builder,
 }
 
 /// None for a list that is not simple.
@@ -281,18 +303,21 @@ fn items(list: &[Tok], how: Making) -> Option<Vec<Item>> {
     let mut out: Vec<Item> = Vec::new();
     let in_order: Vec<&Tok> =
         if how.reverse { list.iter().rev().collect() } else { list.iter().collect() };
-    let jump = |out: &mut Vec<Item>, length| add_jump(out, length, how.grows);
+    let jump = |out: &mut Vec<Item>, length| add_jump(out, length, how.by);
+    let far = |to: u32| u64::from(to) > how.by.longest;
     for token in in_order {
         match token {
-            Tok::Byte(b) => out.push(Item::Word(word(0, u32::from(*b), 0))),
-            Tok::NotByte(b) => out.push(Item::Word(word(2, u32::from(*b), 0xFF))),
+            Tok::Byte(b) => out.push(Item::Word(word(0, u64::from(*b), 0))),
+            Tok::NotByte(b) => out.push(Item::Word(word(2, u64::from(*b), 0xFF))),
             Tok::Masked(_, 2) => jump(&mut out, 1),
             Tok::Masked(d, side) => out.push(Item::Word(masked(1, *d, *side))),
             Tok::NotMasked(d, side) => out.push(Item::Word(masked(2, *d, *side))),
-            Tok::Jump(_, to) if to.is_none_or(|to| to > 255) => return None,
-            Tok::Jump(from, to) if *to == Some(*from) => jump(&mut out, *from),
+            Tok::Jump(_, to) if to.is_none_or(far) => return None,
+            Tok::Jump(from, to) if *to == Some(*from) => jump(&mut out, u64::from(*from)),
             Tok::Jump(..) | Tok::Alts(_) if how.in_branch => return None,
-            Tok::Jump(from, to) => out.push(Item::Word(word(4, *from, to.unwrap_or(0)))),
+            Tok::Jump(from, to) => {
+                out.push(Item::Word(word(4, u64::from(*from), to.map_or(0, u64::from))));
+            }
             Tok::Alts(lists) => {
                 let inner = Making { in_branch: true, ..how };
                 let branches: Option<Vec<_>> =
@@ -304,30 +329,32 @@ fn items(list: &[Tok], how: Making) -> Option<Vec<Item>> {
     Some(out)
 }
 
-fn add_jump(out: &mut Vec<Item>, length: u32, grows: bool) {
+fn add_jump(out: &mut Vec<Item>, length: u64, by: Builder) {
     let last = match out.last_mut() {
         Some(Item::Word(last)) => Some(last),
-        Some(Item::Alternation(branches)) if grows => {
+        Some(Item::Alternation(branches)) if by.grows => {
             branches.last_mut().and_then(|b| b.last_mut())
         }
         _ => None,
     };
     match last {
-        Some(last) if *last % 256 == 3 && *last / 256 + length <= 255 => *last += 256 * length,
+        Some(last) if *last % 256 == 3 && fields(*last).1 + length <= by.longest => {
+            *last = word(3, fields(*last).1 + length, 0);
+        }
         _ => out.push(Item::Word(word(3, length, 0))),
     }
 }
 
-fn flat(items: &[Item]) -> Vec<u32> {
+fn flat(items: &[Item]) -> Vec<u64> {
     let mut words = Vec::new();
     for item in items {
         match item {
             Item::Word(w) => words.push(*w),
             Item::Alternation(branches) => {
                 let count: usize = branches.iter().map(|b| b.len() + 1).sum();
-                words.push(6 + 256 * count as u32);
+                words.push(word(6, count as u64, 0));
                 for branch in branches {
-                    words.push(7 + 256 * branch.len() as u32);
+                    words.push(word(7, branch.len() as u64, 0));
                     words.extend(branch);
                 }
             }
@@ -343,19 +370,55 @@ fn long_branch(items: &[Item]) -> bool {
     })
 }
 
-fn both(list: &[Tok], grows: bool) -> Option<(Vec<Item>, Vec<Item>)> {
-    let one = |reverse| items(list, Making { reverse, in_branch: false, grows });
+fn both(list: &[Tok], by: Builder) -> Option<(Vec<Item>, Vec<Item>)> {
+    let one = |reverse| items(list, Making { reverse, in_branch: false, by });
     Some((one(false)?, one(true)?))
 }
 
-/// What the original's builder makes of a text: with its fault, and without the limits of nodes.
+/// What the original's builder makes of a text: in fields of 8 bits, with its fault, and without the
+/// limits of nodes.
 pub fn as_original(text: &[u8]) -> Option<Compiled> {
-    let (forward, reverse) = both(&tokens(text).ok()?.0, true)?;
+    let (forward, reverse) = both(&tokens(text).ok()?.0, ORIGINAL)?;
     Some(Compiled { forward: flat(&forward), reverse: flat(&reverse) })
 }
 
+/// Whether the original's fault changes what it makes of a list.
+pub fn grown(list: &[Tok]) -> bool {
+    both(list, ORIGINAL) != both(list, Builder { grows: false, ..ORIGINAL })
+}
+
+/// Whether the original's fields suffice for the programs of a list, by its tokens alone: each jump
+/// with an upper bound has one of at most 255, and the fixed jumps that follow each other sum to no
+/// more. Then both sides have to build the same; else ours has a field above 255, which the original
+/// declines or splits. An unbounded jump is in no field of either.
+pub fn narrow(list: &[Tok]) -> bool {
+    let mut sum = 0;
+    list.iter().all(|token| {
+        sum = match token {
+            Tok::Masked(_, 2) => sum + 1,
+            Tok::Jump(from, Some(to)) if from == to => sum + u64::from(*to),
+            _ => 0,
+        };
+        sum <= 255
+            && match token {
+                Tok::Jump(_, to) => to.is_none_or(|to| to <= 255),
+                Tok::Alts(lists) => lists.iter().all(|l| narrow(l)),
+                _ => true,
+            }
+    })
+}
+
+/// The same of a sound program, by its words: values, masks and branches' counts are bytes there, and
+/// an alternation's count has 16 bits on both sides.
+pub fn narrow_words(words: &[u64]) -> bool {
+    words.iter().all(|w| match fields(*w) {
+        (3 | 4, a, b) => a <= 255 && b <= 255,
+        _ => true,
+    })
+}
+
 pub fn programs(list: &[Tok]) -> Answer<Compiled> {
-    let Some((forward, reverse)) = both(list, false) else {
+    let Some((forward, reverse)) = both(list, DOCUMENT) else {
         return refuse(12, 0);
     };
     if long_branch(&forward) || long_branch(&reverse) {
@@ -372,30 +435,28 @@ fn compile(text: &[u8]) -> Option<Answer<Compiled>> {
     Some(tokens(text).and_then(|(list, _)| programs(&list)))
 }
 
-fn fields(w: u32) -> (u32, u32, u32) {
-    (w % 256, w / 256 % 256, w / 65536 % 256)
-}
-
-fn proper(w: u32) -> bool {
+fn proper(w: u64) -> bool {
     let (kind, a, b) = fields(w);
-    w < 1 << 24
+    w < 1 << 40
         && match kind {
-            0 | 3 | 7 => b == 0,
-            1 | 2 | 6 => true,
+            0 => a <= 255 && b == 0,
+            1 | 2 => a <= 255 && b <= 255,
+            3 => b == 0,
             4 => a <= b,
             5 => a == 0 && b == 0,
+            6 => b == 0,
+            7 => a <= 255 && b == 0,
             _ => false,
         }
 }
 
-fn sound_branches(mut words: &[u32]) -> bool {
+fn sound_branches(mut words: &[u64]) -> bool {
     while let Some((w, rest)) = words.split_first() {
-        let (kind, size, _) = fields(*w);
-        let Some((branch, rest)) = rest.split_at_checked(size as usize) else {
+        let Some((branch, rest)) = rest.split_at_checked(count(*w)) else {
             return false;
         };
-        let plain = |w: &u32| proper(*w) && matches!(w % 256, 0 | 1 | 2 | 3 | 5);
-        if kind != 7 || !proper(*w) || !branch.iter().all(plain) {
+        let plain = |w: &u64| proper(*w) && matches!(w % 256, 0 | 1 | 2 | 3 | 5);
+        if w % 256 != 7 || !proper(*w) || !branch.iter().all(plain) {
             return false;
         }
         words = rest;
@@ -403,7 +464,7 @@ fn sound_branches(mut words: &[u32]) -> bool {
     true
 }
 
-pub fn sound(mut words: &[u32]) -> bool {
+pub fn sound(mut words: &[u64]) -> bool {
     if words.len() > NODES {
         return false;
     }
@@ -413,11 +474,10 @@ pub fn sound(mut words: &[u32]) -> bool {
             return false;
         }
         if w % 256 == 6 {
-            let count = (w / 256) as usize;
-            let Some((branches, rest)) = words.split_at_checked(count) else {
+            let Some((branches, rest)) = words.split_at_checked(count(*w)) else {
                 return false;
             };
-            if count == 0 || !sound_branches(branches) {
+            if branches.is_empty() || !sound_branches(branches) {
                 return false;
             }
             words = rest;
@@ -426,7 +486,7 @@ pub fn sound(mut words: &[u32]) -> bool {
     true
 }
 
-fn tested(words: &[u32]) -> Answer<()> {
+fn tested(words: &[u64]) -> Answer<()> {
     if words.len() > NODES {
         refuse(13, 0)
     } else if !sound(words) {
@@ -437,7 +497,7 @@ fn tested(words: &[u32]) -> Answer<()> {
 }
 
 /// The items of a sound program.
-fn parts(mut words: &[u32]) -> Vec<Item> {
+fn parts(mut words: &[u64]) -> Vec<Item> {
     let mut out = Vec::new();
     while let Some((w, rest)) = words.split_first() {
         words = rest;
@@ -445,11 +505,11 @@ fn parts(mut words: &[u32]) -> Vec<Item> {
             out.push(Item::Word(*w));
             continue;
         }
-        let (mut inner, rest) = words.split_at((w / 256) as usize);
+        let (mut inner, rest) = words.split_at(count(*w));
         words = rest;
         let mut branches = Vec::new();
         while let Some((mark, rest)) = inner.split_first() {
-            let (branch, rest) = rest.split_at((mark / 256) as usize);
+            let (branch, rest) = rest.split_at(count(*mark));
             branches.push(branch.to_vec());
             inner = rest;
         }
@@ -458,7 +518,7 @@ fn parts(mut words: &[u32]) -> Vec<Item> {
     out
 }
 
-fn mirror(words: &[u32]) -> Option<Answer<Vec<u32>>> {
+fn mirror(words: &[u64]) -> Option<Answer<Vec<u64>>> {
     Some(tested(words).map(|()| {
         let mut items = parts(words);
         items.reverse();
@@ -471,17 +531,19 @@ fn mirror(words: &[u32]) -> Option<Answer<Vec<u32>>> {
     }))
 }
 
-// Checks: every choice written out as a row of tests, and the first row that fits
+// Checks: every choice written out as a row of words, and the first row that fits
 
-const ROWS: usize = 20_000;
+/// One range may have all its 65,536 lengths, beside a few branches.
+const ROWS: usize = 200_000;
 
-fn choices(item: &Item, short_first: bool) -> Vec<Vec<u32>> {
-    let any = word(3, 1, 0);
+/// What an item may be, in order: a range is a jump of one of its lengths, an alternation one of its
+/// branches. A length above the room can't fit, and isn't written out.
+fn choices(item: &Item, room: usize, short_first: bool) -> Vec<Vec<u64>> {
     match item {
         Item::Word(w) => match fields(*w) {
-            (3, n, _) => vec![vec![any; n as usize]],
             (4, min, max) => {
-                let mut all: Vec<_> = (min..=max).map(|n| vec![any; n as usize]).collect();
+                let lengths = min..=max.min(room as u64);
+                let mut all: Vec<_> = lengths.map(|n| vec![word(3, n, 0)]).collect();
                 if !short_first {
                     all.reverse();
                 }
@@ -489,33 +551,43 @@ fn choices(item: &Item, short_first: bool) -> Vec<Vec<u32>> {
             }
             _ => vec![vec![*w]],
         },
-        Item::Alternation(branches) => branches
-            .iter()
-            .map(|b| {
-                b.iter().flat_map(|w| choices(&Item::Word(*w), short_first).remove(0)).collect()
-            })
-            .collect(),
+        Item::Alternation(branches) => branches.clone(),
     }
 }
 
-/// None where the rows are too many to write out.
-fn rows(words: &[u32], short_first: bool) -> Option<Vec<Vec<u32>>> {
-    let mut rows = vec![Vec::new()];
-    for item in parts(words) {
-        let next = choices(&item, short_first);
-        if rows.len() * next.len() > ROWS {
-            return None;
+/// The rows in order: the last item's choice changes from each row to the next, that of the one
+/// before when these have all been. None where there are too many to try.
+fn rows(
+    words: &[u64],
+    room: usize,
+    short_first: bool,
+) -> Option<impl DoubleEndedIterator<Item = Vec<u64>>> {
+    let items: Vec<_> = parts(words).iter().map(|item| choices(item, room, short_first)).collect();
+    let number = items.iter().try_fold(1, |n, item| Some(n * item.len()).filter(|n| *n <= ROWS))?;
+    Some((0..number).map(move |mut row| {
+        let mut taken = Vec::new();
+        for item in items.iter().rev() {
+            taken.push(&item[row % item.len()]);
+            row /= item.len();
         }
-        rows = rows
-            .iter()
-            .flat_map(|row: &Vec<u32>| next.iter().map(move |n| [&row[..], n].concat()))
-            .collect();
-    }
-    Some(rows)
+        taken.into_iter().rev().flatten().copied().collect()
+    }))
 }
 
-fn passes(w: u32, b: u8) -> bool {
-    let b = u32::from(b);
+/// How many bytes a word of a row takes up.
+fn width(w: u64) -> usize {
+    match fields(w) {
+        (3, n, _) => n as usize,
+        _ => 1,
+    }
+}
+
+fn size(row: &[u64]) -> usize {
+    row.iter().map(|w| width(*w)).sum()
+}
+
+fn passes(w: u64, b: u8) -> bool {
+    let b = u64::from(b);
     match fields(w) {
         (0, value, _) => b == value,
         (1, value, mask) => b & mask == value,
@@ -525,38 +597,41 @@ fn passes(w: u32, b: u8) -> bool {
     }
 }
 
-fn fits(row: &[u32], bytes: impl Iterator<Item = u8>) -> bool {
-    let mut left = row.iter();
-    for b in bytes {
-        match left.next() {
-            None => return true,
-            Some(w) if !passes(*w, b) => return false,
-            Some(_) => (),
+/// Whether a row fits the first of the bytes: a jump any of them, each other word its one.
+fn fits(row: &[u64], bytes: &[u8]) -> bool {
+    let mut left = bytes;
+    for w in row {
+        let Some((here, rest)) = left.split_at_checked(width(*w)) else {
+            return false;
+        };
+        if w % 256 != 3 && !passes(*w, here[0]) {
+            return false;
         }
+        left = rest;
     }
-    left.next().is_none()
+    true
 }
 
-fn door(words: &[u32], w: Window) -> Answer<()> {
+fn door(words: &[u64], w: Window) -> Answer<()> {
     if w.start > w.end || w.end > w.hay.len() { refuse(16, 0) } else { tested(words) }
 }
 
-pub fn forward(words: &[u32], w: Window) -> Option<Answer<Found>> {
+pub fn forward(words: &[u64], w: Window) -> Option<Answer<Found>> {
     if let Err(refusal) = door(words, w) {
         return Some(Err(refusal));
     }
-    let window = &w.hay[w.start..w.end];
-    let first = rows(words, true)?.into_iter().find(|row| fits(row, window.iter().copied()));
-    Some(Ok(first.map_or(Found::Nothing, |row| Found::At(w.start + row.len()))))
+    let bytes = &w.hay[w.start..w.end];
+    let first = rows(words, bytes.len(), true)?.find(|row| fits(row, bytes));
+    Some(Ok(first.map_or(Found::Nothing, |row| Found::At(w.start + size(&row)))))
 }
 
-pub fn reverse(words: &[u32], w: Window) -> Option<Answer<Found>> {
+pub fn reverse(words: &[u64], w: Window) -> Option<Answer<Found>> {
     if let Err(refusal) = door(words, w) {
         return Some(Err(refusal));
     }
-    let window = &w.hay[w.start..w.end];
-    let first = rows(words, false)?.into_iter().find(|row| fits(row, window.iter().rev().copied()));
-    Some(Ok(first.map_or(Found::Nothing, |row| Found::At(w.end - row.len()))))
+    let bytes: Vec<u8> = w.hay[w.start..w.end].iter().rev().copied().collect();
+    let first = rows(words, bytes.len(), false)?.find(|row| fits(row, &bytes));
+    Some(Ok(first.map_or(Found::Nothing, |row| Found::At(w.end - size(&row)))))
 }
 
 /// What the second forward door hands back, by the first one's answer.
@@ -579,6 +654,21 @@ pub fn ends(list: &[Tok], hay: &[u8], start: usize) -> Vec<usize> {
         places = next;
     }
     places
+}
+
+/// The same backwards: the offsets at which a match that ends at `end` can start. A match of the
+/// tokens read backwards is one of the haystack read backwards.
+pub fn starts(list: &[Tok], hay: &[u8], end: usize) -> Vec<usize> {
+    let back: Vec<u8> = hay[..end].iter().rev().copied().collect();
+    ends(&backwards(list), &back, 0).iter().rev().map(|n| end - n).collect()
+}
+
+fn backwards(list: &[Tok]) -> Vec<Tok> {
+    let one = |token: &Tok| match token {
+        Tok::Alts(lists) => Tok::Alts(lists.iter().map(|l| backwards(l)).collect()),
+        other => other.clone(),
+    };
+    list.iter().rev().map(one).collect()
 }
 
 fn ends_of_token(token: &Tok, hay: &[u8], at: usize) -> Vec<usize> {

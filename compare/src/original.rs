@@ -66,9 +66,10 @@ pub fn alone(text: &[u8]) {
 }
 
 /// Both checks, also of unsound programs and on wrong windows: the answers in words.
-pub fn raw(words: &[u32], w: Window) -> (String, String) {
+pub fn raw(words: &[u64], w: Window) -> (String, String) {
     let Some(program) = Program::new(words) else {
-        return ("no such node".into(), "no such node".into());
+        let why = "a word has no node, or does not fit its fields";
+        return (why.into(), why.into());
     };
     let told = |f: &dyn Fn() -> Option<usize>| match std::panic::catch_unwind(
         std::panic::AssertUnwindSafe(f),
@@ -100,17 +101,36 @@ fn read(text: &[u8]) -> Option<Answer<Read>> {
     Some(answer.map(|(tokens, reached)| Read { words: entries(&list(&tokens)), reached }))
 }
 
-/// None also where the original's builder declines: it caps combinations at 64.
+/// Whether a text that is read needs wider fields than the original's, by its tokens alone.
+pub fn wide(text: &[u8]) -> bool {
+    matches!(parsed(text), Some(Ok((tokens, _))) if !model::narrow(&list(&tokens)))
+}
+
+/// The same of a program, on a window that the original can be asked about.
+pub fn wide_words(words: &[u64], w: Window) -> bool {
+    askable(words, w) && !model::narrow_words(words)
+}
+
+/// None also where the original's fields do not suffice, whatever it builds there, and where its
+/// builder declines: it caps combinations at 64.
 fn compile(text: &[u8]) -> Option<Answer<Compiled>> {
     match parsed(text)? {
         Err(refusal) => Some(Err(refusal)),
-        Ok((tokens, _)) => {
-            let hir = tree(&tokens, NotByte::Mask);
-            let forward = Program::build(&hir, false)?.words();
-            let reverse = Program::build(&hir, true)?.words();
-            Some(Ok(Compiled { forward, reverse }))
-        }
+        Ok((tokens, _)) if !model::narrow(&list(&tokens)) => None,
+        Ok((tokens, _)) => build(&tokens).map(Ok),
     }
+}
+
+/// What the original builds by itself, also where its fields do not suffice.
+pub fn built(text: &[u8]) -> Option<Compiled> {
+    build(&parsed(text)?.ok()?.0)
+}
+
+fn build(tokens: &[Token]) -> Option<Compiled> {
+    let hir = tree(tokens, NotByte::Mask);
+    let forward = Program::build(&hir, false)?.words();
+    let reverse = Program::build(&hir, true)?.words();
+    Some(Compiled { forward, reverse })
 }
 
 /// None where the document refuses by 17 or 19.
@@ -129,18 +149,20 @@ fn found(at: Option<usize>) -> Found {
     at.map_or(Found::Nothing, Found::At)
 }
 
-/// None for unsound programs and bad windows: there the original panics or means nothing.
-fn program(words: &[u32], w: Window) -> Option<Program> {
-    if !model::sound(words) || w.start > w.end || w.end > w.hay.len() {
-        return None;
-    }
-    Program::new(words)
+/// Not for unsound programs and bad windows: there the original panics or means nothing.
+fn askable(words: &[u64], w: Window) -> bool {
+    model::sound(words) && w.start <= w.end && w.end <= w.hay.len()
 }
 
-fn forward(words: &[u32], w: Window) -> Option<Answer<Found>> {
+/// None also where the original's fields do not suffice.
+fn program(words: &[u64], w: Window) -> Option<Program> {
+    if askable(words, w) && model::narrow_words(words) { Program::new(words) } else { None }
+}
+
+fn forward(words: &[u64], w: Window) -> Option<Answer<Found>> {
     Some(Ok(found(program(words, w)?.forward(w.hay, w.start, w.end))))
 }
 
-fn reverse(words: &[u32], w: Window) -> Option<Answer<Found>> {
+fn reverse(words: &[u64], w: Window) -> Option<Answer<Found>> {
     Some(Ok(found(program(words, w)?.reverse(w.hay, w.start, w.end))))
 }

@@ -5,6 +5,10 @@ use crate::sides::Side;
 
 /// Functions that the archive does not have stay absent.
 pub fn side() -> Side {
+    // An archive from before would take each word of a program for two of its own.
+    // The call takes nothing.
+    #[cfg(tm_version)]
+    assert!(unsafe { crate::raw::tm_version() } >= 768, "node words have 64 bits since 0.3.0");
     Side {
         name: "ours",
         #[cfg(tm_read)]
@@ -40,22 +44,38 @@ mod doors {
     use crate::raw::{tm_read, tm_reverse, tm_sound, tm_tail};
     use crate::sides::{Answer, Compiled, Found, Picked, Read, Refusal, Window};
 
-    const FILL: u32 = 0xA5A5_A5A5;
+    /// A word of a pool before a call: of 32 bits for tokens, of 64 for nodes.
+    trait Word: Copy + Default + PartialEq {
+        const FILL: Self;
+    }
+
+    impl Word for u32 {
+        const FILL: u32 = 0xA5A5_A5A5;
+    }
+
+    impl Word for u64 {
+        const FILL: u64 = 0xA5A5_A5A5_A5A5_A5A5;
+    }
+
     const MARGIN: usize = 3;
     /// The most that literals can need: 256 of 512 bytes.
     const BYTES: usize = 256 * 512;
     static UNWRITTEN: [u8; BYTES] = [0xA5; BYTES];
 
-    fn pool(words: usize) -> Vec<u32> {
-        vec![FILL; words + MARGIN]
+    fn pool<W: Word>(words: usize) -> Vec<W> {
+        vec![W::FILL; words + MARGIN]
     }
 
     /// A pool's content after a call: the used words, zeros up to its size, then the old filling.
-    fn used(pool: &[u32], size: usize, used: usize) -> Vec<u32> {
+    fn used<W: Word>(pool: &[W], size: usize, used: usize) -> Vec<W> {
         assert!(used <= size, "more words used than the pool has");
-        assert!(pool[used..size].iter().all(|w| *w == 0), "unused words must be zeroed");
-        assert!(pool[size..].iter().all(|w| *w == FILL), "words beyond the pool must stay");
+        assert!(pool[used..size].iter().all(|w| *w == W::default()), "unused words must be zeroed");
+        assert!(pool[size..].iter().all(|w| *w == W::FILL), "words beyond the pool must stay");
         pool[..used].to_vec()
+    }
+
+    fn unchanged<W: Word>(pool: &[W]) -> bool {
+        pool.iter().all(|w| *w == W::FILL)
     }
 
     fn refusal<T>(number: u32, place: u64) -> Answer<T> {
@@ -87,7 +107,7 @@ mod doors {
 
     /// As the C function, with slices.
     #[cfg(tm_compile)]
-    fn call_compile(text: &[u8], f: &mut [u32], r: &mut [u32]) -> raw::CompileResult {
+    fn call_compile(text: &[u8], f: &mut [u64], r: &mut [u64]) -> raw::CompileResult {
         let (nf, nr) = (f.len(), r.len());
         // As above.
         unsafe { tm_compile(text.as_ptr(), text.len(), f.as_mut_ptr(), nf, r.as_mut_ptr(), nr) }
@@ -109,7 +129,7 @@ mod doors {
     }
 
     #[cfg(tm_sound)]
-    pub fn sound(words: &[u32]) -> Option<Answer<bool>> {
+    pub fn sound(words: &[u64]) -> Option<Answer<bool>> {
         // As above.
         let r = unsafe { tm_sound(words.as_ptr(), words.len()) };
         assert!(r < 2, "1 or 0");
@@ -117,7 +137,7 @@ mod doors {
     }
 
     #[cfg(tm_mirror)]
-    pub fn mirror(words: &[u32]) -> Option<Answer<Vec<u32>>> {
+    pub fn mirror(words: &[u64]) -> Option<Answer<Vec<u64>>> {
         let mut out = pool(512);
         // As above.
         let r = unsafe { tm_mirror(words.as_ptr(), words.len(), out.as_mut_ptr(), out.len()) };
@@ -135,7 +155,7 @@ mod doors {
     }
 
     #[cfg(tm_forward)]
-    pub fn forward(words: &[u32], w: Window) -> Option<Answer<Found>> {
+    pub fn forward(words: &[u64], w: Window) -> Option<Answer<Found>> {
         // As above.
         let r = unsafe {
             tm_forward(words.as_ptr(), words.len(), w.hay.as_ptr(), w.hay.len(), w.start, w.end)
@@ -147,7 +167,7 @@ mod doors {
 
     /// The second door's part of the haystack: what the first leaves of the window, or empty.
     #[cfg(tm_tail)]
-    fn tail(words: &[u32], w: Window, r: &CheckResult) {
+    fn tail(words: &[u64], w: Window, r: &CheckResult) {
         // As above.
         let t = unsafe {
             tm_tail(words.as_ptr(), words.len(), w.hay.as_ptr(), w.hay.len(), w.start, w.end)
@@ -157,7 +177,7 @@ mod doors {
     }
 
     #[cfg(tm_reverse)]
-    pub fn reverse(words: &[u32], w: Window) -> Option<Answer<Found>> {
+    pub fn reverse(words: &[u64], w: Window) -> Option<Answer<Found>> {
         // As above.
         found(unsafe {
             tm_reverse(words.as_ptr(), words.len(), w.hay.as_ptr(), w.hay.len(), w.start, w.end)
@@ -226,11 +246,10 @@ mod doors {
     fn rooms_of_read(wrong: &mut Vec<String>) {
         for text in texts() {
             for n in [0, 1, 4, 4095] {
-                let mut p = vec![FILL; n];
+                let mut p = vec![u32::FILL; n];
                 // As above.
                 let r = unsafe { tm_read(text.as_ptr(), text.len(), p.as_mut_ptr(), n) };
-                let same = p.iter().all(|w| *w == FILL);
-                short(format!("read, {n} words"), r.refusal, r.place, same, wrong);
+                short(format!("read, {n} words"), r.refusal, r.place, unchanged(&p), wrong);
             }
         }
     }
@@ -239,9 +258,9 @@ mod doors {
     fn rooms_of_compile(wrong: &mut Vec<String>) {
         for text in texts() {
             for (nf, nr) in [(511, 512), (512, 511), (0, 512), (512, 0), (0, 0)] {
-                let (mut f, mut r) = (vec![FILL; nf], vec![FILL; nr]);
+                let (mut f, mut r) = (vec![u64::FILL; nf], vec![u64::FILL; nr]);
                 let got = call_compile(&text, &mut f, &mut r);
-                let same = f.iter().chain(&r).all(|w| *w == FILL);
+                let same = unchanged(&f) && unchanged(&r);
                 let what = format!("compile, {nf} and {nr} words");
                 short(what, got.refusal, got.place, same, wrong);
             }
@@ -250,13 +269,12 @@ mod doors {
 
     #[cfg(tm_mirror)]
     fn rooms_of_mirror(wrong: &mut Vec<String>) {
-        for words in [vec![0x4100], vec![7], vec![0x4100; 600]] {
+        for words in [vec![0x4100u64], vec![7], vec![0x4100; 600]] {
             for n in [0, 1, 511] {
-                let mut out = vec![FILL; n];
+                let mut out = vec![u64::FILL; n];
                 // As above.
                 let r = unsafe { tm_mirror(words.as_ptr(), words.len(), out.as_mut_ptr(), n) };
-                let same = out.iter().all(|w| *w == FILL);
-                short(format!("mirror, {n} words"), r.refusal, 0, same, wrong);
+                short(format!("mirror, {n} words"), r.refusal, 0, unchanged(&out), wrong);
             }
         }
     }

@@ -7,7 +7,7 @@ use crate::model;
 use crate::sides::{Answer, entries};
 
 /// What each word of a pool holds before a call.
-pub const OLD: u32 = 7;
+pub const OLD: u8 = 7;
 
 /// A text, and the words of each pool that is lent with it.
 pub struct Lending {
@@ -42,15 +42,16 @@ pub fn compiled_texts(stdin: &[u8]) -> Vec<Lending> {
     all
 }
 
-fn filled(lengths: &[usize]) -> Vec<Vec<u32>> {
-    lengths.iter().map(|n| vec![OLD; *n]).collect()
+/// Pools before a call, of words of 32 bits for tokens or of 64 for nodes.
+pub fn filled<W: Copy + From<u8>>(lengths: &[usize]) -> Vec<Vec<W>> {
+    lengths.iter().map(|n| vec![W::from(OLD); *n]).collect()
 }
 
 /// How many words of a pool are 0 from the used ones up to `size`, and how many of the four beyond
 /// are as before.
-pub fn rest(pool: &[u32], used: usize, size: usize) -> String {
-    let holding = |from: usize, to: usize, value: u32| {
-        pool.iter().take(to).skip(from).filter(|w| **w == value).count()
+pub fn rest<W: Copy + PartialEq + From<u8>>(pool: &[W], used: usize, size: usize) -> String {
+    let holding = |from: usize, to: usize, value: u8| {
+        pool.iter().take(to).skip(from).filter(|w| **w == W::from(value)).count()
     };
     format!("zeros {} old {}", holding(used, size, 0), holding(size, size + 4, OLD))
 }

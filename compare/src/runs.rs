@@ -2,7 +2,7 @@
 
 use crate::generate::{self, PIECES, Rng, SIGNS, Taste, WORDS};
 use crate::sides::{Answer, Compiled, Found, Picked, Read, Side, Tok, Window};
-use crate::tally::{Answers, Tally};
+use crate::tally::{Answers, EXAMPLES, Tally};
 use crate::{model, original, ours};
 
 pub struct Judge {
@@ -24,6 +24,7 @@ macro_rules! answers {
             original: one(&$judge.original),
             document: one(&$judge.document),
             ours: one(&$judge.ours),
+            left_out: false,
         }
     }};
 }
@@ -81,6 +82,28 @@ impl Texts {
     }
 }
 
+/// A forward answer and a reverse one.
+type Both = (Option<Answer<Found>>, Option<Answer<Found>>);
+
+/// A side's answers from a place of a haystack on, and up to it.
+fn both(side: &Side, programs: &Compiled, hay: &[u8], at: usize) -> Both {
+    let (after, before) =
+        (Window { hay, start: at, end: hay.len() }, Window { hay, start: 0, end: at });
+    let forward = side.forward.and_then(|f| f(&programs.forward, after));
+    (forward, side.reverse.and_then(|f| f(&programs.reverse, before)))
+}
+
+/// The counts of what is held to the tokens' own spans.
+#[derive(Default)]
+struct Spans {
+    patterns: usize,
+    windows: usize,
+    found: usize,
+    /// Windows of which the original is asked too, by the programs that it builds itself.
+    asked: usize,
+    wrong: usize,
+}
+
 impl Judge {
     pub fn new() -> Self {
         Judge { original: original::SIDE, document: model::SIDE, ours: ours::side() }
@@ -93,13 +116,19 @@ impl Judge {
     }
 
     fn compile(&self, tally: &mut Tally, text: &[u8]) {
-        let answers: Answers<Compiled> = answers!(self, compile, text);
+        let mut answers: Answers<Compiled> = answers!(self, compile, text);
+        answers.left_out = answers.original.is_none() && original::wide(text);
         let known = |a: &Answer<Compiled>, b: &Answer<Compiled>| known_compile(text, a, b);
         let label = |_: &Compiled| match answers.original {
+            None if answers.left_out => "compiled, the original left out".into(),
             None => "compiled, declined by the original".into(),
             Some(_) => "compiled".into(),
         };
         tally.count(&answers, label, || shown(text), known);
+        let built = if answers.left_out { original::built(text) } else { None };
+        if let Some(built) = built {
+            tally.count_left_out(built, model::as_original(text), || shown(text));
+        }
     }
 
     fn literals(&self, tally: &mut Tally, text: &[u8]) {
@@ -113,24 +142,26 @@ impl Judge {
         tally.count(&answers, label, || shown(text), known);
     }
 
-    fn checks(&self, tally: &mut [Tally; 2], words: &[u32], w: Window) {
+    fn checks(&self, tally: &mut [Tally; 2], words: &[u64], w: Window) {
         let show = || format!("{words:x?} on {:x?}[{}..{}]", w.hay, w.start, w.end);
         let label = |f: &Found| match f {
             Found::At(_) => "found".into(),
             Found::Nothing => "nothing".into(),
         };
-        let forward: Answers<Found> = answers!(self, forward, words, w);
+        let mut forward: Answers<Found> = answers!(self, forward, words, w);
+        forward.left_out = forward.original.is_none() && original::wide_words(words, w);
         tally[0].count(&forward, label, show, |_, _| None);
-        let reverse: Answers<Found> = answers!(self, reverse, words, w);
+        let mut reverse: Answers<Found> = answers!(self, reverse, words, w);
+        reverse.left_out = forward.left_out;
         tally[1].count(&reverse, label, show, |_, _| None);
     }
 
-    fn mirror(&self, tally: &mut [Tally; 2], words: &[u32]) {
+    fn mirror(&self, tally: &mut [Tally; 2], words: &[u64]) {
         let show = || format!("{words:x?}");
         let sound: Answers<bool> = answers!(self, sound, words);
         let label = |s: &bool| if *s { "sound".into() } else { "unsound".into() };
         tally[0].count(&sound, label, show, |_, _| None);
-        let mirror: Answers<Vec<u32>> = answers!(self, mirror, words);
+        let mirror: Answers<Vec<u64>> = answers!(self, mirror, words);
         tally[1].count(&mirror, |_| "mirrored".into(), show, |_, _| None);
     }
 
@@ -204,55 +235,88 @@ impl Judge {
         literals.report(&format!("picking from runs, seed {seed}"))
     }
 
-    /// Random patterns on short haystacks: an end is found from a start exactly if the tokens
-    /// match there, and it is one of theirs; the same backwards.
+    /// Random patterns on short haystacks, and some with long jumps on longer ones: an end is found
+    /// from a start exactly if the tokens match there, and it is one of theirs; the same backwards.
     pub fn spans(&self, seed: u64, count: usize) -> bool {
         let mut rng = Rng::new(seed);
         let taste = Taste { odd: 1000, small: true, negations: true, bytes: 4 };
-        let (mut patterns, mut windows, mut found, mut wrong) = (0, 0, 0, 0);
+        let mut spans = Spans::default();
         for _ in 0..count {
             let most = rng.pick(&[2, 4, 6]);
             let text = generate::pattern(&mut rng, taste, 1, most);
-            let Ok((list, _)) = model::tokens(&text) else {
-                continue;
-            };
-            let compile = self.ours.compile.or(self.document.compile).expect("there is one");
-            let Some(Ok(programs)) = compile(&text) else {
-                continue;
-            };
-            patterns += 1;
             let hay = generate::bytes(&mut rng, &[0x41, 0x42, 0x41, 0x00, 0x0A, 0x14], 12);
-            for at in 0..=hay.len() {
-                let (good, hits) = self.span(&list, &programs, &hay, at);
-                windows += 2;
-                found += hits;
-                if !good {
-                    wrong += 1;
-                    println!("    DIFFERS {} on {hay:x?} at {at}", shown(&text));
-                }
-            }
+            let places: Vec<_> = (0..=hay.len()).collect();
+            self.spans_of(&mut spans, &text, &hay, &places);
         }
+        for at in 0..count / 100 {
+            let (text, hay, places) = generate::far_pattern(&mut rng, at % 50 == 0);
+            self.spans_of(&mut spans, &text, &hay, &places);
+        }
+        let Spans { patterns, windows, found, asked, wrong } = spans;
         println!(
-            "spans of random texts, seed {seed}: {patterns} patterns, {windows} windows, {found} found, {wrong} differ"
+            "spans of random texts, seed {seed}: {patterns} patterns, {windows} windows, {found} found, {wrong} differ\n  original, by the programs that it builds: {asked} windows compared"
         );
         wrong == 0
     }
 
-    fn span(&self, list: &[Tok], programs: &Compiled, hay: &[u8], at: usize) -> (bool, usize) {
-        let forward = self.ours.forward.or(self.original.forward).expect("there is one");
-        let reverse = self.ours.reverse.or(self.original.reverse).expect("there is one");
+    fn spans_of(&self, spans: &mut Spans, text: &[u8], hay: &[u8], places: &[usize]) {
+        let Ok((list, _)) = model::tokens(text) else {
+            return;
+        };
+        let compile = self.ours.compile.or(self.document.compile).expect("there is one");
+        let Some(Ok(programs)) = compile(text) else {
+            return;
+        };
+        // The original adds jumps up to 255 only: other words, and the same spans.
+        let theirs = if model::grown(&list) { None } else { original::built(text) };
+        spans.patterns += 1;
+        for at in places {
+            spans.windows += 2;
+            let agree = self.span(spans, &list, &programs, hay, *at);
+            let same = theirs.as_ref().is_none_or(|theirs| {
+                spans.asked += 2;
+                both(&self.original, theirs, hay, *at) == self.both_of(&programs, hay, *at)
+            });
+            if !agree || !same {
+                spans.wrong += 1;
+                if spans.wrong <= EXAMPLES {
+                    let hay = &hay[..hay.len().min(64)];
+                    println!("    DIFFERS {} on {} at {at}", shown(text), shown(hay));
+                }
+            }
+        }
+    }
+
+    /// Both checks by the library, or by the document where it is not linked.
+    fn both_of(&self, programs: &Compiled, hay: &[u8], at: usize) -> Both {
+        let linked = self.ours.forward.is_some() && self.ours.reverse.is_some();
+        both(if linked { &self.ours } else { &self.document }, programs, hay, at)
+    }
+
+    fn span(
+        &self,
+        spans: &mut Spans,
+        list: &[Tok],
+        programs: &Compiled,
+        hay: &[u8],
+        at: usize,
+    ) -> bool {
+        let (end, start) = self.both_of(programs, hay, at);
         let ends = model::ends(list, hay, at);
-        let after = forward(&programs.forward, Window { hay, start: at, end: hay.len() });
-        let before = reverse(&programs.reverse, Window { hay, start: 0, end: at });
-        let starts: Vec<_> =
-            (0..=at).filter(|s| model::ends(list, &hay[..at], *s).contains(&at)).collect();
+        // Backwards as plainly as forwards, where that does not take too long.
+        let starts: Vec<_> = match hay.len() {
+            0..=64 => {
+                (0..=at).filter(|s| model::ends(list, &hay[..at], *s).contains(&at)).collect()
+            }
+            _ => model::starts(list, hay, at),
+        };
         let agree = |answer: &Option<Answer<Found>>, all: &[usize]| match answer {
             Some(Ok(Found::At(place))) => all.contains(place),
             Some(Ok(Found::Nothing)) => all.is_empty(),
             _ => false,
         };
-        let hits = usize::from(!ends.is_empty()) + usize::from(!starts.is_empty());
-        (agree(&after, &ends) && agree(&before, &starts), hits)
+        spans.found += usize::from(!ends.is_empty()) + usize::from(!starts.is_empty());
+        agree(&end, &ends) && agree(&start, &starts)
     }
 
     /// All programs of at most so many words, sound or not, on all short haystacks.
@@ -283,7 +347,7 @@ impl Judge {
     pub fn random_checks(&self, seed: u64, count: usize) -> bool {
         let mut rng = Rng::new(seed);
         let (mut checks, mut mirror) = <([Tally; 2], [Tally; 2])>::default();
-        for _ in 0..count {
+        for at in 0..count {
             let alphabet: &[u8] =
                 rng.pick(&[&b"AB"[..], &b"A"[..], &b"AB\n"[..], &b"\x00\x01\x10\xff"[..]]);
             let most = rng.pick(&[3, 6, 10]);
@@ -292,10 +356,15 @@ impl Judge {
                 words = generate::spoilt(&mut rng, &words);
             }
             if rng.one_in(200) {
-                words.resize(rng.pick(&[511, 512, 513]), 256 * 0x41);
+                let filling = rng.pick(&[generate::word(0, 0x41, 0), generate::word(3, 65_535, 0)]);
+                words.resize(rng.pick(&[511, 512, 513]), filling);
             }
-            if rng.one_in(500) {
-                let (words, hay) = generate::wide(&mut rng);
+            let longer = match at % 10_000 {
+                0 => Some(generate::far(&mut rng)),
+                _ if rng.one_in(500) => Some(generate::wide(&mut rng)),
+                _ => None,
+            };
+            if let Some((words, hay)) = longer {
                 self.mirror(&mut mirror, &words);
                 self.checks(&mut checks, &words, Window { hay: &hay, start: 0, end: hay.len() });
             }
@@ -331,7 +400,7 @@ impl Judge {
     }
 
     /// What each side's checks answer, the original also where the document refuses.
-    pub fn show_checks(&self, words: &[u32], w: Window) {
+    pub fn show_checks(&self, words: &[u64], w: Window) {
         println!("{words:x?} on {:x?}[{}..{}]", w.hay, w.start, w.end);
         let (forward, reverse) = original::raw(words, w);
         println!("  original  forward {forward}, reverse {reverse}");

@@ -24,10 +24,13 @@ fn case(line: &[u8]) -> Case<'_> {
 }
 
 /// Why a case has no place in the sample: the side answers otherwise than document 01, or not at
-/// all.
+/// all, or the original's fields can't hold what it compiles to.
 fn stray(text: &[u8], by: &Side) -> Option<&'static str> {
     if by.read.and_then(|f| f(text)) != model::SIDE.read.and_then(|f| f(text)) {
         return Some("read otherwise, or outside the domain");
+    }
+    if model::tokens(text).is_ok_and(|(list, _)| !model::narrow(&list)) {
+        return Some("the original's fields don't suffice");
     }
     if compiled(text, by) != model::SIDE.compile.and_then(|f| f(text)) {
         return Some("compiled otherwise");
@@ -43,7 +46,7 @@ fn compiled(text: &[u8], by: &Side) -> Option<Answer<Compiled>> {
     Some(built.unwrap_or(Err(Refusal { number: 12, place: 0 })))
 }
 
-fn words(out: &mut String, name: &str, words: &[u32]) {
+fn words<W: std::fmt::Display>(out: &mut String, name: &str, words: &[W]) {
     out.push_str(name);
     words.iter().for_each(|w| write!(out, " {w}").unwrap());
     out.push('\n');
@@ -53,7 +56,7 @@ fn refused(out: &mut String, refusal: Refusal) {
     writeln!(out, "refused {} at {}", refusal.number, refusal.place).unwrap();
 }
 
-type Check = fn(&[u32], Window) -> Option<Answer<Found>>;
+type Check = fn(&[u64], Window) -> Option<Answer<Found>>;
 
 /// A check's answer, after a blank.
 pub fn found(out: &mut String, answer: Option<Answer<Found>>) {
@@ -65,7 +68,7 @@ pub fn found(out: &mut String, answer: Option<Answer<Found>>) {
     }
 }
 
-fn checks(out: &mut String, name: &str, check: Option<Check>, program: &[u32], windows: &[Window]) {
+fn checks(out: &mut String, name: &str, check: Option<Check>, program: &[u64], windows: &[Window]) {
     out.push_str(name);
     windows.iter().for_each(|w| found(out, check.and_then(|f| f(program, *w))));
     out.push('\n');

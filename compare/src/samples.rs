@@ -78,24 +78,34 @@ fn compiling(side: &Side, count: &mut Count) {
     let Some(compile) = side.compile else {
         return;
     };
-    let four = "{ AB [100] [200] [50] [100] CD }";
+    let jump = |n: u64| 3 + 256 * n;
     for (text, forward, reverse) in [
-        ("{ A? }", vec![0x00F0_A001], vec![0x00F0_A001]),
-        ("{ 61 [0-2] 63 }", vec![0x6100, 0x2_0004, 0x6300], vec![0x6300, 0x2_0004, 0x6100]),
+        ("{ A? }", vec![0xF000_A001], vec![0xF000_A001]),
+        ("{ 61 [0-2] 63 }", vec![0x6100, 0x200_0004, 0x6300], vec![0x6300, 0x200_0004, 0x6100]),
         (
-            four,
-            vec![0xAB00, 0x6403, 0xFA03, 0x6403, 0xCD00],
-            vec![0xCD00, 0x9603, 0xC803, 0x6403, 0xAB00],
+            "{ AB [100] [200] [50] [100] CD }",
+            vec![0xAB00, jump(450), 0xCD00],
+            vec![0xCD00, jump(450), 0xAB00],
         ),
+        (
+            "{ AB [25000] [50000] [12000] [25000] CD }",
+            vec![0xAB00, jump(25_000), jump(62_000), jump(25_000), 0xCD00],
+            vec![0xCD00, jump(37_000), jump(50_000), jump(25_000), 0xAB00],
+        ),
+        ("{ AB [256] CD }", vec![0xAB00, jump(256), 0xCD00], vec![0xCD00, jump(256), 0xAB00]),
     ] {
         if let Some(answer) = compile(text.as_bytes()) {
             let good = answer.as_ref().is_ok_and(|c| c.forward == forward && c.reverse == reverse);
             count.check(good, &format!("{} {text}: {answer:x?}", side.name));
         }
     }
-    for (text, number) in
-        [("{ AB [255] CD }", 0), ("{ AB [256] CD }", 12), ("{ AB [4294967295] CD }", 12)]
-    {
+    for (text, number) in [
+        ("{ AB [255] CD }", 0),
+        ("{ AB [65535] CD }", 0),
+        ("{ AB [65536] CD }", 12),
+        ("{ AB [2-] CD }", 12),
+        ("{ AB [4294967295] CD }", 12),
+    ] {
         if let Some(answer) = compile(text.as_bytes()) {
             let got = answer.as_ref().err().map_or(0, |r| r.number);
             count.check(got == number, &format!("{} {text}: {answer:x?}", side.name));

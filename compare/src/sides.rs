@@ -28,8 +28,8 @@ pub struct Read {
 
 #[derive(Clone, Debug, PartialEq, Eq)]
 pub struct Compiled {
-    pub forward: Vec<u32>,
-    pub reverse: Vec<u32>,
+    pub forward: Vec<u64>,
+    pub reverse: Vec<u64>,
 }
 
 #[derive(Clone, PartialEq, Eq)]
@@ -74,10 +74,10 @@ pub struct Side {
     pub read: Option<fn(&[u8]) -> Option<Answer<Read>>>,
     pub compile: Option<fn(&[u8]) -> Option<Answer<Compiled>>>,
     pub literals: Option<fn(&[u8]) -> Option<Answer<Picked>>>,
-    pub sound: Option<fn(&[u32]) -> Option<Answer<bool>>>,
-    pub mirror: Option<fn(&[u32]) -> Option<Answer<Vec<u32>>>>,
-    pub forward: Option<fn(&[u32], Window) -> Option<Answer<Found>>>,
-    pub reverse: Option<fn(&[u32], Window) -> Option<Answer<Found>>>,
+    pub sound: Option<fn(&[u64]) -> Option<Answer<bool>>>,
+    pub mirror: Option<fn(&[u64]) -> Option<Answer<Vec<u64>>>>,
+    pub forward: Option<fn(&[u64], Window) -> Option<Answer<Found>>>,
+    pub reverse: Option<fn(&[u64], Window) -> Option<Answer<Found>>>,
 }
 
 /// Bytes that are spelt in hex.

@@ -3,9 +3,10 @@
 use std::collections::BTreeMap;
 use std::fmt::Debug;
 
-use crate::sides::Answer;
+use crate::sides::{Answer, Refusal};
 
-const EXAMPLES: usize = 5;
+/// How many inputs are shown of those that differ.
+pub const EXAMPLES: usize = 5;
 
 fn shortened(text: &str, most: usize) -> String {
     if text.chars().count() > most {
@@ -28,11 +29,16 @@ pub struct Answers<T> {
     pub original: Option<Answer<T>>,
     pub document: Option<Answer<T>>,
     pub ours: Option<Answer<T>>,
+    /// Whether the original is not asked because its fields do not suffice.
+    pub left_out: bool,
 }
 
 #[derive(Default)]
 pub struct Tally {
     inputs: u64,
+    /// How many of them the original answers, and about how many it is not asked.
+    compared: u64,
+    left_out: u64,
     outcomes: BTreeMap<String, u64>,
     pairs: BTreeMap<&'static str, Pair>,
 }
@@ -48,6 +54,8 @@ impl Tally {
         known: impl Fn(&Answer<T>, &Answer<T>) -> Option<&'static str>,
     ) {
         self.inputs += 1;
+        self.compared += u64::from(answers.original.is_some());
+        self.left_out += u64::from(answers.left_out);
         let outcome = match answers.document.as_ref().or(answers.original.as_ref()) {
             None => "not judged".into(),
             Some(Ok(value)) => label(value),
@@ -57,6 +65,19 @@ impl Tally {
         self.pair("original and document", &answers.original, &answers.document, &show, &known);
         self.pair("ours and document", &answers.ours, &answers.document, &show, &|_, _| None);
         self.pair("original and ours", &answers.original, &answers.ours, &show, &known);
+    }
+
+    /// Counts what the original does by itself with an input that is left out, and what the rules make
+    /// of it in the original's fields.
+    pub fn count_left_out<T: PartialEq + Debug>(
+        &mut self,
+        original: T,
+        due: Option<T>,
+        show: impl Fn() -> String,
+    ) {
+        let due = Some(due.ok_or(Refusal { number: 12, place: 0 }));
+        let name = "original where left out, and the rules in its fields";
+        self.pair(name, &Some(Ok(original)), &due, &show, &|_, _| None);
     }
 
     fn pair<T: PartialEq + Debug>(
@@ -94,6 +115,13 @@ impl Tally {
         let outcomes: Vec<_> = self.outcomes.iter().map(|(k, n)| format!("{k}: {n}")).collect();
         let mut lines =
             vec![format!("{title}: {} inputs", self.inputs), format!("  {}", outcomes.join(", "))];
+        let (compared, left_out) = (self.compared, self.left_out);
+        if compared + left_out > 0 {
+            let rest = self.inputs - compared - left_out;
+            lines.push(format!(
+                "  original: {compared} compared, {left_out} left out for its fields, {rest} without an answer"
+            ));
+        }
         for (name, pair) in &self.pairs {
             lines.push(format!("  {name}: {} equal, {} differ", pair.equal, pair.differ));
             lines.extend(pair.known.iter().map(|(label, (n, example))| {
