@@ -27,12 +27,12 @@ What follows a pattern's closing brace and its blanks is ignored; `reached` is w
 A check is anchored: `end` tells of a match that starts with the window's first byte, `start` of one that ends with its last. To search a file, look for the
 literals first and check about these; find.py in bindings/python does so.
 
-A call was seen to take up to 86,120 bytes of stack. Python's threads have as much as `ulimit -s` says, usually 8 MiB; if `threading.stack_size` gives them
+A call was seen to take up to 86,152 bytes of stack. Python's threads have as much as `ulimit -s` says, usually 8 MiB; if `threading.stack_size` gives them
 less, 256 KiB are enough.
 
 A check tries the lengths of a range one after another, so that ranges multiply its time: `41 [0-255]` once, twice, three and four times, and then `42`, took
-3 µs, 0.3 ms, 70 ms and 14.7 s at the first of 4,096 bytes 41. It ends, but nothing ends it sooner, and Ctrl-C waits for it: bound the ranges of
-patterns that others write, or check in a process that can be ended. `literals` takes up to some milliseconds, all else microseconds.
+3 µs, 0.3 ms, 70 ms and 14.7 s at the first of 4,096 bytes 41, and `41 [0-65535]` twice some 30 s at the first of 200,000. It ends, but nothing ends
+it sooner, and Ctrl-C waits for it: bound the ranges of patterns that others write, or check in a process that can be ended. `literals` takes up to some milliseconds, all else microseconds.
 
 The work is done by libtokenmarsh.so: the file that TOKENMARSH_SO names, or the repository's own build, or the one in the lib folder that this package is
 installed in, or the one that the system finds. An ImportError names the file if it is none.
