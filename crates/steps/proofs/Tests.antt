@@ -1,12 +1,14 @@
 -- Words that test a byte, and words that do not. Assumes nothing.
 use mathlib.Core.Path.{_≡_, refl, sym, ap, _∙_}
-use mathlib.Core.Bool.{Bool, true, false, cond}
-use Prim.Native.Nat.{ℕ}
-use lib.Dec.{eqb}
-use borrow.Author.Tests.{ne-eqb}
+use mathlib.Core.Bool.{Bool, true, false, cond, _&&_}
+use Prim.Native.Nat.{ℕ, _%_}
+use native.Mathlib.Nat.{mod-eq-of-lt}
+use lib.Dec.{eqb, ltb}
+use borrow.Author.Tests.{ne-eqb, ltb-true}
 use native.Mathlib.Omega.{arith}
 use Rattle.def_meaning.specs.Programs.{Test, pass, one, jump, range, alt}
-use Rattle.def_meaning.specs.Words.{Shape, item, opens, mark, wrong, shapeBy, shape}
+use Rattle.def_meaning.specs.Words.{byteSize, kindOf, firstOf, secondOf, wordSize, Shape, item, opens, mark, wrong, shapeBy, shape, properBy, proper}
+use Rattle.def_meaning.proofs.SoundLaws.{and-left, and-right}
 use Rattle.steps.specs.Steps.{isTest, passShape}
 
 -- a word of none of the four kinds is no test
@@ -26,6 +28,31 @@ no-test k a b n0 n1 n2 n5 = no-kind k a b n0 n1 n2 n5 (λ s. false ≡ isTest s)
 
 pub no-pass : (k a b c : ℕ) → (k ≡ 0 → ⊥) → (k ≡ 1 → ⊥) → (k ≡ 2 → ⊥) → (k ≡ 5 → ⊥) → false ≡ passShape (shapeBy k a b) c
 no-pass k a b c n0 n1 n2 n5 = no-kind k a b n0 n1 n2 n5 (λ s. false ≡ passShape s c) refl refl refl refl refl
+
+-- the value and the mask of a proper word are bytes
+module _ (w : ℕ) (h : proper w ≡ true) where
+  fields : (k : ℕ) → kindOf w ≡ k → properBy k (firstOf w) (secondOf w) ≡ true
+  unfolding proper properBy
+  fields k e = sym (ap (λ (x : ℕ). properBy x (firstOf w) (secondOf w)) e) ∙ and-right (ltb w wordSize) (properBy (kindOf w) (firstOf w) (secondOf w)) h
+
+  fits : (n : ℕ) → ltb n byteSize ≡ true → n % byteSize ≡ n
+  fits n e = mod-eq-of-lt (ltb-true n byteSize e)
+
+  pub value-fits : kindOf w ≡ 0 → firstOf w % byteSize ≡ firstOf w
+  unfolding properBy
+  value-fits e = fits (firstOf w) (and-left (ltb (firstOf w) byteSize) (eqb (secondOf w) 0) (fields 0 e))
+
+  masked : (ltb (firstOf w) byteSize && ltb (secondOf w) byteSize) ≡ true → (firstOf w % byteSize ≡ firstOf w) × (secondOf w % byteSize ≡ secondOf w)
+  masked e =
+      (fits (firstOf w) (and-left (ltb (firstOf w) byteSize) (ltb (secondOf w) byteSize) e), fits (secondOf w) (and-right (ltb (firstOf w) byteSize) (ltb (secondOf w) byteSize) e))
+
+  pub mask-fits : kindOf w ≡ 1 → (firstOf w % byteSize ≡ firstOf w) × (secondOf w % byteSize ≡ secondOf w)
+  unfolding properBy
+  mask-fits e = masked (fields 1 e)
+
+  pub negated-mask-fits : kindOf w ≡ 2 → (firstOf w % byteSize ≡ firstOf w) × (secondOf w % byteSize ≡ secondOf w)
+  unfolding properBy
+  negated-mask-fits e = masked (fields 2 e)
 
 -- the test that a word says
 abbrev pub IsTest : ℕ → Type 0

@@ -10,11 +10,11 @@ use lib.ListN.{length, drop}
 use Rattle.def_meaning.specs.Programs.{Test, pass, Item, Prog, one, jump, range, alt, _▹_}
 use Rattle.def_meaning.specs.Choices.{Order}
 use Rattle.def_meaning.specs.Rows.{run}
-use Rattle.def_meaning.specs.Words.{kindOf, Shape, item, opens, mark, wrong, shape, prog, Sound, isFlat, flatWords}
+use Rattle.def_meaning.specs.Words.{kindOf, Shape, item, opens, mark, wrong, shape, proper, prog, Sound, isFlat, flatWords}
 use Rattle.def_meaning.proofs.KindLaws.{Seen, seen}
 use Rattle.def_meaning.proofs.RunLaws.{run-end, run-one, run-one-none, run-jump, run-jump-none}
 use Rattle.def_meaning.proofs.WordLaws.{prog-nil, prog-item}
-use Rattle.def_meaning.proofs.SoundLaws.{sound-item, sound-mark, sound-wrong, flat-item, false-true}
+use Rattle.def_meaning.proofs.SoundLaws.{sound-proper, sound-item, sound-mark, sound-wrong, flat-item, false-true}
 use Rattle.def_meaning.proofs.PartLaws.{from, to-end}
 use Rattle.nodes.specs.declared.NextWord.the-variants.{Word, NoWord}
 use Rattle.nodes.specs.Nodes.{firstWord}
@@ -36,6 +36,13 @@ module _ (L : List ℕ) (w : ℕ) (e : firstWord L ≡ Word w) where
 
   pub tail-sound : {i : Item} → shape w ≡ item i → Sound L → Sound (from 1 L)
   tail-sound s h = rw (to-end 1 L) (sound-item w (drop 1 L) s (head-sound h))
+
+  -- the word is proper
+  pub head-proper : Sound L → proper w ≡ true
+  head-proper h = sound-proper w (drop 1 L) (head-sound h)
+
+  pub flat-proper : flatWords L ≡ true → proper w ≡ true
+  flat-proper h = flat-item w (drop 1 L) (ap flatWords (sym (word-cons L w e)) ∙ h) .4
 
   pub flat-tail : flatWords L ≡ true → flatWords (from 1 L) ≡ true
   flat-tail h = rw (to-end 1 L) (flat-item w (drop 1 L) (ap flatWords (sym (word-cons L w e)) ∙ h) .3)

@@ -3,7 +3,8 @@
 ghost use mathlib.Core.Path.{_≡_};
 ghost use mathlib.Core.List.{reverse};
 ghost use Prim.Native.Nat.{min};
-ghost use Rattle.def_meaning.specs.Words.{shape};
+ghost use mathlib.Core.Bool.{true};
+ghost use Rattle.def_meaning.specs.Words.{shape, proper};
 ghost use Rattle.steps.specs.Steps.{firstByte, isTest, passShape};
 use nodes::BYTE;
 use nodes::DOT;
@@ -11,6 +12,7 @@ use nodes::Field;
 use nodes::MASK;
 use nodes::NEGATED_MASK;
 use nodes::NodeWord;
+use nodes::byte_of;
 use nodes::first;
 use nodes::kind;
 use nodes::second;
@@ -72,20 +74,20 @@ pub fn tests_byte(w: NodeWord) -> bool
     }
 }
 
-// Whether a byte passes the test that a word says.
+// Whether a byte passes the test that a word says. The value and the mask of a proper word are bytes, and are compared as such.
 pub fn word_passes(w: NodeWord, c: u8) -> bool
+    requires { ⌜ proper w ≡ true ⌝ }
     ensures { λ r. ⌜ r ≡ passShape (shape w) c ⌝ }
 {
-    let a = first(w);
-    let b = second(w);
+    let a = byte_of(first(w));
+    let b = byte_of(second(w));
     let k = kind(w);
-    let v = c as Field;
     if k == BYTE {
-        return v == a;
+        return c == a;
     }
     match k {
-        MASK => (v & b) == a,
-        NEGATED_MASK => (v & b) != a,
+        MASK => (c & b) == a,
+        NEGATED_MASK => (c & b) != a,
         DOT => c != 10,
         _ => false,
     }

@@ -186,7 +186,14 @@ part-m-end-2 : tie.Need-part-m-end-2 Inv-loop μ-loop
 part-m-end-2 c = search needs
 
 word-passes-requires : tie.Need-word-passes-requires Inv-loop μ-loop
-word-passes-requires c κs = search needs
+word-passes-requires c κs =
+    let at-w = c .before .before .before .before .before .before .before .before .before .w in
+    let at-first-word = c .before .before .before .before .before .before .before .before .before .before .before .first-word in
+    let at-loop = c .before .before .before .before .before .before .before .before .before .before .before .before .loop in
+    let L = at-loop .ns .now in
+    let W = at-w .given .0 .0 in
+    let e = sym (at-first-word .ensures) ∙ at-w .given .1 in
+    turns.flat-proper L W e (at-loop .inv .0)
 
 loop-less-2 : tie.Need-loop-less-2 Inv-loop μ-loop
 loop-less-2 c =

@@ -188,7 +188,14 @@ slice-aggregate-m-2 c =
     sym (length-take-le _ M (omega (arith, pos)))
 
 word-passes-requires : tie.Need-word-passes-requires Inv-loop μ-loop
-word-passes-requires c κs = search needs
+word-passes-requires c κs =
+    let at-w = c .before .before .before .before .before .before .before .before .before .w in
+    let at-first-word = c .before .before .before .before .before .before .before .before .before .before .before .first-word in
+    let at-loop = c .before .before .before .before .before .before .before .before .before .before .before .before .loop in
+    let L = at-loop .ns .now in
+    let W = at-w .given .0 .0 in
+    let e = sym (at-first-word .ensures) ∙ at-w .given .1 in
+    turns.flat-proper L W e (at-loop .inv .0)
 
 loop-less-2 : tie.Need-loop-less-2 Inv-loop μ-loop
 loop-less-2 c =
