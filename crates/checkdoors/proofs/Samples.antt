@@ -4,7 +4,8 @@ use mathlib.Core.List.{List, [], _∷_}
 use Prim.Native.Nat.{ℕ}
 use Rattle.def_meaning.specs.Programs.{pass}
 use Rattle.def_meaning.specs.Rows.{rest, found, before, _⊗_, rows, run}
-use Rattle.def_meaning.specs.Words.{word, shape, shapeBy, prog, items, sound, soundWords, soundBranches, flatWords, isFlat, proper, properBy, mirrorWords, mirrorItems}
+use Rattle.def_meaning.specs.NodeWords.{word}
+use Rattle.def_meaning.specs.Words.{shape, shapeBy, prog, items, sound, soundWords, soundBranches, flatWords, isFlat, proper, properBy, mirrorWords, mirrorItems}
 use Rattle.checkdoors.specs.Doors as doors
 
 -- (61|61 62) 63

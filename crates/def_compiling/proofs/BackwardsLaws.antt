@@ -6,7 +6,7 @@ use mathlib.Core.List.{List, [], _∷_, reverse, reverse-append, reverse-reverse
 use Prim.Native.Nat.{ℕ}
 use lib.ListN.{length-reverse}
 use Rattle.def_meaning.specs.Tokens.{Token, Tokens, Lists, Byte, NotByte, MaskedByte, NotMaskedByte, Jump, Alternatives, nothing, _then_, neither, _or_, One, Within, Matches, Spans, MatchesOne, _⊕_}
-use Rattle.def_meaning.specs.Values.{Bytes, SpelledOne, Spelled, SpelledFirst, SpelledMore}
+use Rattle.def_meaning.specs.Values.{Bytes, Filled, SpelledOne, Spelled, SpelledFirst, SpelledMore}
 use Rattle.def_meaning.proofs.SoundLaws.{and-left, and-right, false-true}
 use Rattle.def_meaning.proofs.ValueLaws.{bytes-join}
 use Rattle.def_meaning.proofs.TokenLaws.{one-span, join-spans, nothing-after, after-assoc}
@@ -72,6 +72,17 @@ unfolding Spelled _⊕_
 spelled-join nothing us h g = g
 spelled-join (t then ts) us h g = (h .0, spelled-join ts us (h .1) g)
 
+-- a list with a token has one read backwards
+filled-join : (ts us : Tokens) → Filled us → Filled (ts ⊕ us)
+unfolding Filled _⊕_
+filled-join nothing us h = h
+filled-join (t then ts) us h = tt
+
+filled-backwards : (ts : Tokens) → Filled ts → Filled (backwards ts)
+unfolding backwards Filled
+filled-backwards nothing h = h
+filled-backwards (t then ts) h = filled-join (backwards ts) (backwardsOf t then nothing) tt
+
 mutual
   unfolding backwards Spelled
 
@@ -89,11 +100,11 @@ mutual
 
   spelled-first : (ls : Lists) → SpelledFirst ls → SpelledFirst (backwardsIn ls)
   spelled-first neither h = h
-  spelled-first (ts or ls) h = (spelled-backwards ts (h .0), spelled-more ls (h .1))
+  spelled-first (ts or ls) h = (spelled-backwards ts (h .0), spelled-more ls (h .1), filled-backwards ts (h .2))
 
   spelled-more : (ls : Lists) → SpelledMore ls → SpelledMore (backwardsIn ls)
   spelled-more neither h = h
-  spelled-more (ts or ls) h = (spelled-backwards ts (h .0), spelled-more ls (h .1))
+  spelled-more (ts or ls) h = (spelled-backwards ts (h .0), spelled-more ls (h .1), filled-backwards ts (h .2))
 
 flat-join : (ts us : Tokens) → flatTokens ts ≡ true → flatTokens us ≡ true → flatTokens (ts ⊕ us) ≡ true
 unfolding flatTokens _⊕_

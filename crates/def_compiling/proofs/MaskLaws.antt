@@ -10,6 +10,7 @@ use lib.Bits.{bitAnd, and-mask, and-high, and-zero-r}
 use borrow.Author.Tests.{eqb-true, eqb-false, eq-eqb, ne-eqb, not-true}
 use Rattle.def_meaning.specs.Tokens.{left, right, all, Agrees}
 use Rattle.def_meaning.specs.Programs.{byte, mask, negatedMask, pass}
+use Rattle.def_meaning.specs.NodeWords.{Under}
 
 -- a byte's bits under the masks
 low-bits : (b : ℕ) → bitAnd b 0x0F ≡ b % 16
@@ -20,6 +21,16 @@ high-bits b = and-high b 4 4
 
 all-bits : (b : ℕ) → bitAnd b 0xFF ≡ b % 256
 all-bits b = and-mask b 8
+
+-- the values of bytes and half bytes lie under their masks
+pub byte-under : (v : ℕ) → v < 256 → Under v 0xFF
+byte-under v h = all-bits v ∙ mod-eq-of-lt h
+
+pub low-under : (v : ℕ) → v < 16 → Under v 0x0F
+low-under v h = low-bits v ∙ mod-eq-of-lt h
+
+pub high-under : (v : ℕ) → v < 16 → Under (16 * v) 0xF0
+high-under v h = high-bits (16 * v) ∙ (omega arith)
 
 -- a mask passes if the bits under it are the value, a negated one if they are not
 mask-pass : {P : Type 0} (v m b : ℕ) → (bitAnd b m ≡ v) ↔ P → (pass (mask v m) b ≡ true) ↔ P

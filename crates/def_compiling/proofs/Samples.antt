@@ -4,8 +4,8 @@ use mathlib.Core.Option.{none, some}
 use mathlib.Core.List.{List, [], _∷_}
 use Rattle.base.specs.declared.Refusal.the-variants.{NotSimple}
 use Rattle.def_meaning.specs.Tokens.{left, right, all, Tokens, Byte, NotByte, MaskedByte, NotMaskedByte, Jump, Alternatives, nothing, _then_, neither, _or_, _⊕_}
-use Rattle.def_meaning.specs.Words.{word}
-use Rattle.def_compiling.specs.ProgramWords.{wordFor, opening, wordsOf}
+use Rattle.def_meaning.specs.NodeWords.{word}
+use Rattle.def_compiling.specs.ProgramWords.{opening, wordsOf}
 use Rattle.def_compiling.specs.Compiling.{jumpOf, pairBy, add, itemOf, backwards, forwardProgram, reverseProgram, forwardWords, reverseWords}
 use Rattle.def_compiling.specs.Compile.{flatToken, flatTokens, flatBranches, simpleToken, simple, shortIn, shortOf, short, few, Compiled, compiled, refused, compile}
 
@@ -46,5 +46,5 @@ samples =
     gives (NotByte 0xAB then MaskedByte 0xC left then NotMaskedByte 0xC left then NotMaskedByte 0xC right then nothing) (compiled (word 2 0xAB 0xFF ∷ word 1 0x0C 0x0F ∷ word 2 0x0C 0x0F ∷ word 2 0xC0 0xF0 ∷ []) (word 2 0xC0 0xF0 ∷ word 2 0x0C 0x0F ∷ word 1 0x0C 0x0F ∷ word 2 0xAB 0xFF ∷ [])) ∷ []
 
 pub samples-hold : Right samples
-unfolding samples Right compile flatToken flatTokens flatBranches simpleToken simple shortIn shortOf short few wordFor opening wordsOf jumpOf pairBy add itemOf backwards _⊕_ forwardProgram reverseProgram forwardWords reverseWords
+unfolding samples Right compile flatToken flatTokens flatBranches simpleToken simple shortIn shortOf short few opening wordsOf jumpOf pairBy add itemOf backwards _⊕_ forwardProgram reverseProgram forwardWords reverseWords
 samples-hold = (refl, (refl, (refl, (refl, (refl, (refl, (refl, (refl, (refl, (refl, (refl, (refl, (refl, (refl, tt))))))))))))))

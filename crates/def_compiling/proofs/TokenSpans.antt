@@ -80,7 +80,7 @@ mutual
   token-span (NotMaskedByte v right) s y h g m = one-test (negatedMask (16 * v) 0xF0) (λ b. Agrees right v b → ⊥) s y (λ b l. not-right-pass v b l) .1 m
   token-span (NotMaskedByte v all) s y h g m = one-test (negatedMask 0 0) (λ b. Agrees all v b → ⊥) s y (λ b l. not-all-pass v b l) .1 m
   token-span (Jump from none) s y h g m = absurd g
-  token-span (Jump from (some to)) s y h g m = jump-item from to s h .1 m
+  token-span (Jump from (some to)) s y h g m = jump-item from to s (h .0) .1 m
   token-span (Alternatives ls) s y h g m = lists-span ls s y (any-spelled ls h) g m
 
   tokens-span : (ts : Tokens) (p : Prog) (a b : List ℕ) → Bytes b → Spelled ts → Bounded ts → Span p a → Spans ts b → Span (added ts p) (a ++ b)
@@ -109,7 +109,7 @@ mutual
   span-token (NotMaskedByte v right) s y h g m = one-test (negatedMask (16 * v) 0xF0) (λ b. Agrees right v b → ⊥) s y (λ b l. not-right-pass v b l) .0 m
   span-token (NotMaskedByte v all) s y h g m = one-test (negatedMask 0 0) (λ b. Agrees all v b → ⊥) s y (λ b l. not-all-pass v b l) .0 m
   span-token (Jump from none) s y h g m = absurd g
-  span-token (Jump from (some to)) s y h g m = jump-item from to s h .0 m
+  span-token (Jump from (some to)) s y h g m = jump-item from to s (h .0) .0 m
   span-token (Alternatives ls) s y h g m = span-lists ls s y (any-spelled ls h) g m
 
   span-tokens : (ts : Tokens) (p : Prog) (s : List ℕ) → Bytes s → Spelled ts → Bounded ts → Span (added ts p) s → (a : List ℕ) × (b : List ℕ) × (s ≡ a ++ b) × Span p a × Spans ts b

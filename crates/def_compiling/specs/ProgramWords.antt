@@ -3,16 +3,9 @@
 use mathlib.Core.List.{List, [], _∷_, _++_}
 use Prim.Native.Nat.{ℕ}
 use lib.ListN.{length}
-use Rattle.def_meaning.specs.Programs.{Test, byte, mask, negatedMask, any, dot, Item, Prog, Branches, one, jump, range, alt, end, _▹_, stop, or}
-use Rattle.def_meaning.specs.Words.{word}
-
--- the word of a test; one that asks nothing is a Jump of 1, though no compiled program holds it
-unfoldable pub wordFor : Test → ℕ
-wordFor (byte v) = word 0 v 0
-wordFor (mask v m) = word 1 v m
-wordFor (negatedMask v m) = word 2 v m
-wordFor any = word 3 1 0
-wordFor dot = word 5 0 0
+use Rattle.def_meaning.specs.Programs.{Item, Prog, Branches, one, jump, range, alt, end, _▹_, stop, or}
+use Rattle.def_meaning.specs.NodeWords.{word}
+use Rattle.def_meaning.specs.Words.{wordFor}
 
 -- an Alternation's word, by the number of words that fill it
 unfoldable pub opening : ℕ → ℕ

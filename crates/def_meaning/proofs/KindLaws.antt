@@ -37,7 +37,20 @@ module _ (w : ℕ) where
   unfolding shape
   seen = seen-by (kindOf w) (firstOf w) (secondOf w)
 
-  -- the shape of a word by its kind, with the fields as they were read out of it
+  -- the shape of a word by its kind
+  pub kind-byte : kindOf w ≡ 0 → shape w ≡ item (one (byte (firstOf w)))
+  unfolding shape shapeBy
+  kind-byte e = rw e
+
+  pub kind-mask : kindOf w ≡ 1 → shape w ≡ item (one (mask (firstOf w) (secondOf w)))
+  unfolding shape shapeBy
+  kind-mask e = rw e
+
+  pub kind-negated : kindOf w ≡ 2 → shape w ≡ item (one (negatedMask (firstOf w) (secondOf w)))
+  unfolding shape shapeBy
+  kind-negated e = rw e
+
+  -- and with the fields as they were read out of it
   pub kind-jump : {a : ℕ} → kindOf w ≡ 3 → a ≡ firstOf w → shape w ≡ item (jump a)
   unfolding shape shapeBy
   kind-jump e f = rw (e, f)

@@ -18,6 +18,9 @@ pub mod TokenTest
 pub mod YaraExamples
 pub mod FieldLaws
 pub mod MadeLaws
+pub mod ProperLaws
+pub mod UnderLaws
+pub mod NodeWords
 pub mod MirrorSteps
 pub mod ValueLaws
 pub mod PartLaws

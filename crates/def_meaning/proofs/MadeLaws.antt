@@ -3,10 +3,12 @@ use mathlib.Core.Path.{_≡_, refl}
 use mathlib.Core.Bool.{true}
 use Prim.Native.Nat.{ℕ, _≤_, _<_}
 use native.Mathlib.Omega.{arith}
-use borrow.Author.Tests.{lt-ltb, le-leb}
+use lib.Bits.{bitAnd}
+use borrow.Author.Tests.{eq-eqb, lt-ltb, le-leb}
 use Rattle.def_meaning.specs.Limits.{branchLimit}
 use Rattle.def_meaning.specs.Programs.{byte, mask, negatedMask, dot, one, jump, range}
-use Rattle.def_meaning.specs.Words.{byteSize, fieldSize, word, wordSize, Shape, item, opens, mark, shapeBy, shape, properBy, proper}
+use Rattle.def_meaning.specs.NodeWords.{word, Under}
+use Rattle.def_meaning.specs.Words.{byteSize, fieldSize, wordSize, Shape, item, opens, mark, shapeBy, shape, underMask, counts, properBy, proper}
 use Rattle.def_meaning.proofs.FieldLaws.{kind-made, first-made, second-made}
 
 -- a word that may stand in a sound program, and what it says
@@ -33,17 +35,23 @@ pub byte-made : (v : ℕ) → v < byteSize → Made (word 0 v 0) (item (one (byt
 unfolding properBy shapeBy
 byte-made v h = made 0 v 0 (omega arith) (omega arith) (omega arith) (rw (lt-ltb v byteSize h))
 
-pub mask-made : (v m : ℕ) → v < byteSize → m < byteSize → Made (word 1 v m) (item (one (mask v m)))
-unfolding properBy shapeBy
-mask-made v m h g = made 1 v m (omega arith) (omega arith) (omega arith) (rw (lt-ltb v byteSize h, lt-ltb m byteSize g))
+under-mask : (v m : ℕ) → m < byteSize → Under v m → underMask v m ≡ true
+under-mask v m h u = rw (lt-ltb m byteSize h, eq-eqb (bitAnd v m) v u)
 
-pub negated-mask-made : (v m : ℕ) → v < byteSize → m < byteSize → Made (word 2 v m) (item (one (negatedMask v m)))
-unfolding properBy shapeBy
-negated-mask-made v m h g = made 2 v m (omega arith) (omega arith) (omega arith) (rw (lt-ltb v byteSize h, lt-ltb m byteSize g))
+counted : (n : ℕ) → 1 ≤ n → counts n 0 ≡ true
+counted n h = rw (le-leb 1 n h)
 
-pub jump-made : (n : ℕ) → n < fieldSize → Made (word 3 n 0) (item (jump n))
+pub mask-made : (v m : ℕ) → v < byteSize → m < byteSize → Under v m → Made (word 1 v m) (item (one (mask v m)))
 unfolding properBy shapeBy
-jump-made n h = made 3 n 0 (omega arith) h (omega arith) refl
+mask-made v m h g u = made 1 v m (omega arith) (omega arith) (omega arith) (under-mask v m g u)
+
+pub negated-mask-made : (v m : ℕ) → v < byteSize → m < byteSize → Under v m → Made (word 2 v m) (item (one (negatedMask v m)))
+unfolding properBy shapeBy
+negated-mask-made v m h g u = made 2 v m (omega arith) (omega arith) (omega arith) (under-mask v m g u)
+
+pub jump-made : (n : ℕ) → 1 ≤ n → n < fieldSize → Made (word 3 n 0) (item (jump n))
+unfolding properBy shapeBy
+jump-made n s h = made 3 n 0 (omega arith) h (omega arith) (counted n s)
 
 pub range-made : (a b : ℕ) → a ≤ b → b < fieldSize → Made (word 4 a b) (item (range a b))
 unfolding properBy shapeBy
@@ -55,8 +63,8 @@ dot-made = made 5 0 0 (omega arith) (omega arith) (omega arith) refl
 
 pub opens-made : (n : ℕ) → 1 ≤ n → n < fieldSize → Made (word 6 n 0) (opens n)
 unfolding properBy shapeBy
-opens-made n h g = made 6 n 0 (omega arith) g (omega arith) (rw (le-leb 1 n h))
+opens-made n h g = made 6 n 0 (omega arith) g (omega arith) (counted n h)
 
-pub mark-made : (n : ℕ) → n ≤ branchLimit → Made (word 7 n 0) (mark n)
+pub mark-made : (n : ℕ) → 1 ≤ n → n ≤ branchLimit → Made (word 7 n 0) (mark n)
 unfolding properBy shapeBy
-mark-made n h = made 7 n 0 (omega arith) (omega arith) (omega arith) (rw (le-leb n branchLimit h))
+mark-made n s h = made 7 n 0 (omega arith) (omega arith) (omega arith) (rw (le-leb n branchLimit h) (counted n s))

@@ -3,6 +3,7 @@ pub mod Tokens
 pub mod Limits
 pub mod Programs
 pub mod Choices
+pub mod NodeWords
 pub mod Words
 pub mod Entries
 pub mod Rows

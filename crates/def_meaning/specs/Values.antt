@@ -10,7 +10,12 @@ unfoldable pub Bytes : List ℕ → Type 0
 Bytes [] = Unit {0}
 Bytes (b ∷ s) = (b < 256) × Bytes s
 
--- two digits spell a byte and one a half; a jump's from is at most its to; alternatives have a list
+-- a list has a token
+unfoldable pub Filled : Tokens → Type 0
+Filled nothing = ⊥
+Filled (t then ts) = Unit {0}
+
+-- two digits spell a byte and one a half; a jump's from is at most its to, and its to is not 0; alternatives have a list, and none that is empty
 unfoldable mutual
   pub SpelledOne : Token → Type 0
   SpelledOne (Byte v) = v < 256
@@ -18,7 +23,7 @@ unfoldable mutual
   SpelledOne (MaskedByte v m) = v < 16
   SpelledOne (NotMaskedByte v m) = v < 16
   SpelledOne (Jump from none) = Unit {0}
-  SpelledOne (Jump from (some to)) = from ≤ to
+  SpelledOne (Jump from (some to)) = (from ≤ to) × (1 ≤ to)
   SpelledOne (Alternatives ls) = SpelledFirst ls
 
   pub Spelled : Tokens → Type 0
@@ -27,8 +32,8 @@ unfoldable mutual
 
   pub SpelledFirst : Lists → Type 0
   SpelledFirst neither = ⊥
-  SpelledFirst (ts or ls) = Spelled ts × SpelledMore ls
+  SpelledFirst (ts or ls) = Spelled ts × SpelledMore ls × Filled ts
 
   pub SpelledMore : Lists → Type 0
   SpelledMore neither = Unit {0}
-  SpelledMore (ts or ls) = Spelled ts × SpelledMore ls
+  SpelledMore (ts or ls) = Spelled ts × SpelledMore ls × Filled ts

@@ -6,9 +6,11 @@ use mathlib.Core.Bool.{Bool, true, false, cond, _&&_}
 use mathlib.Core.List.{List, [], _∷_, _++_}
 use Prim.Native.Nat.{ℕ, zero, suc, _+_, _*_, _/_, _%_}
 use lib.Dec.{eqb, leb, ltb}
+use lib.Bits.{bitAnd}
 use lib.ListN.{length, take, drop}
 use Rattle.def_meaning.specs.Limits.{branchLimit, nodeLimit}
-use Rattle.def_meaning.specs.Programs.{byte, mask, negatedMask, dot, Item, Prog, Branches, one, jump, range, alt, end, _▹_, stop, or}
+use Rattle.def_meaning.specs.NodeWords.{word}
+use Rattle.def_meaning.specs.Programs.{Test, byte, mask, negatedMask, any, dot, Item, Prog, Branches, one, jump, range, alt, end, _▹_, stop, or}
 
 -- how many values a byte has, and a field
 abbrev pub byteSize : ℕ
@@ -31,10 +33,7 @@ firstBy F w = w / 256 % F
 abbrev pub secondBy : ℕ → ℕ → ℕ
 secondBy F w = w / (256 * F) % F
 
--- 02's word = kind + 2⁸·first + 2²⁴·second
-abbrev pub word : ℕ → ℕ → ℕ → ℕ
-word k a b = wordBy fieldSize k a b
-
+-- those of 02's word (specs/NodeWords.antt)
 abbrev pub firstOf : ℕ → ℕ
 firstOf w = firstBy fieldSize w
 
@@ -72,17 +71,44 @@ shapeBy k a b =
 unfoldable pub shape : ℕ → Shape
 shape w = shapeBy (kindOf w) (firstOf w) (secondOf w)
 
--- one of the kinds, its unnamed fields 0, values and masks bytes, min at most max, an alternation's count not 0, and a branch's within its limit
+-- the word that says a test, and a shape; no word says `any` (Jump 1 would do) or whole alternatives, and what stands for a wrong shape has
+-- a kind that is none
+abbrev pub wordFor : Test → ℕ
+wordFor (byte v) = word 0 v 0
+wordFor (mask v m) = word 1 v m
+wordFor (negatedMask v m) = word 2 v m
+wordFor any = word 3 1 0
+wordFor dot = word 5 0 0
+
+abbrev pub wordOfShape : Shape → ℕ
+wordOfShape (item (one t)) = wordFor t
+wordOfShape (item (jump n)) = word 3 n 0
+wordOfShape (item (range a b)) = word 4 a b
+wordOfShape (item (alt bs)) = word 8 0 0
+wordOfShape (opens n) = word 6 n 0
+wordOfShape (mark n) = word 7 n 0
+wordOfShape wrong = word 8 0 0
+
+-- the mask m is a byte, and every bit of the value v lies under it
+abbrev pub underMask : ℕ → ℕ → Bool
+underMask v m = ltb m byteSize && eqb (bitAnd v m) v
+
+-- the first field counts something, and the second, which has no name, is 0
+abbrev pub counts : ℕ → ℕ → Bool
+counts a b = leb 1 a && eqb b 0
+
+-- one of the kinds, its unnamed fields 0, values and masks bytes, values under their masks, min at most max; jumps, alternations and branches
+-- count something, a branch no more than its limit
 unfoldable pub properBy : ℕ → ℕ → ℕ → Bool
 properBy k a b =
     cond (eqb k 0) (ltb a byteSize && eqb b 0)
-    (cond (eqb k 1) (ltb a byteSize && ltb b byteSize)
-    (cond (eqb k 2) (ltb a byteSize && ltb b byteSize)
-    (cond (eqb k 3) (eqb b 0)
+    (cond (eqb k 1) (underMask a b)
+    (cond (eqb k 2) (underMask a b)
+    (cond (eqb k 3) (counts a b)
     (cond (eqb k 4) (leb a b)
     (cond (eqb k 5) (eqb a 0 && eqb b 0)
-    (cond (eqb k 6) (leb 1 a && eqb b 0)
-    (cond (eqb k 7) (leb a branchLimit && eqb b 0) false)))))))
+    (cond (eqb k 6) (counts a b)
+    (cond (eqb k 7) (leb a branchLimit && counts a b) false)))))))
 
 -- a word that may stand in a sound program, as far as it tells by itself
 unfoldable pub proper : ℕ → Bool
@@ -99,7 +125,7 @@ unfoldable pub flatProg : Prog → Bool
 flatProg end = true
 flatProg (i ▹ p) = isFlat i && flatProg p
 
--- Sound words and what they say, by computing: crate def_promise lists them (specs/NodeWords.antt), and shows that these are the same.
+-- Sound words and what they say, by computing: specs/NodeWords.antt lists them, and proofs/NodeWords.antt shows that these are the same.
 
 -- the program that words say; n bounds the depth of calls, and the number of words is enough
 unfoldable mutual

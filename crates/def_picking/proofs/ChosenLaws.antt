@@ -9,6 +9,7 @@ use lib.Dec.{leb, ltb}
 use lib.ListN.{length}
 use borrow.Author.Tests.{ltb-false}
 use Rattle.def_meaning.specs.Limits.{literalLimit, combinationLimit}
+use Rattle.def_meaning.specs.Values.{Filled}
 use Rattle.def_meaning.specs.Tokens.{left, right, all, Token, Tokens, Lists, Byte, NotByte, MaskedByte, NotMaskedByte, Jump, Alternatives, nothing, _then_, neither, _or_, _⊕_}
 use Rattle.def_meaning.proofs.SoundLaws.{and-left, and-right, and-both, false-true}
 use Rattle.def_picking.specs.Literals.{taken, isByte, isPlain, plainList, plainLists, literals, combinations, lengthIn, listableOf, listable, listableIn}
@@ -17,7 +18,7 @@ use Rattle.def_picking.specs.Candidates.{ranked, skipped, excessive, cou
 use Rattle.def_picking.specs.Numbers.{countOf, count}
 use Rattle.def_picking.proofs.NumberLaws.{count-literals}
 use Rattle.def_picking.proofs.KeepLaws.{Every, every-append, every-map, Holds, Literally, Widely, run-holds, pattern-holds}
-use Rattle.def_picking.proofs.FactorLaws.{Factor, Filled, Open, Taken, pattern-taken}
+use Rattle.def_picking.proofs.FactorLaws.{Factor, Open, Taken, pattern-taken}
 
 -- ---- few literals
 

@@ -5,6 +5,7 @@ use mathlib.Core.List.{List, [], _∷_}
 use Prim.Native.Nat.{ℕ, _+_}
 use lib.Dec.{leb}
 use Rattle.def_meaning.specs.Tokens.{Token, Tokens, nothing, _then_, _⊕_}
+use Rattle.def_meaning.specs.Values.{Filled}
 use Rattle.def_meaning.proofs.TokenLaws.{after-assoc}
 use Rattle.def_picking.specs.Literals.{isByte, lengthIn}
 use Rattle.def_picking.specs.Runs.{closes, atFront, segmented, segments, filledOnes, firstLast, runs, isLiteral, joinsPart, partBefore, parts, slice, literalOnly, longer, slices}
@@ -18,10 +19,6 @@ Factor us ts = (a : Tokens) × (b : Tokens) × (ts ≡ a ⊕ (us ⊕ b))
 -- us stands at the front of ts
 abbrev AtFront : Tokens → Tokens → Type 0
 AtFront us ts = (b : Tokens) × (ts ≡ us ⊕ b)
-
-unfoldable pub Filled : Tokens → Type 0
-Filled nothing = ⊥
-Filled (t then ts) = Unit {0}
 
 -- no token closes a run
 unfoldable pub Open : Tokens → Type 0

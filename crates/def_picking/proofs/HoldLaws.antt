@@ -3,12 +3,12 @@ use mathlib.Core.Path.{_≡_, ap, _∙_, subst}
 use mathlib.Core.Logic.{_⊎_, inl, inr, ⊎-elim, _↔_}
 use mathlib.Core.List.{List, [], _++_, List·Memᴰ}
 use Prim.Native.Nat.{ℕ}
-use Rattle.def_meaning.specs.Values.{Bytes}
+use Rattle.def_meaning.specs.Values.{Bytes, Filled}
 use Rattle.def_meaning.specs.Tokens.{Tokens, Spans, _⊕_}
 use Rattle.def_meaning.proofs.TokenLaws.{spans-join}
 use Rattle.def_meaning.proofs.ValueLaws.{bytes-left, bytes-right}
 use Rattle.def_picking.specs.Candidates.{picked, pick}
-use Rattle.def_picking.proofs.FactorLaws.{Factor, Filled}
+use Rattle.def_picking.proofs.FactorLaws.{Factor}
 use Rattle.def_picking.proofs.PickedLaws.{picked-are-spans}
 
 -- one of some literals stands in a byte string

@@ -8,7 +8,7 @@ use native.Mathlib.Omega.{arith}
 use lib.ListN.{length}
 use Rattle.base.specs.declared.Refusal.the-variants.{NotPlain}
 use Rattle.def_meaning.specs.Limits.{tokenLimit, literalLimit}
-use Rattle.def_meaning.specs.Values.{Bytes}
+use Rattle.def_meaning.specs.Values.{Bytes, Filled}
 use Rattle.def_meaning.specs.Tokens.{Token, Tokens, Byte, NotByte, MaskedByte, NotMaskedByte, Jump, Alternatives, nothing, _then_, Spans, _⊕_, total}
 use Rattle.def_picking.specs.Literals.{literals, lengthOf, lengthIn, NonemptyOf, Nonempty}
 use Rattle.def_picking.specs.Runs.{plainAlternatives}
@@ -16,7 +16,7 @@ use Rattle.def_picking.specs.Candidates.{Candidate, unranked, chosen, to
 use Rattle.def_picking.proofs.MatchLaws.{literals-are-spans}
 use Rattle.def_picking.proofs.NumberLaws.{count-literals}
 use Rattle.def_picking.proofs.LengthLaws.{literal-lengths}
-use Rattle.def_picking.proofs.FactorLaws.{Factor, Filled}
+use Rattle.def_picking.proofs.FactorLaws.{Factor}
 use Rattle.def_picking.proofs.ChosenLaws.{pattern-few, chosen-factor, chosen-filled, chosen-listable}
 
 -- the tokens whose literals are picked

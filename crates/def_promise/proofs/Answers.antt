@@ -17,9 +17,9 @@ use Rattle.def_meaning.proofs.WordSpans.{sound-length}
 use Rattle.checkdoors.specs.Doors.{CheckSaid, found, noMatch, refuses, window, refusal, endAt, startAt, forwardSays, reverseSays}
 use Rattle.checkdoors.proofs.DoorLaws.{passed, forward-checked, reverse-checked}
 use Rattle.checkdoors.proofs.Theorems.{forward-finds, finds-forward, forward-misses, reverse-finds, finds-reverse, reverse-misses}
-use Rattle.def_promise.specs.NodeWords.{SoundWords}
+use Rattle.def_meaning.specs.NodeWords.{SoundWords}
 use Rattle.def_promise.specs.Pattern.{SpanAt, FirstEnd, FirstStart, AnswersForward, AnswersReverse, ForwardDoor, ReverseDoor}
-use Rattle.def_promise.proofs.NodeWords.{sound-listed, program-listed}
+use Rattle.def_meaning.proofs.NodeWords.{sound-listed, program-listed}
 use Rattle.def_promise.proofs.Cuts.{part-length, part-bytes, parts, cut}
 
 end-fine : (e k p : ℕ) (x : Option (List ℕ)) → endAt e x ≡ refuses k p → ⊥

@@ -18,11 +18,11 @@ use Rattle.checkdoors.specs.Doors as doors
 use Rattle.checkdoors.specs.Doors.{window, refusal, forwardSays, reverseSays, leftSays, leftFrom, leftAt}
 use Rattle.checkdoors.proofs.DoorLaws as law
 use Rattle.checkdoors.proofs.Theorems.{forward-misses, reverse-misses, left-tail, left-nothing}
-use Rattle.def_promise.specs.NodeWords.{Nodes}
+use Rattle.def_meaning.specs.NodeWords.{Nodes}
 use Rattle.def_promise.specs.Pattern.{FirstEnd, FirstStart}
 use Rattle.def_promise.specs.Checks.{Refuses, Forward, Reverse, Left}
 use Rattle.def_promise.specs.Checks as table
-use Rattle.def_promise.proofs.NodeWords.{sound-listed, not-sound, program-listed, sound-says}
+use Rattle.def_meaning.proofs.NodeWords.{sound-listed, not-sound, program-listed, sound-says}
 use Rattle.def_promise.proofs.Answers.{fine, to-first, of-first, back-fine, to-start, of-start}
 
 -- a door is asked about sound words and a window, or refuses

@@ -1,5 +1,3 @@
-pub mod WordTests
-pub mod NodeWords
 pub mod OneWording
 pub mod Adding
 pub mod Cases

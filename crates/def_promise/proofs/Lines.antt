@@ -11,8 +11,8 @@ use Rattle.def_meaning.specs.Words.{fieldSize, shapeBy}
 use Rattle.def_meaning.proofs.MadeLaws.{made-shape}
 use Rattle.base.specs.Text.{ascii}
 use Rattle.lines.specs.Lines.{byteLine, maskLine, shapeLine, nodeLine}
-use Rattle.def_promise.specs.NodeWords as words
-use Rattle.def_promise.specs.NodeWords.{word, Flat, Flats, Branched, Nodes}
+use Rattle.def_meaning.specs.NodeWords as words
+use Rattle.def_meaning.specs.NodeWords.{word, Flat, Flats, Branched, Nodes}
 use Rattle.def_promise.specs.Lines.{NodeLine}
 use Rattle.def_promise.specs.Lines as lines
 
@@ -38,9 +38,9 @@ of-line w l h = subst (NodeLine w) (line-one h) h
 -- and each word of a sound program has one
 flat-line : {w : ℕ} {i : Item} → Flat w i → NodeLine w (nodeLine w)
 flat-line (words.kind-0 {v = v} h) = of-line _ _ (lines.kind-0 h)
-flat-line (words.kind-1 {v = v} {m = m} h g) = of-line _ _ (lines.kind-1 h g)
-flat-line (words.kind-2 {v = v} {m = m} h g) = of-line _ _ (lines.kind-2 h g)
-flat-line (words.kind-3 {n = n} h) = of-line _ _ (lines.kind-3 h)
+flat-line (words.kind-1 {v = v} {m = m} h g u) = of-line _ _ (lines.kind-1 h g)
+flat-line (words.kind-2 {v = v} {m = m} h g u) = of-line _ _ (lines.kind-2 h g)
+flat-line (words.kind-3 {n = n} s h) = of-line _ _ (lines.kind-3 h)
 flat-line words.kind-5 = of-line _ _ lines.kind-5
 
 -- every word of a list has a line
@@ -61,8 +61,8 @@ flats-lined words.no-node = none-lined
 flats-lined (words.a-node {w = v} {ws = ws} f q) = next-lined v ws (flat-line f) (flats-lined q)
 
 branched-lined : {bs : List ℕ} {b : Branches} → Branched bs b → Lined bs
-branched-lined (words.last {ns = ns} l q) = next-lined (word 7 (length ns) 0) ns (of-line _ _ (lines.kind-7 l)) (flats-lined q)
-branched-lined (words.more {ns = ns} {bs = bs} l q r) = next-lined (word 7 (length ns) 0) (ns ++ bs) (of-line _ _ (lines.kind-7 l)) (both-lined ns bs (flats-lined q) (branched-lined r))
+branched-lined (words.last {ns = ns} s l q) = next-lined (word 7 (length ns) 0) ns (of-line _ _ (lines.kind-7 l)) (flats-lined q)
+branched-lined (words.more {ns = ns} {bs = bs} s l q r) = next-lined (word 7 (length ns) 0) (ns ++ bs) (of-line _ _ (lines.kind-7 l)) (both-lined ns bs (flats-lined q) (branched-lined r))
 
 pub sound-lines : {ws : List ℕ} {p : Prog} → Nodes ws p → (w : ℕ) → List·Memᴰ w ws → NodeLine w (nodeLine w)
 sound-lines words.nothing = none-lined

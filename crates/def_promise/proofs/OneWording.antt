@@ -11,20 +11,20 @@ use Rattle.def_meaning.specs.Programs.{Item, Prog, Branches, mirror}
 use Rattle.def_meaning.specs.Words.{prog, sound, mirrorWords}
 use Rattle.def_meaning.proofs.WordSpans.{sound-words, mirrored-sound}
 use Rattle.def_meaning.proofs.MirrorWords.{mirror-says}
-use Rattle.def_compiling.specs.ProgramWords.{wordFor, opening, wordsFor, wordsOf, wordsIn}
+use Rattle.def_compiling.specs.ProgramWords.{opening, wordsFor, wordsOf, wordsIn}
 use Rattle.def_compiling.specs.Compiling.{forwardProgram, reverseProgram}
 use Rattle.def_compiling.specs.Compile.{compiled, compile}
 use Rattle.def_compiling.proofs.CompileLaws.{forward-says, reverse-says}
-use Rattle.def_promise.specs.NodeWords.{word, Flat, kind-0, kind-1, kind-2, kind-3, kind-5, Flats, no-node, a-node, Branched, last, more, Nodes, nothing, flat, kind-4, kind-6}
-use Rattle.def_promise.proofs.NodeWords.{sound-says}
+use Rattle.def_meaning.specs.NodeWords.{word, Flat, kind-0, kind-1, kind-2, kind-3, kind-5, Flats, no-node, a-node, Branched, last, more, Nodes, nothing, flat, kind-4, kind-6}
+use Rattle.def_meaning.proofs.NodeWords.{sound-says}
 
 -- words that say a program are those that it is written in
 flat-word : {w : ℕ} {i : Item} → Flat w i → wordsFor i ≡ w ∷ []
-unfolding wordsFor wordFor
+unfolding wordsFor
 flat-word (kind-0 h) = refl
-flat-word (kind-1 h g) = refl
-flat-word (kind-2 h g) = refl
-flat-word (kind-3 h) = refl
+flat-word (kind-1 h g u) = refl
+flat-word (kind-2 h g u) = refl
+flat-word (kind-3 s h) = refl
 flat-word kind-5 = refl
 
 flat-words : {ns : List ℕ} {p : Prog} → Flats ns p → wordsOf p ≡ ns
@@ -34,8 +34,8 @@ flat-words (a-node f q) = ap₂ (λ (x y : List ℕ). x ++ y) (flat-word f) (fla
 
 branched-words : {bs : List ℕ} {b : Branches} → Branched bs b → wordsIn b ≡ bs
 unfolding wordsIn
-branched-words (last {ns = ns} l q) = ap (λ (x : List ℕ). word 7 (length x) 0 ∷ (x ++ [])) (flat-words q) ∙ ap (λ (x : List ℕ). word 7 (length ns) 0 ∷ x) (append-nil ns)
-branched-words (more {ns = ns} {bs = bs} l q r) = ap₂ (λ (x y : List ℕ). word 7 (length x) 0 ∷ (x ++ y)) (flat-words q) (branched-words r)
+branched-words (last {ns = ns} s l q) = ap (λ (x : List ℕ). word 7 (length x) 0 ∷ (x ++ [])) (flat-words q) ∙ ap (λ (x : List ℕ). word 7 (length ns) 0 ∷ x) (append-nil ns)
+branched-words (more {ns = ns} {bs = bs} s l q r) = ap₂ (λ (x y : List ℕ). word 7 (length x) 0 ∷ (x ++ y)) (flat-words q) (branched-words r)
 
 node-words : {ws : List ℕ} {p : Prog} → Nodes ws p → wordsOf p ≡ ws
 unfolding wordsOf wordsFor opening

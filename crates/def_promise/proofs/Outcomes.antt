@@ -23,10 +23,10 @@ use Rattle.readdoor.specs.Door as readdoor
 use Rattle.def_compiling.specs.Compile as tokens
 use Rattle.compiledoor.specs.Door as compiledoor
 use Rattle.mirror.specs.MirrorDoor as mirrordoor
-use Rattle.def_promise.specs.NodeWords.{Nodes}
+use Rattle.def_meaning.specs.NodeWords.{Nodes}
 use Rattle.def_promise.specs.Outcomes.{Reads, Makes, Compiles, Mirrors}
 use Rattle.def_promise.specs.Outcomes as table
-use Rattle.def_promise.proofs.NodeWords.{sound-listed, not-sound, program-listed, sound-says}
+use Rattle.def_meaning.proofs.NodeWords.{sound-listed, not-sound, program-listed, sound-says}
 use Rattle.def_promise.proofs.OneWording.{one-wording, mirror-wording}
 use Rattle.def_promise.proofs.Makes.{makes}
 

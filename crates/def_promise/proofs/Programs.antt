@@ -14,9 +14,9 @@ use Rattle.def_meaning.specs.Words.{prog, sound, mirrorWords}
 use Rattle.def_meaning.proofs.JoinLaws.{prog-append, append-span, span-append}
 use Rattle.def_meaning.proofs.WordSpans.{sound-length, sound-words, join-sound, mirrored-sound, mirrored-span, span-mirrored}
 use Rattle.mirror.specs.MirrorDoor.{mirrored, mirrorSays, mirrorLeaves}
-use Rattle.def_promise.specs.NodeWords.{Nodes, SoundWords}
+use Rattle.def_meaning.specs.NodeWords.{Nodes, SoundWords}
 use Rattle.def_promise.specs.Programs.{Joined, Joins, IsMirror}
-use Rattle.def_promise.proofs.NodeWords.{sound-listed, program-listed, sound-says}
+use Rattle.def_meaning.proofs.NodeWords.{sound-listed, program-listed, sound-says}
 use Rattle.def_promise.proofs.OneWording.{mirror-wording}
 use Rattle.def_promise.proofs.Answers.{forward-door, reverse-door}
 

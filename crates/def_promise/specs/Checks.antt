@@ -8,7 +8,7 @@ use Rattle.def_meaning.specs.Programs.{Prog}
 use Rattle.def_meaning.specs.Choices.{Nowhere}
 use Rattle.checkdoors.specs.Doors as doors
 use Rattle.checkdoors.specs.Doors.{window}
-use Rattle.def_promise.specs.NodeWords.{Nodes, SoundWords}
+use Rattle.def_meaning.specs.NodeWords.{Nodes, SoundWords}
 use Rattle.def_promise.specs.Pattern.{FirstEnd, FirstStart}
 
 -- 16, then 13, then 15

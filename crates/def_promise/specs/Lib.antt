@@ -1,4 +1,3 @@
-pub mod NodeWords
 pub mod Adding
 pub mod Cases
 pub mod Literals

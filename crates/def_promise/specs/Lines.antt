@@ -4,7 +4,7 @@ use mathlib.Core.List.{List}
 use Prim.Native.Nat.{ℕ, _<_}
 use Rattle.base.specs.Text.{ascii}
 use Rattle.lines.specs.Lines.{blank, numberLine, numbersLine, byteLine, maskLine}
-use Rattle.def_promise.specs.NodeWords.{word}
+use Rattle.def_meaning.specs.NodeWords.{word}
 
 pub data NodeLine : ℕ → List ℕ → Type 0 where
   kind-0 : {v : ℕ} → v < 256 → NodeLine (word 0 v 0) (byteLine (ascii "byte ") v)

@@ -19,7 +19,7 @@ use Rattle.def_compiling.specs.Compiling.{forwardProgram, reverseProgram, Eithe
 use Rattle.def_compiling.specs.Compile as tokens
 use Rattle.compiledoor.specs.Door as compiledoor
 use Rattle.mirror.specs.MirrorDoor as mirrordoor
-use Rattle.def_promise.specs.NodeWords.{Nodes, SoundWords}
+use Rattle.def_meaning.specs.NodeWords.{Nodes, SoundWords}
 use Rattle.def_promise.specs.Cases.{Complex, Long, Large}
 
 -- reading the text t into the pool p

@@ -12,7 +12,7 @@ use Rattle.def_grammar.specs.Grammar.{Derives}
 use Rattle.compiledoor.specs.Door.{forwardLeaves, reverseLeaves}
 use Rattle.checkdoors.specs.declared.Answer.{Answer}
 use Rattle.checkdoors.specs.Doors.{CheckSaid, found, noMatch, refuses, checkSaid, window, forwardSays, reverseSays, Answered}
-use Rattle.def_promise.specs.NodeWords.{SoundWords}
+use Rattle.def_meaning.specs.NodeWords.{SoundWords}
 
 -- the bytes of the haystack from a to b are one of some spans
 abbrev pub SpanAt : (List ℕ → Type 0) → List ℕ → ℕ → ℕ → Type 0

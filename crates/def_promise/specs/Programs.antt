@@ -4,7 +4,7 @@ use mathlib.Core.Path.{_≡_}
 use mathlib.Core.List.{List, _++_, reverse}
 use Prim.Native.Nat.{ℕ}
 use Rattle.def_meaning.specs.Programs.{Prog, Span, _⧺_, mirror}
-use Rattle.def_promise.specs.NodeWords.{Nodes, SoundWords}
+use Rattle.def_meaning.specs.NodeWords.{Nodes, SoundWords}
 use Rattle.def_promise.specs.Pattern.{ForwardDoor, ReverseDoor}
 
 -- a span of the one program, followed by a span of the other

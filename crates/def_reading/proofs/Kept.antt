@@ -12,25 +12,27 @@ use lib.Dec.{eqb, ltb}
 use lib.ListN.{getD}
 use Rattle.def_meaning.specs.Limits.{tokenLimit, levelLimit, innerJumpLimit}
 use Rattle.def_meaning.specs.Tokens.{Mask, left, right, all, Token, Tokens, Lists, Byte, NotByte, MaskedByte, NotMaskedByte, Jump, Alternatives, nothing, _then_, neither, _or_}
+use Rattle.def_meaning.specs.Values.{Filled}
 use Rattle.def_reading.specs.Blanks.{skip}
 use Rattle.def_reading.specs.Pieces.{Seen, found, absent, refused, Hex, whole, masked, Range, between, digit, twoDigits, byteAt, oneDigit, maskedAt, hexAt, negated, notAt, numberAt, checked, closedAt, upperAt, dashAt, lowerAt, rangeAt, jumpToken, jumped, hexToken, leafAt, _else_}
 use Rattle.def_reading.specs.Lists.{Parsed, read, missing, stopped, tokenOr, asToken, bracketed, before, thenMore, atBound, listOf, beside, thenLists, tokenF, moreF, listF, listsF, accepted, reading, enough}
 use Rattle.def_reading.proofs.PieceLaws.{digit-small}
 use Rattle.def_reading.proofs.TextLaws.{accepted-is}
 
--- what can be spelled: two digits for a byte and one for a half; a jump's from at most its to; alternatives with a list
+-- what can be spelled: two digits for a byte and one for a half; a jump's from at most its to, which is not 0; alternatives with a list, none of them
+-- empty
 pub record Keeps (One : Token → Type 0) (All : Tokens → Type 0) (Any : Lists → Type 0) : Type 0 where
   pub byte : (v : ℕ) → v < 256 → One (Byte v)
   pub not-byte : (v : ℕ) → v < 256 → One (NotByte v)
   pub masked-byte : (v : ℕ) (m : Mask) → v < 16 → One (MaskedByte v m)
   pub not-masked : (v : ℕ) (m : Mask) → v < 16 → One (NotMaskedByte v m)
   pub open-jump : (from : ℕ) → One (Jump from none)
-  pub jump : (from to : ℕ) → from ≤ to → One (Jump from (some to))
+  pub jump : (from to : ℕ) → from ≤ to → 1 ≤ to → One (Jump from (some to))
   pub alternatives : (ls : Lists) → Any ls → One (Alternatives ls)
   pub empty : All nothing
   pub next : (tok : Token) (ts : Tokens) → One tok → All ts → All (tok then ts)
-  pub last-list : (ts : Tokens) → All ts → Any (ts or neither)
-  pub next-list : (ts : Tokens) (ls : Lists) → All ts → Any ls → Any (ts or ls)
+  pub last-list : (ts : Tokens) → Filled ts → All ts → Any (ts or neither)
+  pub next-list : (ts : Tokens) (ls : Lists) → Filled ts → All ts → Any ls → Any (ts or ls)
 
 -- a byte as spelled
 unfoldable Small : Seen Hex → Type 0
@@ -76,7 +78,7 @@ small-hex t at =
 -- a jump's bounds
 unfoldable Rising : Seen Range → Type 0
 Rising (found (between from none) s e) = Unit {0}
-Rising (found (between from (some to)) s e) = from ≤ to
+Rising (found (between from (some to)) s e) = (from ≤ to) × (1 ≤ to)
 Rising absent = Unit {0}
 Rising (refused r p) = Unit {0}
 
@@ -84,11 +86,16 @@ rising-by : (b : Bool) (x y : Seen Range) → Rising x → (b ≡ false → Risi
 rising-by true x y h k = h
 rising-by false x y h k = k refl
 
+not-zeros : (from to : ℕ) → from ≤ to → (eqb from 0 && eqb to 0) ≡ false → 1 ≤ to
+not-zeros zero zero l h = let y : _≡_ {A = ℕ} 0 1 = cc in absurd (omega arith)
+not-zeros (suc from) zero l h = absurd (omega arith)
+not-zeros from (suc to) l h = omega arith
+
 module _ (t : List ℕ) (at : ℕ) where
   rising-checked : (from : ℕ) (to : Option ℕ) (stop : ℕ) → Rising (checked t at from to stop)
   unfolding checked Rising
   rising-checked from none stop = tt
-  rising-checked from (some to) stop = rising-by (eqb from 0 && eqb to 0) _ _ tt (λ z. rising-by (ltb to from) _ _ tt (λ h. ltb-false to from h))
+  rising-checked from (some to) stop = rising-by (eqb from 0 && eqb to 0) _ _ tt (λ z. rising-by (ltb to from) _ _ tt (λ h. (ltb-false to from h, not-zeros from to (ltb-false to from h) z)))
 
   rising-closed : (from : ℕ) (to : Option ℕ) (x : ℕ) → Rising (closedAt t at from to x)
   unfolding closedAt Rising
@@ -130,6 +137,12 @@ module _ (One : Token → Type 0) (All : Tokens → Type 0) (Any : Lists → Typ
   Are missing = Unit {0}
   Are (stopped r p) = Unit {0}
 
+  -- a list as a whole
+  unfoldable Full : Parsed Tokens → Type 0
+  Full (read ts e c) = Filled ts × All ts
+  Full missing = Unit {0}
+  Full (stopped r p) = Unit {0}
+
   unfoldable May : Parsed Lists → Type 0
   May (read ls e c) = Any ls
   May missing = Unit {0}
@@ -161,9 +174,9 @@ module _ (One : Token → Type 0) (All : Tokens → Type 0) (Any : Lists → Typ
   piece-negated at absent h = tt
   piece-negated at (refused r p) h = tt
 
-  one-jump : (b : Bool) (from to : ℕ) → from ≤ to → One (cond b (MaskedByte 0 all) (Jump from (some to)))
+  one-jump : (b : Bool) (from to : ℕ) → (from ≤ to) × (1 ≤ to) → One (cond b (MaskedByte 0 all) (Jump from (some to)))
   one-jump true from to h = keeps .masked-byte 0 all (omega arith)
-  one-jump false from to h = keeps .jump from to h
+  one-jump false from to h = keeps .jump from to (h .0) (h .1)
 
   piece-jumped : (inside : Bool) (at : ℕ) (x : Seen Range) → Rising x → Piece (jumped inside at x)
   unfolding jumped jumpToken Piece Rising
@@ -210,36 +223,36 @@ module _ (One : Token → Type 0) (All : Tokens → Type 0) (Any : Lists → Typ
   are-then at c missing more h k = keeps .empty
   are-then at c (stopped r p) more h k = tt
 
-  are-by : (b : Bool) (x y : Parsed Tokens) → Are x → Are y → Are (cond b x y)
-  are-by true x y h k = h
-  are-by false x y h k = k
+  full-by : (b : Bool) (x y : Parsed Tokens) → Full x → Full y → Full (cond b x y)
+  full-by true x y h k = h
+  full-by false x y h k = k
 
-  are-list : (at : ℕ) (x : Parsed Tokens) → Are x → Are (listOf at x)
-  unfolding listOf Are
-  are-list at (read nothing e c) h = tt
-  are-list at (read (tok then ts) e c) h = are-by (atBound (tok then ts)) _ _ tt h
-  are-list at missing h = tt
-  are-list at (stopped r p) h = tt
+  full-list : (at : ℕ) (x : Parsed Tokens) → Are x → Full (listOf at x)
+  unfolding listOf Are Full Filled
+  full-list at (read nothing e c) h = tt
+  full-list at (read (tok then ts) e c) h = full-by (atBound (tok then ts)) _ _ tt (tt, h)
+  full-list at missing h = tt
+  full-list at (stopped r p) h = tt
 
-  may-beside : (ts : Tokens) (y : Parsed Lists) → All ts → May y → May (beside ts y)
+  may-beside : (ts : Tokens) (y : Parsed Lists) → Filled ts → All ts → May y → May (beside ts y)
   unfolding beside May
-  may-beside ts (read ls e c) h k = keeps .next-list ts ls h k
-  may-beside ts missing h k = tt
-  may-beside ts (stopped r p) h k = tt
+  may-beside ts (read ls e c) f h k = keeps .next-list ts ls f h k
+  may-beside ts missing f h k = tt
+  may-beside ts (stopped r p) f h k = tt
 
   may-by : (b : Bool) (x y : Parsed Lists) → May x → May y → May (cond b x y)
   may-by true x y h k = h
   may-by false x y h k = k
 
-  may-then : (t : List ℕ) (miss : ℕ) (x : Parsed Tokens) (more : ℕ → ℕ → ℕ → Parsed Lists) → Are x → ((d e m : ℕ) → May (more d e m)) → May (thenLists t miss x more)
-  unfolding thenLists Are May
+  may-then : (t : List ℕ) (miss : ℕ) (x : Parsed Tokens) (more : ℕ → ℕ → ℕ → Parsed Lists) → Full x → ((d e m : ℕ) → May (more d e m)) → May (thenLists t miss x more)
+  unfolding thenLists Full May
   may-then t miss (read ts e c) more h k =
-      may-by (eqb (getD t e 0) (code ")")) _ _ (keeps .last-list ts h) (may-by (eqb (getD t e 0) (code "|")) _ _ (may-beside ts (more c (skip t (e + 1)) e) h (k c (skip t (e + 1)) e)) tt)
+      may-by (eqb (getD t e 0) (code ")")) _ _ (keeps .last-list ts (h .0) (h .1)) (may-by (eqb (getD t e 0) (code "|")) _ _ (may-beside ts (more c (skip t (e + 1)) e) (h .0) (h .1) (k c (skip t (e + 1)) e)) tt)
   may-then t miss missing more h k = tt
   may-then t miss (stopped r p) more h k = tt
 
   mutual
-    unfolding tokenF moreF listF listsF Is Are May
+    unfolding tokenF moreF listF listsF Is Are Full May
 
     token-kept : (f : ℕ) (t : List ℕ) (l c at : ℕ) → Is (tokenF f t l c at)
     token-kept zero t l c at = tt
@@ -249,16 +262,16 @@ module _ (One : Token → Type 0) (All : Tokens → Type 0) (Any : Lists → Typ
     more-kept zero t l c at = tt
     more-kept (suc f) t l c at = are-then at c (tokenF f t l c at) (λ d x. moreF f t l d x) (token-kept f t l c at) (λ d x. more-kept f t l d x)
 
-    list-kept : (f : ℕ) (t : List ℕ) (l c at : ℕ) → Are (listF f t l c at)
+    list-kept : (f : ℕ) (t : List ℕ) (l c at : ℕ) → Full (listF f t l c at)
     list-kept zero t l c at = tt
-    list-kept (suc f) t l c at = are-by (ltb levelLimit l) _ _ tt (are-list at (moreF f t l c at) (more-kept f t l c at))
+    list-kept (suc f) t l c at = full-by (ltb levelLimit l) _ _ tt (full-list at (moreF f t l c at) (more-kept f t l c at))
 
     lists-kept : (f : ℕ) (t : List ℕ) (l c at miss : ℕ) → May (listsF f t l c at miss)
     lists-kept zero t l c at miss = tt
     lists-kept (suc f) t l c at miss = may-then t miss (listF f t l c at) (λ d x m. listsF f t l d x m) (list-kept f t l c at) (λ d x m. lists-kept f t l d x m)
 
   pub accepted-keeps : (t : List ℕ) (e : ℕ) (ts : Tokens) → reading t ≡ accepted e ts → All ts
-  unfolding Are
+  unfolding Full
   accepted-keeps t e ts h =
       let a = accepted-is t e ts h in
-      subst (λ (x : Parsed Tokens). Are x) (a .inner) (list-kept (enough t (skip t 1)) t 1 0 (skip t 1))
+      subst (λ (x : Parsed Tokens). Full x) (a .inner) (list-kept (enough t (skip t 1)) t 1 0 (skip t 1)) .1

@@ -16,12 +16,12 @@ spelled-keeps = record {
   masked-byte = λ v m h. h;
   not-masked = λ v m h. h;
   open-jump = λ from. tt;
-  jump = λ from to h. h;
+  jump = λ from to h g. (h, g);
   alternatives = λ ls h. h;
   empty = tt;
   next = λ tok ts a b. (a, b);
-  last-list = λ ts a. (a, tt);
-  next-list = λ ts ls a b. (a, any-spelled ls b);
+  last-list = λ ts f a. (a, tt, f);
+  next-list = λ ts ls f a b. (a, any-spelled ls b, f);
 }
 
 pub accepted-spelled : (t : List ℕ) (e : ℕ) (ts : Tokens) → reading t ≡ accepted e ts → Spelled ts

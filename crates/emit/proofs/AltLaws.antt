@@ -11,7 +11,7 @@ use borrow.Author.Tests.{eq-eqb, ne-eqb}
 use borrow.Rule.Slice.PartMut.{putMid}
 use Rattle.base.proofs.LentLaws.{lent-rest}
 use Rattle.def_meaning.specs.Programs.{Item, Prog, Branches, one, jump, range, alt, end, _▹_, _⧺_}
-use Rattle.def_meaning.specs.Words.{word}
+use Rattle.def_meaning.specs.NodeWords.{word}
 use Rattle.def_compiling.specs.ProgramWords.{opening, wordsFor, wordsOf, wordsIn}
 use Rattle.def_compiling.specs.Compiling.{jumpOf, add}
 use Rattle.def_compiling.specs.Compile.{shortIn, shortOf}

@@ -13,7 +13,7 @@ use Rattle.def_meaning.specs.Limits.{branchLimit}
 use Rattle.def_meaning.specs.Tokens.{Token, Tokens, Lists, Byte, NotByte, MaskedByte, NotMaskedByte, Jump, Alternatives, nothing, _then_, neither, _or_}
 use Rattle.def_meaning.specs.Entries.{entry, entriesIn, tokenCount, listCount, entriesOf, entries, listEntries}
 use Rattle.def_meaning.specs.Programs.{Item, Prog, Branches, one, jump, range, alt, or as branch}
-use Rattle.def_meaning.specs.Words.{word}
+use Rattle.def_meaning.specs.NodeWords.{word}
 use Rattle.def_meaning.proofs.SoundLaws.{and-left, and-right, false-true}
 use Rattle.def_compiling.specs.ProgramWords.{wordsFor, wordsOf, wordsIn, nodes}
 use Rattle.def_compiling.specs.Compile.{flatToken, flatTokens, flatBranches, shortIn}

@@ -12,8 +12,9 @@ use lib.Seq.{set-at, drop-cons}
 use borrow.Author.Tests.{leb-true, leb-false, le-leb, lt-leb}
 use Rattle.def_meaning.specs.Limits.{jumpLimit}
 use Rattle.def_meaning.specs.Programs.{byte, mask, negatedMask, Item, Prog, one, jump, range, alt, end, _▹_, _⧺_}
-use Rattle.def_meaning.specs.Words.{fieldSize, word}
-use Rattle.def_compiling.specs.ProgramWords.{wordFor, wordsFor, wordsOf, nodes}
+use Rattle.def_meaning.specs.NodeWords.{word}
+use Rattle.def_meaning.specs.Words.{fieldSize, wordFor}
+use Rattle.def_compiling.specs.ProgramWords.{wordsFor, wordsOf, nodes}
 use Rattle.def_compiling.specs.Compiling.{jumpOf, pairBy, add}
 use Rattle.emit.specs.declared.Addend.{Addend}
 use Rattle.emit.specs.declared.Addend.the-variants.{Word, Gap}

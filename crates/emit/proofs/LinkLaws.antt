@@ -82,7 +82,7 @@ leaf-from (NotByte v) r u h g = ap (λ (x : ℕ). one (negatedMask x 0xFF)) (mod
 leaf-from (MaskedByte v m) r u h g = mask-from v m h
 leaf-from (NotMaskedByte v m) r u h g = not-mask-from v m h
 leaf-from (Jump from none) r u h g = false-true g
-leaf-from (Jump from (some to)) r u h g = jump-from from to h g
+leaf-from (Jump from (some to)) r u h g = jump-from from to (h .0) g
 leaf-from (Alternatives ls) r u h g = absurd u
 
 leaf-kind : (t : Token) (r : List ℕ) → Leaf t → getD (entriesOf t ++ r) 0 0 ≡ 5 → ⊥

@@ -5,7 +5,7 @@ use Prim.Native.Nat.{ℕ, _+_, _-_, _≤_, _<_}
 use lib.ListN.{set}
 use borrow.Author.Tests.{le-leb, lt-leb}
 use Rattle.def_meaning.specs.Limits.{jumpLimit}
-use Rattle.def_meaning.specs.Words.{word}
+use Rattle.def_meaning.specs.NodeWords.{word}
 use Rattle.emit.specs.declared.Addend.{Addend}
 use Rattle.emit.specs.declared.Addend.the-variants.{Word, Gap}
 use Rattle.emit.specs.declared.Last.{Last}

@@ -8,8 +8,8 @@ use lib.Dec.{eqb, leb, ltb}
 use lib.ListN.{set}
 use Rattle.def_meaning.specs.Limits.{jumpLimit}
 use Rattle.def_meaning.specs.Programs.{byte, mask, negatedMask, Item, Prog, one, jump, range, alt, end, _▹_}
-use Rattle.def_meaning.specs.Words.{fieldSize, word}
-use Rattle.def_compiling.specs.ProgramWords.{wordFor}
+use Rattle.def_meaning.specs.NodeWords.{word}
+use Rattle.def_meaning.specs.Words.{fieldSize, wordFor}
 use Rattle.def_compiling.specs.Compiling.{jumpOf}
 use Rattle.emit.specs.declared.Addend.{Addend}
 use Rattle.emit.specs.declared.Addend.the-variants.{Word, Gap}

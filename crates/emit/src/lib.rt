@@ -8,7 +8,7 @@ ghost use Prim.Native.Nat.{_+_, _*_, _-_, _≤_, _<_};
 ghost use lib.ListN.{length, getD, drop, set};
 ghost use Rattle.def_meaning.specs.Limits.{branchLimit, tokenPool};
 ghost use Rattle.def_meaning.specs.Programs.{alt};
-ghost use Rattle.def_meaning.specs.Words.{word};
+ghost use Rattle.def_meaning.specs.NodeWords.{word};
 ghost use Rattle.def_compiling.specs.ProgramWords.{wordsFor, wordsOf, wordsIn, nodes};
 ghost use Rattle.emit.specs.declared.Last.the-variants.{Grows};
 ghost use Rattle.emit.specs.declared.Addend.the-variants.{Gap};

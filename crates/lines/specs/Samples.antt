@@ -2,7 +2,8 @@
 -- To be believed: nothing.
 use mathlib.Core.Path.{_≡_, refl}
 use mathlib.Core.List.{[], _∷_, _++_, flatMap}
-use Rattle.def_meaning.specs.Words.{shape, shapeBy, word}
+use Rattle.def_meaning.specs.NodeWords.{word}
+use Rattle.def_meaning.specs.Words.{shape, shapeBy}
 use Rattle.base.specs.Text.{ascii}
 use Rattle.printing.specs.Laid.{laid}
 use Rattle.printing.specs.Numbers.{digit, hexOf, digitsIn, decimalOf}

@@ -7,13 +7,13 @@ use Prim.Native.Nat.{ℕ, _≤_, min}
 use native.Mathlib.Omega.{arith}
 use lib.ListN.{length}
 use Rattle.def_meaning.specs.Limits.{tokenLimit}
+use Rattle.def_meaning.specs.Values.{Filled}
 use Rattle.def_meaning.specs.Tokens.{Token, Tokens, Lists, Byte, NotByte, MaskedByte, NotMaskedByte, Jump, Alternatives, nothing, _then_, neither, _or_, total}
 use Rattle.def_reading.specs.Lists.{accepted, reading}
 use Rattle.def_grammar.proofs.Spelling.{_⨾_, Bounded, SpellsToken, SpellsTokens, SpellsLists, SpellsRest, SpellsString, SpellsText}
 use Rattle.def_grammar.proofs.TextSpelled.{accepted-spelled}
 use Rattle.def_picking.specs.Literals.{lengthIn, shortest, shorter, NonemptyOf, Nonempty, NonemptyIn}
 use Rattle.def_picking.specs.Candidates.{picked, pick}
-use Rattle.def_picking.proofs.FactorLaws.{Filled}
 use Rattle.def_picking.proofs.PickedLaws.{filled-long, literal-bounds}
 
 -- ---- no list of alternatives is empty

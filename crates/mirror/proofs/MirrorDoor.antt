@@ -3,7 +3,8 @@ use mathlib.Core.Path.{_≡_, refl, sym, ap, _∙_}
 use mathlib.Core.List.{List, [], _∷_, reverse}
 use Prim.Native.Nat.{ℕ}
 use native.Mathlib.Omega.{arith}
-use Rattle.def_meaning.specs.Words.{word, shape, shapeBy, mirrorWords, mirrorItems}
+use Rattle.def_meaning.specs.NodeWords.{word}
+use Rattle.def_meaning.specs.Words.{shape, shapeBy, mirrorWords, mirrorItems}
 use Rattle.base.specs.Refusals.{numberOf}
 use Rattle.base.proofs.RefusalLaws.{number-one}
 use Rattle.mirror.specs.declared.MirrorAnswer.{MirrorAnswer}

@@ -1,7 +1,6 @@
 -- `emit::entry_addend` meets its contract. Assumes nothing.
 use mathlib.Core.Path.{sym, ap}
 use borrow.Author.Tests.{ne-eqb}
-use Rattle.def_compiling.specs.ProgramWords.{wordFor}
 use Rattle.emit.specs.declared.Addend.the-variants.{Word}
 use Rattle.emit.specs.Items.{entryItem, addendOf}
 use borrow.Author.Needs.{needs}
@@ -33,7 +32,7 @@ jump-addend-requires : tie.Need-jump-addend-requires
 jump-addend-requires c κs = search needs
 
 returns : tie.Need-returns
-unfolding addendOf wordFor entryItem
+unfolding addendOf entryItem
 returns c =
     let at-node-word = c .node-word in
     let at-match = c .before .match in
@@ -41,7 +40,7 @@ returns c =
     rw (at-match .keys1, sym (at-byte-in .ensures)) (ap Word (at-node-word .ensures))
 
 returns-2 : tie.Need-returns-2
-unfolding addendOf wordFor entryItem
+unfolding addendOf entryItem
 returns-2 c =
     let at-node-word2 = c .node-word2 in
     let at-match = c .before .match in

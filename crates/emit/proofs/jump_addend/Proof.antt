@@ -1,7 +1,6 @@
 -- `emit::jump_addend` meets its contract. Assumes nothing.
 use mathlib.Core.Path.{ap}
 use borrow.Author.Tests.{lt-ltb, le-ltb}
-use Rattle.def_compiling.specs.ProgramWords.{wordFor}
 use Rattle.emit.specs.declared.Addend.the-variants.{Word}
 use Rattle.emit.specs.Items.{jumpItem, addendOf}
 use borrow.Author.Needs.{needs}
@@ -12,14 +11,14 @@ node-word-requires : tie.Need-node-word-requires
 node-word-requires c κs = search needs
 
 returns : tie.Need-returns
-unfolding addendOf wordFor jumpItem
+unfolding addendOf jumpItem
 returns c =
     let at-node-word = c .node-word in
     let at-if1 = c .before .if1 in
     rw (lt-ltb _ _ (at-if1 .taken)) (ap Word (at-node-word .ensures))
 
 returns-2 : tie.Need-returns-2
-unfolding addendOf wordFor jumpItem
+unfolding addendOf jumpItem
 returns-2 c =
     let at-if1 = c .if1 in
     rw (le-ltb _ _ (at-if1 .left))

@@ -1,7 +1,6 @@
 -- `emit::mask_addend` meets its contract. Assumes nothing.
 use mathlib.Core.Path.{ap}
 use borrow.Author.Tests.{ne-eqb}
-use Rattle.def_compiling.specs.ProgramWords.{wordFor}
 use Rattle.emit.specs.declared.Addend.the-variants.{Word}
 use Rattle.emit.specs.Items.{maskItem, addendOf}
 use borrow.Author.Needs.{needs}
@@ -15,7 +14,7 @@ node-word-requires : tie.Need-node-word-requires
 node-word-requires c κs = search needs
 
 returns : tie.Need-returns
-unfolding addendOf wordFor maskItem
+unfolding addendOf maskItem
 returns c =
     let at-node-word = c .node-word in
     let at-if1 = c .before .if1 in
@@ -28,14 +27,14 @@ node-word-requires-2 : tie.Need-node-word-requires-2
 node-word-requires-2 c κs = search needs
 
 returns-2 : tie.Need-returns-2
-unfolding addendOf wordFor maskItem
+unfolding addendOf maskItem
 returns-2 c =
     let at-node-word2 = c .node-word2 in
     let at-if2 = c .before .if2 in
     rw (at-if2 .taken) (ap Word (at-node-word2 .ensures))
 
 returns-3 : tie.Need-returns-3
-unfolding addendOf wordFor maskItem
+unfolding addendOf maskItem
 returns-3 c =
     let at-if2 = c .if2 in
     let at-if1 = c .before .if1 in

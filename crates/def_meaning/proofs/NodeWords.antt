@@ -10,13 +10,14 @@ use lib.Dec.{leb}
 use borrow.Author.Tests.{leb-true, le-leb}
 use lib.ListN.{length, take, drop, length-append, length-drop, take-append-drop}
 use lib.Seq.{take-append-seam, drop-append-seam, length-take-le, take-all}
+use Rattle.def_meaning.specs.Limits.{branchLimit}
 use Rattle.def_meaning.specs.Programs.{Item, Prog, Branches, one, jump, range, alt, end, _▹_, stop, or}
 use Rattle.def_meaning.specs.Words.{byteSize, Shape, item, opens, mark, wrong, shape, proper, isFlat, flatProg, flatWords, soundWords, soundBranches, branches, prog, branchesOf, sound, Sound, SoundBranches}
 use Rattle.def_meaning.proofs.WordLaws.{drop-le, prog-nil, prog-item, prog-opens, branches-mark}
 use Rattle.def_meaning.proofs.MadeLaws.{range-made, opens-made, mark-made}
 use Rattle.def_meaning.proofs.SoundLaws.{Marked, and-left, and-right, and-both, false-true, sound-proper, branch-proper, sound-item, sound-opens, sound-mark, sound-wrong, sound-branch, branch-shape, make-item, make-opens, make-branch, make-flat, flat-item, flat-nil}
-use Rattle.def_promise.specs.NodeWords.{word, Flats, no-node, a-node, Branched, last, more, Nodes, nothing, flat, kind-4, kind-6, SoundWords}
-use Rattle.def_promise.proofs.WordTests.{OfItem, of-item, of-opens, of-mark, flat-of, range-word, mark-word, opens-word, flat-made, flat-is}
+use Rattle.def_meaning.specs.NodeWords.{word, Flats, no-node, a-node, Branched, last, more, Nodes, nothing, flat, kind-4, kind-6, SoundWords}
+use Rattle.def_meaning.proofs.ProperLaws.{OfItem, of-item, of-opens, of-mark, word-again, flat-of, flat-made, flat-is}
 
 -- what listed words compute to
 record Computes (ws : List ℕ) (p : Prog) : Type 0 where
@@ -77,13 +78,13 @@ flats-compute no-node = nothing-computes
 flats-compute (a-node {w = w} {ws = ws} {i = i} {p = p} f q) = let t = flat-made f in node-computes w ws i p (t .properly) (t .says) (flats-compute q)
 
 branched-some : {bs : List ℕ} {b : Branches} → Branched bs b → 1 ≤ length bs
-branched-some (last {ns = ns} l q) = omega arith
-branched-some (more {ns = ns} {bs = bs} l q r) = omega arith
+branched-some (last {ns = ns} s l q) = omega arith
+branched-some (more {ns = ns} {bs = bs} s l q r) = omega arith
 
 branched-computes : {bs : List ℕ} {b : Branches} → Branched bs b → ComputesIn bs b
-branched-computes (last {ns = ns} {p = p} l q) = let t = mark-made (length ns) (omega arith) in last-computes (word 7 (length ns) 0) ns p (t .properly) (t .says) (flats-are q) (flats-compute q)
-branched-computes (more {ns = ns} {bs = bs} {p = p} {b = b} l q r) =
-    let t = mark-made (length ns) (omega arith) in
+branched-computes (last {ns = ns} {p = p} s l q) = let t = mark-made (length ns) s (omega arith) in last-computes (word 7 (length ns) 0) ns p (t .properly) (t .says) (flats-are q) (flats-compute q)
+branched-computes (more {ns = ns} {bs = bs} {p = p} {b = b} s l q r) =
+    let t = mark-made (length ns) s (omega arith) in
     branch-computes (word 7 (length ns) 0) ns bs p b (t .properly) (t .says) (flats-are q) (flats-compute q) (branched-computes r)
 
 nodes-compute : {ws : List ℕ} {p : Prog} → Nodes ws p → Computes ws p
@@ -115,20 +116,23 @@ branch-listed w ws k e h r = subst (Branched (w ∷ ws)) (sym (branches-mark w w
     m = e ∙ ap mark (sym (length-take-le k ws (o .fits)))
 
     v : word 7 (length ns) 0 ≡ w
-    v = mark-word w (length ns) (branch-proper w ws h) m
+    v = word-again w (branch-proper w ws h) m
+
+    size : (1 ≤ length ns) × (length ns ≤ branchLimit)
+    size = of-mark w (length ns) (branch-proper w ws h) m
 
     few : length ns < byteSize
-    few = let b = of-mark w (length ns) (branch-proper w ws h) m in omega arith
+    few = let b = size .1 in omega arith
 
     go : (l : List ℕ) → drop k ws ≡ l → (1 ≤ length l → Branched l (branchesOf l)) → Branched (w ∷ ws) (or (prog ns) (branchesOf l))
     go [] z f =
         let a : take k ws ≡ ws = take-all k ws (omega (arith, length-drop k ws, ap length z)) in
         subst₂ (λ (x : List ℕ) (b : Branches). Branched (w ∷ x) (or (prog ns) b)) a (sym (stop-computes .says))
-        (subst (λ (x : ℕ). Branched (x ∷ ns) (or (prog ns) stop)) v (last few (flats-listed ns (o .inside))))
+        (subst (λ (x : ℕ). Branched (x ∷ ns) (or (prog ns) stop)) v (last (size .0) few (flats-listed ns (o .inside))))
     go (x ∷ l) z f =
         let a : ns ++ (x ∷ l) ≡ ws = ap (λ (y : List ℕ). ns ++ y) (sym z) ∙ take-append-drop k ws in
         subst (λ (y : List ℕ). Branched (w ∷ y) (or (prog ns) (branchesOf (x ∷ l)))) a
-        (subst (λ (y : ℕ). Branched (y ∷ (ns ++ (x ∷ l))) (or (prog ns) (branchesOf (x ∷ l)))) v (more few (flats-listed ns (o .inside)) (f (omega arith))))
+        (subst (λ (y : ℕ). Branched (y ∷ (ns ++ (x ∷ l))) (or (prog ns) (branchesOf (x ∷ l)))) v (more (size .0) few (flats-listed ns (o .inside)) (f (omega arith))))
 
 branched-listed : (n : ℕ) (ws : List ℕ) → length ws ≤ n → SoundBranches ws → 1 ≤ length ws → Branched ws (branchesOf ws)
 branched-listed zero [] l h j = absurd (omega arith)
@@ -144,7 +148,7 @@ unfolding isFlat OfItem
 node-listed w ws (one t) p h e q = flat (flat-of w (one t) h e refl) q
 node-listed w ws (jump n) p h e q = flat (flat-of w (jump n) h e refl) q
 node-listed w ws (range a b) p h e q =
-    subst (λ (x : ℕ). Nodes (x ∷ ws) (range a b ▹ p)) (range-word w a b h e) (let b = of-item w (range a b) h e in kind-4 (b .0) (b .1) q)
+    subst (λ (x : ℕ). Nodes (x ∷ ws) (range a b ▹ p)) (word-again w h e) (let b = of-item w (range a b) h e in kind-4 (b .0) (b .1) q)
 node-listed w ws (alt bs) p h e q = absurd (of-item w (alt bs) h e)
 
 -- alternatives
@@ -157,7 +161,7 @@ alternation-listed w ws k e h r =
     let u : Branched bs (branchesOf bs) = branched-listed (length bs) bs (le-refl _) (o .inside) (l .0) in
     subst (Nodes (w ∷ ws)) (sym (prog-opens w ws k e))
     (subst (λ (x : List ℕ). Nodes (w ∷ x) (alt (branchesOf bs) ▹ prog (drop k ws))) (take-append-drop k ws)
-    (subst (λ (x : ℕ). Nodes (x ∷ (bs ++ drop k ws)) (alt (branchesOf bs) ▹ prog (drop k ws))) (opens-word w (length bs) (sound-proper w ws h) m)
+    (subst (λ (x : ℕ). Nodes (x ∷ (bs ++ drop k ws)) (alt (branchesOf bs) ▹ prog (drop k ws))) (word-again w (sound-proper w ws h) m)
     (kind-6 (l .1) u r)))
 
 word-listed : (w : ℕ) (ws : List ℕ) → Sound (w ∷ ws) → (Sound ws → Nodes ws (prog ws)) → ((k : ℕ) → Sound (drop k ws) → Nodes (drop k ws) (prog (drop k ws))) → Nodes (w ∷ ws) (prog (w ∷ ws))
@@ -182,6 +186,9 @@ nodes-listed (suc n) (w ∷ ws) l h = word-listed w ws h (λ g. nodes-listed n w
 pub sound-says : (ws : List ℕ) → sound ws ≡ true → Nodes ws (prog ws)
 unfolding sound
 sound-says ws h = nodes-listed (length ws) ws (le-refl _) (and-right (leb (length ws) 512) (soundWords (length ws) ws) h)
+
+pub listed-sound : {ws : List ℕ} {p : Prog} → Nodes ws p → Sound ws
+listed-sound q = nodes-compute q .sounds
 
 pub program-listed : {ws : List ℕ} {p : Prog} → Nodes ws p → prog ws ≡ p
 program-listed q = nodes-compute q .says
