@@ -1,9 +1,11 @@
 -- What a node says, and its word. Assumes nothing: these are definitions.
 -- To be believed: nothing.
+use mathlib.Core.Bool.{cond}
 use mathlib.Core.List.{List, [], _∷_}
 use Prim.Native.Nat.{ℕ, _<_}
+use lib.Dec.{eqb}
 use Rattle.def_meaning.specs.Programs.{Test, byte, mask, negatedMask, dot, one, jump, range}
-use Rattle.def_meaning.specs.Words.{fieldSize, word, Shape, item, opens, mark, wrong}
+use Rattle.def_meaning.specs.Words.{fieldSize, Shape, item, opens, mark, wrong, wordFor, wordOfShape}
 use Rattle.nodes.specs.declared.ByteTest.{ByteTest}
 use Rattle.nodes.specs.declared.ByteTest.the-variants.{Byte, Mask, NegatedMask, Dot}
 use Rattle.nodes.specs.declared.Node.{Node}
@@ -26,20 +28,12 @@ shapeOf (Alternation n) = opens n
 shapeOf (AltBranch n) = mark n
 shapeOf Bad = wrong
 
--- the word of a node: its kind and its fields, those not named 0; of Bad, one of a kind that is none
+-- the word of a test and of a node
 abbrev pub testWord : ByteTest → ℕ
-testWord (Byte v) = word 0 v 0
-testWord (Mask v m) = word 1 v m
-testWord (NegatedMask v m) = word 2 v m
-testWord Dot = word 5 0 0
+testWord t = wordFor (testOf t)
 
 abbrev pub wordOf : Node → ℕ
-wordOf (One t) = testWord t
-wordOf (Jump n) = word 3 n 0
-wordOf (JumpRange a b) = word 4 a b
-wordOf (Alternation n) = word 6 n 0
-wordOf (AltBranch n) = word 7 n 0
-wordOf Bad = word 8 0 0
+wordOf n = wordOfShape (shapeOf n)
 
 -- the fields of a node fit a word: every node that the code holds is such a one, by its types
 abbrev pub TestFits : ByteTest → Type 0
@@ -60,3 +54,10 @@ NodeFits Bad = Unit {0}
 abbrev pub firstWord : List ℕ → NextWord
 firstWord [] = NoWord
 firstWord (w ∷ ws) = Word w
+
+-- the mask under which a test's value lies, and the most that its second field may be, by its kind
+abbrev pub maskIn : ℕ → ℕ → ℕ
+maskIn k b = cond (eqb k 0) 0xFF b
+
+abbrev pub mostIn : ℕ → ℕ
+mostIn k = cond (eqb k 0) 0 0xFF

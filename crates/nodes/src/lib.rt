@@ -2,11 +2,14 @@
 // A node word and the node that it says: the one taken apart into the other, and made from it. Nowhere else is a word taken apart or made by
 // arithmetic, so what a word's layout is stands here: the types, the sizes, and the small functions for kind and fields.
 ghost use mathlib.Core.Path.{_≡_};
+ghost use mathlib.Core.Bool.{_&&_};
 ghost use Prim.Native.Nat.{_%_, _≤_, _<_};
+ghost use lib.Dec.{leb, ltb};
 ghost use lib.ListN.{length};
 ghost use Rattle.base.specs.Pools.{zeroed};
-ghost use Rattle.def_meaning.specs.Words.{byteSize, fieldSize, kindOf, firstOf, secondOf, countOf, word, shape, proper};
-ghost use Rattle.nodes.specs.Nodes.{shapeOf, testWord, wordOf, firstWord};
+ghost use Rattle.def_meaning.specs.NodeWords.{word};
+ghost use Rattle.def_meaning.specs.Words.{byteSize, fieldSize, kindOf, firstOf, secondOf, countOf, wordSize, shape, properBy, proper};
+ghost use Rattle.nodes.specs.Nodes.{shapeOf, testWord, wordOf, firstWord, maskIn, mostIn};
 use base::BRANCH_LIMIT;
 
 // A word of a program, and a field of it.
@@ -43,6 +46,9 @@ const WORDS: NodeWord = SECOND * FIELDS;
 
 // How many values a byte has: the values and masks of a sound program are bytes.
 const BYTES: Field = 256;
+
+// The first word past those of branches that may stand in a sound program.
+const BRANCHES: NodeWord = KINDS * (BRANCH_LIMIT as NodeWord + 1);
 
 // What is asked of one byte. Values and masks are fields here, since every word says a node.
 pub enum ByteTest {
@@ -177,6 +183,52 @@ pub fn branch_word(n: usize) -> NodeWord
     ALT_BRANCH + KINDS * (n as NodeWord)
 }
 
+// The mask under which the value of a word that tests a byte has to lie, and the most that its second field may be. A Byte has FF and 0.
+fn mask_in(k: NodeWord, b: Field) -> Field
+    ensures { λ r. ⌜ r ≡ maskIn k b ⌝ }
+{
+    if k == BYTE { BYTES - 1 } else { b }
+}
+
+fn most_in(k: NodeWord) -> Field
+    ensures { λ r. ⌜ r ≡ mostIn k ⌝ }
+{
+    if k == BYTE { 0 } else { BYTES - 1 }
+}
+
+// Whether the fields of a Byte, a Mask or a NegatedMask are proper: with a bit outside its mask a Mask would fit no byte, and its negation every one.
+// The three have one test, so that no jump of the machine's depends on which of them it is, as they may stand mixed.
+fn proper_test(k: NodeWord, a: Field, b: Field) -> bool
+    requires { ⌜ k ≤ 2 ⌝ }
+    ensures { λ r. ⌜ r ≡ properBy k a b ⌝ }
+{
+    let mask = mask_in(k, b);
+    b <= most_in(k) && a & mask == a
+}
+
+// Whether the fields of a word, in one number, are 1 or more, and the word is below `end`. Both ask the word itself, so that the machine has one
+// comparison for them.
+fn counted(w: NodeWord, end: NodeWord) -> bool
+    ensures { λ r. ⌜ r ≡ (leb 256 w && ltb w end) ⌝ }
+{
+    KINDS <= w && w < end
+}
+
+// Whether the fields of a word of another kind are proper. A word is below SECOND where its second field, which has no name, is 0.
+fn proper_other(w: NodeWord) -> bool
+    requires { ⌜ (3 ≤ kindOf w) × (w < wordSize) ⌝ }
+    ensures { λ r. ⌜ r ≡ properBy (kindOf w) (firstOf w) (secondOf w) ⌝ }
+{
+    match kind(w) {
+        JUMP => counted(w, SECOND),
+        JUMP_RANGE => first(w) <= second(w),
+        DOT => w < KINDS,
+        ALTERNATION => counted(w, SECOND),
+        ALT_BRANCH => counted(w, BRANCHES),
+        _ => false,
+    }
+}
+
 // Whether a word may stand in a sound program, as far as it tells by itself.
 pub fn proper_word(w: NodeWord) -> bool
     ensures { λ r. ⌜ r ≡ proper w ⌝ }
@@ -184,18 +236,11 @@ pub fn proper_word(w: NodeWord) -> bool
     if WORDS <= w {
         return false;
     }
-    let a = first(w);
-    let b = second(w);
-    match kind(w) {
-        BYTE => a < BYTES && b == 0,
-        MASK => a < BYTES && b < BYTES,
-        NEGATED_MASK => a < BYTES && b < BYTES,
-        JUMP => b == 0,
-        JUMP_RANGE => a <= b,
-        DOT => a == 0 && b == 0,
-        ALTERNATION => 1 <= a && b == 0,
-        ALT_BRANCH => (a as usize) <= BRANCH_LIMIT && b == 0,
-        _ => false,
+    let k = kind(w);
+    if k <= NEGATED_MASK {
+        proper_test(k, first(w), second(w))
+    } else {
+        proper_other(w)
     }
 }
 

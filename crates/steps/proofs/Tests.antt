@@ -1,14 +1,15 @@
 -- Words that test a byte, and words that do not. Assumes nothing.
 use mathlib.Core.Path.{_≡_, refl, sym, ap, _∙_}
-use mathlib.Core.Bool.{Bool, true, false, cond, _&&_}
+use mathlib.Core.Bool.{Bool, true, false, cond}
 use Prim.Native.Nat.{ℕ, _%_}
 use native.Mathlib.Nat.{mod-eq-of-lt}
-use lib.Dec.{eqb, ltb}
-use borrow.Author.Tests.{ne-eqb, ltb-true}
+use lib.Dec.{eqb}
+use borrow.Author.Tests.{ne-eqb}
 use native.Mathlib.Omega.{arith}
-use Rattle.def_meaning.specs.Programs.{Test, pass, one, jump, range, alt}
-use Rattle.def_meaning.specs.Words.{byteSize, kindOf, firstOf, secondOf, wordSize, Shape, item, opens, mark, wrong, shapeBy, shape, properBy, proper}
-use Rattle.def_meaning.proofs.SoundLaws.{and-left, and-right}
+use Rattle.def_meaning.specs.Programs.{Test, byte, mask, negatedMask, pass, one, jump, range, alt}
+use Rattle.def_meaning.specs.Words.{byteSize, kindOf, firstOf, secondOf, Shape, item, opens, mark, wrong, shapeBy, shape, proper}
+use Rattle.def_meaning.proofs.KindLaws.{kind-byte, kind-mask, kind-negated}
+use Rattle.def_meaning.proofs.ProperLaws.{OfTest, OfItem, of-item}
 use Rattle.steps.specs.Steps.{isTest, passShape}
 
 -- a word of none of the four kinds is no test
@@ -31,28 +32,21 @@ no-pass k a b c n0 n1 n2 n5 = no-kind k a b n0 n1 n2 n5 (λ s. false ≡ passSha
 
 -- the value and the mask of a proper word are bytes
 module _ (w : ℕ) (h : proper w ≡ true) where
-  fields : (k : ℕ) → kindOf w ≡ k → properBy k (firstOf w) (secondOf w) ≡ true
-  unfolding proper properBy
-  fields k e = sym (ap (λ (x : ℕ). properBy x (firstOf w) (secondOf w)) e) ∙ and-right (ltb w wordSize) (properBy (kindOf w) (firstOf w) (secondOf w)) h
-
-  fits : (n : ℕ) → ltb n byteSize ≡ true → n % byteSize ≡ n
-  fits n e = mod-eq-of-lt (ltb-true n byteSize e)
-
   pub value-fits : kindOf w ≡ 0 → firstOf w % byteSize ≡ firstOf w
-  unfolding properBy
-  value-fits e = fits (firstOf w) (and-left (ltb (firstOf w) byteSize) (eqb (secondOf w) 0) (fields 0 e))
+  unfolding OfItem OfTest
+  value-fits e = mod-eq-of-lt (of-item w (one (byte (firstOf w))) h (kind-byte w e))
 
-  masked : (ltb (firstOf w) byteSize && ltb (secondOf w) byteSize) ≡ true → (firstOf w % byteSize ≡ firstOf w) × (secondOf w % byteSize ≡ secondOf w)
-  masked e =
-      (fits (firstOf w) (and-left (ltb (firstOf w) byteSize) (ltb (secondOf w) byteSize) e), fits (secondOf w) (and-right (ltb (firstOf w) byteSize) (ltb (secondOf w) byteSize) e))
+  masked : OfTest (mask (firstOf w) (secondOf w)) → (firstOf w % byteSize ≡ firstOf w) × (secondOf w % byteSize ≡ secondOf w)
+  unfolding OfTest
+  masked b = (mod-eq-of-lt (b .0), mod-eq-of-lt (b .1))
 
   pub mask-fits : kindOf w ≡ 1 → (firstOf w % byteSize ≡ firstOf w) × (secondOf w % byteSize ≡ secondOf w)
-  unfolding properBy
-  mask-fits e = masked (fields 1 e)
+  unfolding OfItem
+  mask-fits e = masked (of-item w (one (mask (firstOf w) (secondOf w))) h (kind-mask w e))
 
   pub negated-mask-fits : kindOf w ≡ 2 → (firstOf w % byteSize ≡ firstOf w) × (secondOf w % byteSize ≡ secondOf w)
-  unfolding properBy
-  negated-mask-fits e = masked (fields 2 e)
+  unfolding OfItem OfTest
+  negated-mask-fits e = masked (of-item w (one (negatedMask (firstOf w) (secondOf w))) h (kind-negated w e))
 
 -- the test that a word says
 abbrev pub IsTest : ℕ → Type 0
