@@ -45,7 +45,7 @@ extern "C" {
 
 /* The version that this header describes, and in one number. The structs and the words of pools change between versions. */
 #define TM_VERSION_MAJOR 0
-#define TM_VERSION_MINOR 3
+#define TM_VERSION_MINOR 4
 #define TM_VERSION_PATCH 0
 #define TM_VERSION (TM_VERSION_MAJOR * 65536u + TM_VERSION_MINOR * 256u + TM_VERSION_PATCH)
 

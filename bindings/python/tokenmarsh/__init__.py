@@ -47,7 +47,7 @@ from typing import Any, Iterable, List, NamedTuple, Optional, Sequence, Tuple, U
 
 from . import _messages
 
-__version__ = "0.3.0"
+__version__ = "0.4.0"
 
 __all__ = ["Buffer", "Refusal", "Refused", "Leftover", "Mask", "Byte", "NotByte", "MaskedByte", "NotMaskedByte", "Jump", "Alternatives", "Token", "Read", "Forward", "Reverse",
            "Pattern", "Literals", "read", "compile", "literals", "forward", "reverse", "mirror", "sound"]
@@ -224,9 +224,9 @@ def _load() -> ctypes.CDLL:
     named = os.environ.get("TOKENMARSH_SO")
     # The repository's own build, or PREFIX/lib as `make install` lays it out, three folders above this one; else where the system looks.
     above = os.path.abspath(os.path.join(os.path.dirname(__file__), "..", "..", ".."))
-    near = [os.path.join(above, "target", "staticlib", "libtokenmarsh.so"), os.path.join(above, "libtokenmarsh.so.0.3")]
+    near = [os.path.join(above, "target", "staticlib", "libtokenmarsh.so"), os.path.join(above, "libtokenmarsh.so.0.4")]
     # A name without a folder is a file here, and not one where the system looks.
-    path = os.path.abspath(named) if named else next(filter(os.path.exists, near), "libtokenmarsh.so.0.3")
+    path = os.path.abspath(named) if named else next(filter(os.path.exists, near), "libtokenmarsh.so.0.4")
     try:
         lib = _declared(ctypes.CDLL(path))
     except (OSError, AttributeError) as error:
