@@ -27,7 +27,7 @@
  *   12  not simple: a jump unbounded or above 65,535; in a branch, a range or nested alternatives
  *   13  more than 512 nodes
  *   14  a branch above 255 nodes
- *   15  unsound program
+ *   15  unsound program; tm_sound says which are sound
  *   16  window start above its end, or end above the haystack's length
  *   17  a candidate with more than 256 literals
  *   18  a lent buffer is too short
@@ -152,8 +152,10 @@ typedef struct {
 tm_mirror_result tm_mirror(const uint64_t *program, size_t program_len, uint64_t *pool, size_t pool_len);
 
 /* 1 if the words are a sound program, else 0. Sound are at most 512 words of the kinds that tm_compile names, each below 2^40 and with 0 where
- * nothing is named; values and masks are bytes; a range has its fewest at most its most; an alternation is filled exactly by one or more
- * branches, which stand nowhere else; a branch holds at most 255 words, only of the kinds 0, 1, 2, 3 and 5, or nothing. */
+ * nothing is named; values and masks are bytes; the value of a mask, or of its negation, has no bit that the mask lacks; a jump is of 1 or more; a
+ * range has its fewest at most its most; an alternation is filled exactly by one or more branches, which stand nowhere else; a branch holds 1 to
+ * 255 words, only of the kinds 0, 1, 2, 3 and 5. So no words at all are sound, and so are a range from 0 to 0, a mask of 0 with value 0, which fits
+ * every byte, and its negation, which fits none. What tm_compile writes is sound, and so is the mirror of a sound program. */
 uint32_t tm_sound(const uint64_t *program, size_t program_len);
 
 #ifdef __cplusplus

@@ -350,7 +350,7 @@ class _Program:
     """Words that are sound, tested once. Its two kinds mean different things by the same words, and so can do different things."""
 
     def __init__(self, words: Iterable[int]) -> None:
-        """Refusals 13, 15."""
+        """Refusals 13, 15: `sound` says which words are."""
         self._words = tuple(map(operator.index, words))
         if len(self._words) > NODE_POOL:
             raise Refused(Refusal.TOO_MANY_NODES)
@@ -450,7 +450,7 @@ def reverse(words: Iterable[int], haystack: Buffer, start: int, end: int) -> Opt
 
 
 def mirror(words: Iterable[int]) -> Tuple[int, ...]:
-    """The words of the mirror. Refusals 13, 15."""
+    """The words of the mirror. Refusals 13, 15: `sound` says which words are."""
     lent, n = _words(words)
     pool = (_u64 * NODE_POOL)()
     r = _answered(_lib.tm_mirror(lent, n, pool, NODE_POOL))
@@ -458,6 +458,13 @@ def mirror(words: Iterable[int]) -> Tuple[int, ...]:
 
 
 def sound(words: Iterable[int]) -> bool:
-    """Whether words are a sound program."""
+    """Whether words are a sound program: include/tokenmarsh.h says at tm_sound which are. So that damage shows, what can't have been meant is not: a value with
+    bits outside its mask, a jump of 0, a branch without nodes. No compiled program has any of these, nor the mirror of a sound one.
+
+        >>> sound([]), sound(compile(b"{ A? }").forward.words)
+        (True, True)
+        >>> sound([1 + (0xA1 << 8) + (0xF0 << 24)]), sound([3]), sound([6 + (1 << 8), 7])
+        (False, False, False)
+    """
     lent, n = _words(words)
     return bool(_lib.tm_sound(lent, n) == 1)

@@ -2,7 +2,8 @@ use crate::refusal::{Refusal, Refused};
 use crate::{NODE_POOL, broken, nothing_after, of_this_version, raw, refused, within};
 
 /// A word of a program: kind + 2^8 * first + 2^24 * second, of a kind below 2^8 and two fields below 2^16. What they mean stands in include/tokenmarsh.h
-/// at `tm_compile`, and which words are sound at `tm_sound`.
+/// at `tm_compile`, and which words are sound at `tm_sound`. So that damage shows, what can't have been meant is not: a value with bits outside its mask, a
+/// jump of 0, a branch without nodes. No compiled program has any of these, nor the mirror of a sound one.
 ///
 /// ```
 /// use tokenmarsh::{Forward, NodeWord, Pattern, Refusal};
@@ -12,6 +13,12 @@ use crate::{NODE_POOL, broken, nothing_after, of_this_version, raw, refused, wit
 /// assert_eq!(Pattern::compile(b"{ A? }").unwrap().forward.words(), [word]);
 /// // What is above the fields is 0 in a sound program.
 /// assert_eq!(Forward::new(&[word + (1 << 40)]), Err(Refusal::Unsound));
+/// // A value has only bits of its mask, also where they are negated.
+/// assert_eq!(Forward::new(&[word + (0x01 << 8)]), Err(Refusal::Unsound));
+/// // A jump is of 1 or more, and a branch has a node or more. A program may have none.
+/// assert_eq!(Forward::new(&[3]), Err(Refusal::Unsound));
+/// assert_eq!(Forward::new(&[6 + (1 << 8), 7]), Err(Refusal::Unsound));
+/// assert!(Forward::new(&[]).is_ok());
 /// ```
 pub type NodeWord = u64;
 
@@ -70,7 +77,7 @@ impl Forward {
     ///
     /// # Errors
     ///
-    /// 13 for more than 512 words, 15 for words that are no sound program.
+    /// 13 for more than 512 words, then 15 for words that are no sound program ([`NodeWord`]).
     pub fn new(words: &[NodeWord]) -> Result<Self, Refusal> {
         Sound::tested(words).map(Self)
     }
@@ -130,7 +137,7 @@ impl Reverse {
     ///
     /// # Errors
     ///
-    /// 13 for more than 512 words, 15 for words that are no sound program.
+    /// 13 for more than 512 words, then 15 for words that are no sound program ([`NodeWord`]).
     pub fn new(words: &[NodeWord]) -> Result<Self, Refusal> {
         Sound::tested(words).map(Self)
     }

@@ -35,7 +35,7 @@ pub enum Refusal {
     TooManyNodes,
     /// 14: a branch above 255 nodes.
     BranchTooLong,
-    /// 15: the words are no sound program.
+    /// 15: the words are no sound program ([`NodeWord`](crate::NodeWord)).
     Unsound,
     /// 16: a window that starts above its end or ends above its haystack's length.
     BadWindow,
