@@ -1,6 +1,7 @@
 /* Calls every door for answers that are known in full, and then with buffers between guards: of every length from none to one past its need, and of
- * lengths around it on random and damaged inputs. Nothing outside a lent buffer may change, and every answer must be one that the header names.
- * Prints the count of calls by answer; exits 1 at the first fault.
+ * lengths around it on random and damaged inputs. Nothing outside a lent buffer may change, every answer must be one that the header names, and of
+ * programs just those are refused that a second reading of the header finds unsound. Prints the count of calls by answer, and of programs that the
+ * second reading looked at by their first fault; exits 1 at the first fault of the library.
  *
  *     fuzz SEED ROUNDS
  */
@@ -72,6 +73,86 @@ static void zero(guarded g, size_t from, size_t to, const char *door)
     for (size_t i = from; i < to; i++)
         if (g.lent[i] != 0)
             fault(door);
+}
+
+/* A node word by its kind and fields, and the longest jump. */
+#define WORD(kind, first, second) ((uint64_t)(kind) + ((uint64_t)(first) << 8) + ((uint64_t)(second) << 24))
+enum { LONGEST = 65535 };
+
+/* What is wrong with a program, as the header has it at tm_sound: nothing, one of the nodes that can't have been meant, or something else. */
+enum { SOUND, VALUE, JUMP, BRANCH, ELSE, VERDICTS };
+
+static uint64_t verdicts[VERDICTS];
+
+/* Of a word that is neither an alternation nor a branch. */
+static int node_verdict(uint64_t word, int in_branch)
+{
+    uint64_t first = word >> 8 & 65535, second = word >> 24;
+
+    switch (word & 255) {
+    case 0: return first > 255 || second != 0 ? ELSE : SOUND;
+    case 1:
+    case 2: return first > 255 || second > 255 ? ELSE : (first & ~second) != 0 ? VALUE : SOUND;
+    case 3: return second != 0 ? ELSE : first == 0 ? JUMP : SOUND;
+    case 4: return in_branch || second > LONGEST || first > second ? ELSE : SOUND;
+    case 5: return first != 0 || second != 0 ? ELSE : SOUND;
+    default: return ELSE;
+    }
+}
+
+/* Of the branches that fill so many words. */
+static int branches_verdict(const uint64_t *branch, size_t words)
+{
+    int verdict = words == 0 ? ELSE : SOUND;
+
+    while (verdict == SOUND && words > 0) {
+        size_t nodes = *branch >> 8 & 65535;
+        if ((*branch & 255) != 7 || *branch >> 24 != 0 || nodes > 255 || nodes >= words)
+            return ELSE;
+        if (nodes == 0)
+            return BRANCH;
+        for (size_t k = 1; verdict == SOUND && k <= nodes; k++)
+            verdict = node_verdict(branch[k], 1);
+        branch += 1 + nodes, words -= 1 + nodes;
+    }
+    return verdict;
+}
+
+static int verdict_of(const uint64_t *program, size_t words)
+{
+    int verdict = words > TM_NODE_POOL ? ELSE : SOUND;
+
+    while (verdict == SOUND && words > 0) {
+        size_t inside = (*program & 255) == 6 ? *program >> 8 & 65535 : 0;
+        if (inside >= words || ((*program & 255) == 6 && *program >> 24 != 0))
+            return ELSE;
+        verdict = (*program & 255) == 6 ? branches_verdict(program + 1, inside) : node_verdict(*program, 0);
+        program += 1 + inside, words -= 1 + inside;
+    }
+    return verdict;
+}
+
+/* By what a program is refused, if the window is none and the pool long enough. tm_sound has to say the same. */
+static uint32_t refused_by(const uint64_t *program, size_t words)
+{
+    int verdict = verdict_of(program, words);
+
+    verdicts[verdict]++;
+    if (tm_sound(program, words) != (verdict == SOUND))
+        fault("tm_sound: another verdict");
+    return words > TM_NODE_POOL ? 13 : verdict == SOUND ? 0 : 15;
+}
+
+/* The same of a program and of its mirror, which has as many words. */
+static uint32_t either_refused_by(const uint64_t *program, size_t words)
+{
+    static uint64_t pool[TM_NODE_POOL];
+    uint32_t due = refused_by(program, words);
+    tm_mirror_result m = tm_mirror(program, words, pool, TM_NODE_POOL);
+
+    if (m.refusal != due || m.words != (due == 0 ? words : 0) || (due == 0 && refused_by(pool, words) != 0))
+        fault("tm_mirror: of a sound program or of none");
+    return due;
 }
 
 static const char *const pieces[] = {"{", "}", "(", ")", "|", "[", "]", "-", "~", "?", " ", "\n", "00", "4F", "a?", "?b", "??", "[2]", "[1-3]", "[4-]", "[0-255]", "(41|42 43)",
@@ -189,7 +270,7 @@ static void compiling(const uint8_t *t, size_t n, size_t forward, size_t reverse
         same(f, 8 * TM_NODE_POOL, "tm_compile: words beyond changed");
         same(b, 8 * TM_NODE_POOL, "tm_compile: words beyond changed");
         if (r.refusal == 0) {
-            if (!tm_sound((uint64_t *)f.lent, r.forward) || !tm_sound((uint64_t *)b.lent, r.reverse))
+            if (either_refused_by((uint64_t *)f.lent, r.forward) != 0 || either_refused_by((uint64_t *)b.lent, r.reverse) != 0)
                 fault("tm_compile: unsound");
             memcpy(program, f.lent, 8 * r.forward);
             *words = r.forward;
@@ -260,8 +341,11 @@ static void checking(const uint64_t *program, size_t words, size_t bytes, size_t
     tm_tail_result tail = tm_tail(program, words, hay.lent, hay.n, start, end);
     answered(f.refusal, "tm_forward", 1u << 13 | 1u << 15 | 1u << 16);
     answered(b.refusal, "tm_reverse", 1u << 13 | 1u << 15 | 1u << 16);
-    if (f.refusal != b.refusal || ((start > end || end > hay.n) != (f.refusal == 16)))
-        fault("checks: 16");
+    uint32_t due = refused_by(program, words);
+    if (start > end || end > hay.n)
+        due = 16;
+    if (f.refusal != due || b.refusal != due)
+        fault("checks: 16, 13, 15");
     if ((f.found && (f.offset < start || f.offset > end)) || (b.found && (b.offset < start || b.offset > end)))
         fault("checks: outside the window");
     if (f.found > 1 || b.found > 1 || (!f.found && f.offset != 0) || (!b.found && b.offset != 0) || (f.refusal != 0 && f.found) || (b.refusal != 0 && b.found))
@@ -278,19 +362,58 @@ static void somewhere(const uint64_t *program, size_t words)
     checking(program, words, bytes, start, below(16) ? start + below((uint32_t)bytes + 2) : below(2) ? SIZE_MAX : 0);
 }
 
+/* A word that is no alternation, no branch and, in a branch, no range; seldom one that can't have been meant. */
+static uint64_t some_node(int in_branch)
+{
+    uint64_t mask = below(256), value = below(12) ? mask & below(256) : below(256);
+
+    switch (below(in_branch ? 6 : 7)) {
+    case 0: return WORD(0, 0x41 + below(3), 0);
+    case 1: return WORD(1, value, mask);
+    case 2: return WORD(2, value, mask);
+    case 3: return WORD(3, below(12) ? 1 + below(4) : 0, 0);
+    case 4: return WORD(5, 0, 0);
+    case 5: return WORD(0, below(256), 0);
+    default: return WORD(4, below(2), 1 + below(2));
+    }
+}
+
+/* A program as one may be laid by hand, mostly a sound one: up to eight items. */
+static size_t some_program(uint64_t *program)
+{
+    size_t words = 0;
+
+    for (uint32_t items = below(9); items > 0; items--) {
+        if (below(4) != 0) {
+            program[words++] = some_node(0);
+            continue;
+        }
+        size_t alternation = words++;
+        for (uint32_t branches = 1 + below(3); branches > 0; branches--) {
+            size_t branch = words++;
+            for (uint32_t nodes = below(12) ? 1 + below(3) : 0; nodes > 0; nodes--)
+                program[words++] = some_node(1);
+            program[branch] = WORD(7, words - branch - 1, 0);
+        }
+        program[alternation] = WORD(6, words - alternation - 1, 0);
+    }
+    return words;
+}
+
 static void mirroring(const uint64_t *program, size_t words, size_t lent)
 {
     guarded pool = lend(8 * lent);
     tm_mirror_result r = tm_mirror(program, words, (uint64_t *)pool.lent, pool.n / 8);
     answered(r.refusal, "tm_mirror", 1u << 13 | 1u << 15 | 1u << 18);
-    if ((pool.n / 8 < TM_NODE_POOL) != (r.refusal == 18))
-        fault("tm_mirror: 18");
+    uint32_t due = refused_by(program, words);
+    if (r.refusal != (pool.n / 8 < TM_NODE_POOL ? 18 : due))
+        fault("tm_mirror: 18, 13, 15");
     if (r.refusal == 18)
         same(pool, 0, "tm_mirror: 18 changed the pool");
     else {
         zero(pool, 8 * r.words, 8 * TM_NODE_POOL, "tm_mirror: words not zeroed");
         same(pool, 8 * TM_NODE_POOL, "tm_mirror: words beyond changed");
-        if (r.refusal == 0 && (r.words != words || !tm_sound((uint64_t *)pool.lent, r.words)))
+        if (r.refusal == 0 && (r.words != words || refused_by((uint64_t *)pool.lent, r.words) != 0))
             fault("tm_mirror: not a mirror");
     }
     if (r.refusal != 0 && r.words != 0)
@@ -433,10 +556,6 @@ static void known(void)
         fault("tm_sound: a known answer");
 }
 
-/* A node word by its kind and fields, and the longest jump. */
-#define WORD(kind, first, second) ((uint64_t)(kind) + ((uint64_t)(first) << 8) + ((uint64_t)(second) << 24))
-enum { LONGEST = 65535 };
-
 /* A text compiles to these words. */
 static void compiles(const char *text, const uint64_t *ahead, const uint64_t *behind, size_t words)
 {
@@ -512,7 +631,7 @@ static void fields(void)
 {
     static const uint64_t wrong[] = {WORD(0, 256, 0), WORD(1, 256, 255), WORD(1, 0, 256), WORD(2, 256, 255), WORD(2, 0, 256), WORD(0, 65, 1), WORD(3, 1, 1),
                                      WORD(4, 2, 1), WORD(5, 1, 0), WORD(5, 0, 1), WORD(8, 0, 0), UINT64_MAX, 4 + 256 * 1 + 65536 * 2, 1 + 256 * 0xA0 + 65536 * 0xF0};
-    static const uint64_t one[] = {WORD(6, 1, 0), WORD(7, 0, 0)}, counts_above[] = {WORD(6, 1, 1), WORD(7, 0, 0)};
+    static const uint64_t counts_above[] = {WORD(6, 2, 1), WORD(7, 1, 0), WORD(0, 65, 0)};
     static uint64_t program[TM_NODE_POOL];
     static uint8_t as[255];
 
@@ -522,9 +641,7 @@ static void fields(void)
     }
     for (size_t k = 0; k < sizeof wrong / sizeof *wrong; k++)
         unsound(wrong + k, 1, "a word that is wrong by itself");
-    if (tm_sound(one, 2) != 1)
-        fault("an empty branch");
-    unsound(counts_above, 2, "an alternation that counts in its second field");
+    unsound(counts_above, 3, "an alternation that counts in its second field");
 
     memset(as, 'A', sizeof as);
     for (size_t k = 2; k < TM_NODE_POOL; k++)
@@ -535,6 +652,115 @@ static void fields(void)
     unsound(program, 258, "a branch of 256");
     program[0] = WORD(6, 511, 0), program[1] = WORD(7, 255, 0), program[257] = WORD(7, 254, 0);
     fits(program, 512, as, 255, 1, "an alternation of 511");
+}
+
+/* A program is sound, or refused by 15 of all doors. */
+static void judged(const uint64_t *program, size_t words, int sound, const char *why)
+{
+    static const uint8_t hay[] = {'A', 'A'};
+
+    if (!sound)
+        unsound(program, words, why);
+    else if (tm_sound(program, words) != 1 || tm_forward(program, words, hay, 2, 0, 2).refusal != 0 || tm_reverse(program, words, hay, 2, 0, 2).refusal != 0)
+        fault(why);
+    if (either_refused_by(program, words) != (sound ? 0 : 15))
+        fault(why);
+}
+
+/* A word by itself, then as the first, the middle and the last of three: of a program, and of each branch of three. A range is sound in no branch. */
+static void placed(uint64_t word, int sound, const char *why)
+{
+    judged(&word, 1, sound, why);
+    for (size_t k = 0; k < 3; k++) {
+        uint64_t program[] = {WORD(0, 'A', 0), WORD(0, 'A', 0), WORD(0, 'A', 0)};
+        program[k] = word;
+        judged(program, 3, sound, why);
+    }
+    for (size_t k = 0; k < 9; k++) {
+        uint64_t program[] = {WORD(0, 'A', 0), WORD(6, 12, 0), WORD(7, 3, 0), 0, 0, 0, WORD(7, 3, 0), 0, 0, 0, WORD(7, 3, 0), 0, 0, 0, WORD(0, 'A', 0)};
+        program[3 + k + k / 3] = word;
+        judged(program, 15, sound && (word & 255) != 4, why);
+    }
+}
+
+/* Nodes that can't have been meant, and what is next to them. */
+static void meant(void)
+{
+    static const uint8_t hay[] = {0, 1, 'A', 255};
+    static uint64_t program[TM_NODE_POOL + 1], pool[TM_NODE_POOL];
+
+    /* Each value with each mask, and its negation. */
+    for (uint32_t pair = 0; pair < 65536; pair++) {
+        uint64_t value = pair & 255, mask = pair >> 8;
+        for (uint64_t kind = 1; kind <= 2; kind++) {
+            const uint64_t word = WORD(kind, value, mask);
+            if (tm_sound(&word, 1) != ((value | mask) == mask))
+                fault("a value and its mask");
+        }
+    }
+    for (uint64_t kind = 1; kind <= 2; kind++) {
+        for (int bit = 0; bit < 8; bit++) {
+            placed(WORD(kind, 1 << bit, 255 - (1 << bit)), 0, "a value with a bit outside its mask");
+            placed(WORD(kind, 255, 255 - (1 << bit)), 0, "a value with a bit more than its mask");
+            placed(WORD(kind, 1 << bit, 0), 0, "a value with no mask");
+            placed(WORD(kind, 1 << bit, 1 << bit), 1, "a value that is its mask");
+            placed(WORD(kind, 0, 1 << bit), 1, "a value of 0 and a mask");
+            placed(WORD(kind, 1 << bit, 255), 1, "a value under its mask");
+        }
+        placed(WORD(kind, 0xA0, 0xF0), 1, "a value under its mask");
+        placed(WORD(kind, 0, 0), 1, "a value of 0 and a mask of 0");
+    }
+    placed(WORD(3, 0, 0), 0, "a jump of 0");
+    placed(WORD(3, 1, 0), 1, "a jump of 1");
+    placed(WORD(3, 256, 0), 1, "a jump whose low 8 bits are 0");
+    placed(WORD(4, 0, 0), 1, "a range of 0 to 0");
+    placed(WORD(4, 0, 1), 1, "a range of 0 to 1");
+    placed(WORD(0, 0, 0), 1, "a byte of 0");
+    judged(NULL, 0, 1, "no words");
+    /* An alternation of three branches with a node or none, as the first, the middle and the last of three items. */
+    for (unsigned full = 0; full < 8; full++)
+        for (size_t before = 0; before < 3; before++) {
+            size_t words = before;
+            for (size_t k = 0; k < 9; k++)
+                program[k] = WORD(0, 'A', 0);
+            words++;
+            for (int k = 0; k < 3; k++)
+                if (full >> k & 1)
+                    program[words] = WORD(7, 1, 0), words += 2;
+                else
+                    program[words++] = WORD(7, 0, 0);
+            program[before] = WORD(6, words - before - 1, 0);
+            judged(program, words + 2 - before, full == 7, "branches with a node or none");
+        }
+    program[0] = WORD(6, 1, 0), program[1] = WORD(7, 0, 0);
+    judged(program, 2, 0, "an empty branch alone");
+
+    /* What stays sound means what it meant: a mask of 0 fits each byte and its negation none, and a range of 0 to 0 no bytes. */
+    for (size_t k = 0; k < sizeof hay; k++) {
+        const uint64_t all = WORD(1, 0, 0), none = WORD(2, 0, 0), gap[] = {WORD(0, hay[k], 0), WORD(4, 0, 0)};
+        fits(&all, 1, hay + k, 1, 1, "a mask of 0");
+        fits(&none, 1, hay + k, 1, 0, "the negation of a mask of 0");
+        fits(gap, 2, hay + k, 1, 1, "a range of 0 to 0");
+    }
+
+    /* The window comes first, then the count of words, then what they are. Of a mirror the room comes first. */
+    static const struct {
+        uint64_t words[2];
+        size_t count;
+    } each[] = {{{WORD(1, 1, 0), 0}, 1}, {{WORD(2, 1, 0), 0}, 1}, {{WORD(3, 0, 0), 0}, 1}, {{WORD(6, 1, 0), WORD(7, 0, 0)}, 2}};
+    for (size_t k = 0; k < sizeof each / sizeof *each; k++) {
+        memset(program, 0, sizeof program);
+        memcpy(program, each[k].words, 8 * each[k].count);
+        for (size_t words = TM_NODE_POOL; words <= TM_NODE_POOL + 1; words++) {
+            uint32_t due = words > TM_NODE_POOL ? 13 : 15;
+            if (tm_forward(program, words, hay, 4, 0, 4).refusal != due || tm_reverse(program, words, hay, 4, 0, 4).refusal != due ||
+                tm_mirror(program, words, pool, TM_NODE_POOL).refusal != due || tm_sound(program, words) != 0)
+                fault("13, then 15");
+            if (tm_forward(program, words, hay, 4, 0, 5).refusal != 16 || tm_reverse(program, words, hay, 4, 3, 2).refusal != 16 ||
+                tm_mirror(program, words, pool, TM_NODE_POOL - 1).refusal != 18)
+                fault("16 and 18 come first");
+        }
+    }
 }
 
 /* Jumps and ranges that 8 bits have no room for, in what is too short for them, just long enough and too long. */
@@ -576,6 +802,7 @@ int main(int argc, char **argv)
     known();
     compiled();
     fields();
+    meant();
     lengths();
     nulls();
     every_length();
@@ -593,11 +820,17 @@ int main(int argc, char **argv)
             spoilt[below((uint32_t)words)] ^= (uint64_t)1 << below(64);
         somewhere(spoilt, below(50) ? words : 600);
         mirroring(spoilt, below(50) ? words : 600, around(TM_NODE_POOL));
+        /* and one that is laid by hand */
+        size_t laid = some_program(spoilt);
+        somewhere(spoilt, laid);
+        mirroring(spoilt, laid, around(TM_NODE_POOL));
     }
     printf("known answers, every length, and %lu rounds; calls by answer:", rounds);
     for (int k = 0; k < 20; k++)
         if (answers[k])
             printf(" %d: %" PRIu64, k, answers[k]);
+    printf("\nprograms: %" PRIu64 " sound; at first a value outside its mask: %" PRIu64 ", a jump of 0: %" PRIu64 ", an empty branch: %" PRIu64 ", another fault: %" PRIu64,
+           verdicts[SOUND], verdicts[VALUE], verdicts[JUMP], verdicts[BRANCH], verdicts[ELSE]);
     printf("\nno fault\n");
     return 0;
 }
