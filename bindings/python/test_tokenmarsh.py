@@ -20,6 +20,18 @@ def word(kind, first=0, second=0):
     return kind + (first << 8) + (second << 24)
 
 
+def placed(node):
+    """Programs with a node as the only one, then as the first, the middle and the last of three: of a program, and of each branch of three."""
+    three = [[0x4100] * k + [node] + [0x4100] * (2 - k) for k in range(3)]
+    outside = [[node], *three]
+    inside = []
+    for at in range(3):
+        for nodes in three:
+            branches = [[word(7, 3), *(nodes if k == at else [0x4200] * 3)] for k in range(3)]
+            inside.append([0x4300, word(6, 12), *branches[0], *branches[1], *branches[2], 0x4400])
+    return outside, inside
+
+
 def some_tokens(dice, most, nested=False):
     """One to so many tokens of bytes that `some_bytes` has, as a text."""
     def one():
@@ -108,6 +120,14 @@ class Doors(unittest.TestCase):
         for door in self.WORD_DOORS:
             self.refused(lambda: door(words), Refusal.UNSOUND)
 
+    def sound(self, words):
+        """No door refuses the words, nor their mirror, whose own mirror they are."""
+        self.assertTrue(tokenmarsh.sound(words), words)
+        for door in self.WORD_DOORS:
+            door(words)
+        self.assertTrue(tokenmarsh.sound(tokenmarsh.mirror(words)), words)
+        self.assertEqual(tokenmarsh.mirror(tokenmarsh.mirror(words)), tuple(words))
+
     def test_unsound_words(self):
         # all above the fields
         for bit in range(40, 64):
@@ -125,7 +145,48 @@ class Doors(unittest.TestCase):
         self.assertTrue(tokenmarsh.sound([word(6, 256), *branch(255)]))
         self.unsound([word(6, 257), *branch(256)])
         self.assertTrue(tokenmarsh.sound([word(6, 511), *branch(255), *branch(254)]))
-        self.unsound([word(6, 1, 1), word(7)])
+        self.unsound([word(6, 2, 1), word(7, 1), 0x4100])
+        self.unsound([word(7, 1), 0x4100])
+
+    def test_nodes_that_cannot_have_been_meant(self):
+        # each bit of a value alone outside its mask, and a jump of 0
+        outside_their_masks = [word(kind, value, mask) for kind in (1, 2) for k in range(8) for value, mask in ((1 << k, 0), (1 << k, 255 - (1 << k)), (255, 255 - (1 << k)))]
+        for node in (*outside_their_masks, word(3)):
+            for words in sum(placed(node), []):
+                self.unsound(words)
+        # a branch without nodes: the only one, and the first, the middle, the last and all of three, before, between and after other items
+        self.unsound([word(6, 1), word(7)])
+        for full in range(8):
+            branches = sum(([word(7, 1), 0x4100] if full >> k & 1 else [word(7)] for k in range(3)), [])
+            for before in range(3):
+                words = [*[0x4200] * before, word(6, len(branches)), *branches, *[0x4300] * (2 - before)]
+                (self.sound if full == 7 else self.unsound)(words)
+
+    def test_what_stands_next_to_these_stays_sound(self):
+        self.sound([])
+        # a value that is its mask, that is under it, that is 0, and nothing at all; the shortest jump; what merely has a 0
+        under_their_masks = [word(kind, 1 << k, mask) for kind in (1, 2) for k in range(8) for mask in (1 << k, 255)]
+        for node in (*under_their_masks, word(1), word(2), word(1, 0, 15), word(2, 0, 15), word(3, 1), word(3, 256), word(0), word(5)):
+            for words in sum(placed(node), []):
+                self.sound(words)
+        # a range of 0 to 0 is one, and stands in no branch
+        outside, inside = placed(word(4))
+        for words in outside:
+            self.sound(words)
+        for words in inside:
+            self.unsound(words)
+        # they mean what they meant
+        for window in (b"\0\0", b"AA", b"\xff\xff"):
+            self.assertEqual([Forward([word(kind)]).end(window) for kind in (1, 2, 4)], [1, None, 0], window)
+
+    def test_compiled_programs_and_their_mirrors_are_sound(self):
+        digits = [spelt % digit for digit in range(16) for spelt in ("?%X", "%X?", "~?%X", "~%X?")]
+        texts = [text for one in (*digits, "00", "~00", "FF", "~FF", "??", "[1]") for text in (one, f"({one})", f"41 {one} ({one} | ?? | {one}) [0-2] {one}")]
+        texts += ["41 [2] 42", "41 [-65535] [65535] [65535] ?? 42", "(41 [200] [200] 42 | 43)", "~?0 " * 512, "(41)" * 170, f"({'~0? ' * 255})"]
+        for text in texts:
+            pattern = tokenmarsh.compile(b"{ %s }" % text.encode())
+            self.sound(pattern.forward.words)
+            self.sound(pattern.reverse.words)
 
     def test_fields_have_their_width(self):
         for gap in (0, 1, 2, 3, 44, 255, 256, 300, 301, LONGEST - 1, LONGEST, LONGEST + 1):
@@ -143,8 +204,8 @@ class Doors(unittest.TestCase):
             self.assertEqual((program.end(window[:length]), program.mirror().start(window[:length])), (None, None), length)
 
     def test_the_longest_match(self):
-        short, long = [word(7), word(7, 1), word(3, 7)], [word(7, 2), word(3, 300), 0x4100]
-        alternation = [word(6, 3 * 86 + 3), *short * 86, *long]
+        short, long = [word(7, 1), word(3, 7)], [word(7, 2), word(3, 300), 0x4100]
+        alternation = [word(6, 2 * 129 + 3), *short * 129, *long]
         for words, due in (([], 0), ([0x4100, word(1, 0xA0, 0xF0), word(2, 0, 255), word(5)], 4), ([word(3, 300)], 300), ([word(4, 256, LONGEST)], LONGEST),
                            ([*alternation, 0x4100], 302), ([word(3, LONGEST)] * 512, 512 * LONGEST)):
             self.assertTrue(tokenmarsh.sound(words))
@@ -171,9 +232,14 @@ class Doors(unittest.TestCase):
             for start, end in ((2, 1), (0, 4), (-1, 3), (0, -1), ((1 << 64) - 1, (1 << 64) - 1), (1 << 64, 3), (-(1 << 64), 3), (0, (1 << 64) + 3)):
                 self.refused(lambda: check([], b"abc", start, end), Refusal.BAD_WINDOW)
             # 16 comes before 13, and that before 15
-            self.refused(lambda: check([7] * 513, b"abc", 2, 1), Refusal.BAD_WINDOW)
-            self.refused(lambda: check([7] * 513, b"abc", 0, 3), Refusal.TOO_MANY_NODES)
-            self.refused(lambda: check([7], b"abc", 0, 3), Refusal.UNSOUND)
+            for words in ([word(7, 1)], [word(1, 1)], [word(2, 1)], [word(3)], [word(6, 1), word(7)]):
+                many = words + [0x4100] * 512
+                self.refused(lambda: check(many, b"abc", 2, 1), Refusal.BAD_WINDOW)
+                self.refused(lambda: check(words, b"abc", 0, 4), Refusal.BAD_WINDOW)
+                self.refused(lambda: check(many, b"abc", 0, 3), Refusal.TOO_MANY_NODES)
+                self.refused(lambda: check(words, b"abc", 0, 3), Refusal.UNSOUND)
+                for kind in (Forward, Reverse, tokenmarsh.mirror):
+                    self.refused(lambda: kind(many), Refusal.TOO_MANY_NODES)
             self.assertRaises(TypeError, check, [], b"abc", 0.0, 3)
             self.assertRaises(TypeError, check, [], b"abc", None, 3)
 

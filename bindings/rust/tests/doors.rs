@@ -201,24 +201,33 @@ fn eight_threads_at_once() {
     thread::scope(|all| (0..8).for_each(|k| drop(all.spawn(move || work(k)))));
 }
 
+/// What refuses these words: as a value of this crate, and where they are only lent. If nothing does, then nothing refuses their mirror, whose own
+/// mirror they are.
+fn refused(words: &[NodeWord]) -> Option<Refusal> {
+    let refusal = Forward::new(words).err();
+    assert_eq!(refusal, Reverse::new(words).err());
+    let (program, count, mut pool) = (words.as_ptr(), words.len(), [0; 512]);
+    // SAFETY: the slices are good for their lengths, and the pool is none of the others.
+    let (numbers, sound) = unsafe {
+        let numbers = [
+            raw::tm_forward(program, count, [].as_ptr(), 0, 0, 0).refusal,
+            raw::tm_reverse(program, count, [].as_ptr(), 0, 0, 0).refusal,
+            raw::tm_mirror(program, count, pool.as_mut_ptr(), pool.len()).refusal,
+        ];
+        (numbers, raw::tm_sound(program, count))
+    };
+    assert_eq!(numbers, [refusal.map_or(0, |refusal| refusal.number().unwrap()); 3], "{words:X?}");
+    assert_eq!(sound, u32::from(refusal.is_none()), "{words:X?}");
+    if let Ok(forward) = Forward::new(words) {
+        let mirror = forward.mirror();
+        assert_eq!(Reverse::new(mirror.words()), Ok(mirror.clone()), "{words:X?}");
+        assert_eq!(mirror.mirror(), forward);
+    }
+    refusal
+}
+
 #[test]
 fn unsound_words_make_no_program() {
-    // Neither as a value of this crate, nor where the words are only lent.
-    let refused = |words: &[NodeWord]| {
-        let refusal = Forward::new(words).err();
-        assert_eq!(refusal, Reverse::new(words).err());
-        let (program, count, mut pool) = (words.as_ptr(), words.len(), [0; 512]);
-        // SAFETY: the slices are good for their lengths, and the pool is none of the others.
-        let numbers = unsafe {
-            [
-                raw::tm_forward(program, count, [].as_ptr(), 0, 0, 0).refusal,
-                raw::tm_reverse(program, count, [].as_ptr(), 0, 0, 0).refusal,
-                raw::tm_mirror(program, count, pool.as_mut_ptr(), pool.len()).refusal,
-            ]
-        };
-        assert_eq!(numbers, [refusal.map_or(0, |refusal| refusal.number().unwrap()); 3]);
-        refusal
-    };
     assert_eq!(refused(&[7]), Some(Refusal::Unsound));
     assert_eq!(refused(&[word(4, 2, 1)]), Some(Refusal::Unsound));
     assert_eq!(refused(&[NodeWord::MAX]), Some(Refusal::Unsound));
@@ -239,13 +248,133 @@ fn unsound_words_make_no_program() {
     assert_eq!(refused(&alternation(&branch(255))), None);
     assert_eq!(refused(&alternation(&branch(256))), Some(Refusal::Unsound));
     assert_eq!(refused(&alternation(&[branch(255), branch(254)].concat())), None);
-    assert_eq!(refused(&[word(6, 1, 1), word(7, 0, 0)]), Some(Refusal::Unsound));
+    assert_eq!(refused(&[word(6, 2, 1), word(7, 1, 0), 0x4100]), Some(Refusal::Unsound));
+    assert_eq!(refused(&[word(7, 1, 0), 0x4100]), Some(Refusal::Unsound));
     assert_eq!(refused(&[7; 513]), Some(Refusal::TooManyNodes));
     assert_eq!(refused(&[0; 512]), None);
     assert_eq!(refused(&[]), None);
-    // An empty branch, and a value with bits outside its mask, are sound.
-    assert_eq!(refused(&[0x0106, 0x0007]), None);
-    assert_eq!(refused(&[0x0000_FF01]), None);
+}
+
+/// Programs with a node as the only one, then as the first, the middle and the last of three: of a program, and of each branch of three.
+fn placed(node: NodeWord) -> (Vec<Vec<NodeWord>>, Vec<Vec<NodeWord>>) {
+    let at = |k: usize| {
+        let mut three = vec![0x4100; 3];
+        three[k] = node;
+        three
+    };
+    let branch = |nodes: Vec<NodeWord>| [vec![word(7, 3, 0)], nodes].concat();
+    let mut inside = Vec::new();
+    for b in 0..3 {
+        for k in 0..3 {
+            let mut branches = vec![branch(vec![0x4200; 3]); 3];
+            branches[b] = branch(at(k));
+            inside.push([vec![0x4300, word(6, 12, 0)], branches.concat(), vec![0x4400]].concat());
+        }
+    }
+    ([vec![vec![node]], (0..3).map(at).collect()].concat(), inside)
+}
+
+#[test]
+fn nodes_that_cannot_have_been_meant_are_unsound() {
+    let bits = || (0..8).map(|bit| 1 << bit);
+    // Each value that has one bit outside its mask, and a jump of 0.
+    let masks = |kind| bits().flat_map(move |bit| [(kind, bit, 0), (kind, bit, 255 - bit), (kind, 255, 255 - bit)]);
+    for (kind, first, second) in masks(1).chain(masks(2)).chain([(3, 0, 0)]) {
+        let (outside, inside) = placed(word(kind, first, second));
+        for program in [outside, inside].concat() {
+            assert_eq!(refused(&program), Some(Refusal::Unsound), "{program:X?}");
+        }
+    }
+    // A branch without nodes: the only one, and the first, the middle, the last and all of three, before, between and after other items.
+    assert_eq!(refused(&[word(6, 1, 0), 7]), Some(Refusal::Unsound));
+    for full in 0..8 {
+        let one = |k: usize| if full >> k & 1 == 1 { vec![word(7, 1, 0), 0x4100] } else { vec![7] };
+        let branches = [one(0), one(1), one(2)].concat();
+        let alternation = [vec![word(6, branches.len(), 0)], branches].concat();
+        for before in 0..3 {
+            let program = [vec![0x4200; before], alternation.clone(), vec![0x4300; 2 - before]].concat();
+            assert_eq!(refused(&program), (full != 7).then_some(Refusal::Unsound), "{program:X?}");
+        }
+    }
+}
+
+#[test]
+fn what_stands_next_to_these_stays_sound() {
+    // A value that is its mask, that is under it, that is 0, and nothing at all; the shortest jump; what merely has a 0.
+    let masks = |kind| (0..8).flat_map(move |bit| [1 << bit, 255].map(|mask| (kind, 1 << bit, mask)));
+    let zeros = [(1, 0, 0), (2, 0, 0), (1, 0, 15), (2, 0, 15), (3, 1, 0), (3, 256, 0), (0, 0, 0), (5, 0, 0)];
+    for (kind, first, second) in masks(1).chain(masks(2)).chain(zeros) {
+        let (outside, inside) = placed(word(kind, first, second));
+        for program in [outside, inside].concat() {
+            assert_eq!(refused(&program), None, "{program:X?}");
+        }
+    }
+    // A range of 0 to 0 is one, and stands in no branch.
+    let (outside, inside) = placed(word(4, 0, 0));
+    assert!(outside.iter().all(|program| refused(program).is_none()));
+    assert!(inside.iter().all(|program| refused(program) == Some(Refusal::Unsound)));
+    // They mean what they meant.
+    for byte in [0, 1, 0x41, 0xFF] {
+        let end = |words: &[NodeWord]| Forward::new(words).unwrap().end(&[byte, byte]);
+        assert_eq!(end(&[word(1, 0, 0)]), Some(1), "{byte}");
+        assert_eq!(end(&[word(2, 0, 0)]), None, "{byte}");
+        assert_eq!(end(&[word(4, 0, 0)]), Some(0), "{byte}");
+    }
+}
+
+#[test]
+fn a_window_comes_before_the_count_and_that_before_the_words() {
+    for unsound in [vec![word(1, 1, 0)], vec![word(2, 1, 0)], vec![3], vec![word(6, 1, 0), 7]] {
+        for (count, due) in [(512, 15), (513, 13)] {
+            let mut words = unsound.clone();
+            words.resize(count, 0x4100);
+            let (program, bytes, mut pool) = (words.as_ptr(), [0x41; 4], [0; 512]);
+            // SAFETY: the slices are good for their lengths, and the pool is none of the others.
+            let mut numbers = |start, end, room| unsafe {
+                (
+                    raw::tm_forward(program, count, bytes.as_ptr(), bytes.len(), start, end).refusal,
+                    raw::tm_reverse(program, count, bytes.as_ptr(), bytes.len(), start, end).refusal,
+                    raw::tm_mirror(program, count, pool.as_mut_ptr(), room).refusal,
+                )
+            };
+            assert_eq!(numbers(1, 3, 512), (due, due, due));
+            assert_eq!(numbers(3, 1, 511), (16, 16, 18));
+            assert_eq!(numbers(1, 5, 0), (16, 16, 18));
+        }
+    }
+}
+
+#[test]
+fn compiled_programs_and_their_mirrors_are_sound() {
+    let digits = (0..16).flat_map(|digit| [format!("?{digit:X}"), format!("{digit:X}?")]);
+    let masks: Vec<String> = digits.flat_map(|mask| [format!("~{mask}"), mask]).collect();
+    let bytes: Vec<String> = (0..256).map(|byte| format!("{byte:02X} ~{byte:02X}")).collect();
+    let mut texts: Vec<String> = masks
+        .iter()
+        .chain(&bytes)
+        .flat_map(|one| [one.clone(), format!("({one})"), format!("41 {one} ({one} | ?? | {one})")])
+        .collect();
+    texts.extend(
+        [
+            "??",
+            "[1]",
+            "[1-1]",
+            "(??)",
+            "?? (?? | ??) ??",
+            "41 [2] 42",
+            "41 [0-1] 42",
+            "41 [-65535] [65535] [65535] ?? 42",
+            "(41 [200] [200] 42 | 43)",
+            "[1] (41 [1] [2] 42) [0-2] (43) [3-3] 44",
+        ]
+        .map(String::from),
+    );
+    // All of a program, and all of a branch.
+    texts.extend(["~?0 ".repeat(512), "(41)".repeat(170), format!("({})", "~0? ".repeat(255))]);
+    for text in texts {
+        let pattern = Pattern::compile(format!("{{ {text} }}").as_bytes()).expect(&text);
+        assert_eq!((refused(pattern.forward.words()), refused(pattern.reverse.words())), (None, None), "{text}");
+    }
 }
 
 #[test]
