@@ -80,15 +80,17 @@ class Package(unittest.TestCase):
         calls = """
 import threading, tokenmarsh
 def calls():
-    deepest = tokenmarsh.Forward([0x0106, 0x0007] * 256)
-    print(deepest.end(b"ab"), deepest.mirror().start(b"ab"), tokenmarsh.literals(b"{ " + b"(41|42)" * 170 + b" }").rank)
+    for words in ([0x0004] * 512, [0x0206, 0x0107, 0x4100] * 170):
+        program = tokenmarsh.Forward(words)
+        print(program.end(b"A" * 172), program.mirror().start(b"A" * 172))
+    print(tokenmarsh.literals(b"{ " + b"(41|42)" * 170 + b" }").rank)
 threading.stack_size(256 * 1024)
 thread = threading.Thread(target=calls)
 thread.start()
 thread.join()
 """
         done = subprocess.run([sys.executable, "-c", calls], cwd=HERE, stdout=subprocess.PIPE, text=True)
-        self.assertEqual((done.returncode, done.stdout), (0, "0 2 80\n"))
+        self.assertEqual((done.returncode, done.stdout), (0, "0 172\n170 2\n80\n"))
 
 
 if __name__ == "__main__":
