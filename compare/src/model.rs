@@ -435,7 +435,8 @@ fn compile(text: &[u8]) -> Option<Answer<Compiled>> {
     Some(tokens(text).and_then(|(list, _)| programs(&list)))
 }
 
-fn proper(w: u64) -> bool {
+/// What document 01 and Req 07 ask of a word by itself.
+fn formed(w: u64) -> bool {
     let (kind, a, b) = fields(w);
     w < 1 << 40
         && match kind {
@@ -450,13 +451,28 @@ fn proper(w: u64) -> bool {
         }
 }
 
-fn sound_branches(mut words: &[u64]) -> bool {
+/// What can't have been meant by a word, and is refused since Req 08.
+pub fn unmeant(w: u64) -> Option<&'static str> {
+    match fields(w) {
+        (1, value, mask) if value & mask != value => Some("value outside the mask"),
+        (2, value, mask) if value & mask != value => Some("negated value outside the mask"),
+        (3, 0, _) => Some("jump of 0"),
+        (7, 0, _) => Some("empty branch"),
+        _ => None,
+    }
+}
+
+fn proper(w: u64) -> bool {
+    formed(w) && unmeant(w).is_none()
+}
+
+fn sound_branches(mut words: &[u64], good: fn(u64) -> bool) -> bool {
     while let Some((w, rest)) = words.split_first() {
         let Some((branch, rest)) = rest.split_at_checked(count(*w)) else {
             return false;
         };
-        let plain = |w: &u64| proper(*w) && matches!(w % 256, 0 | 1 | 2 | 3 | 5);
-        if w % 256 != 7 || !proper(*w) || !branch.iter().all(plain) {
+        let plain = |w: &u64| good(*w) && matches!(w % 256, 0 | 1 | 2 | 3 | 5);
+        if w % 256 != 7 || !good(*w) || !branch.iter().all(plain) {
             return false;
         }
         words = rest;
@@ -464,26 +480,37 @@ fn sound_branches(mut words: &[u64]) -> bool {
     true
 }
 
-pub fn sound(mut words: &[u64]) -> bool {
+/// Whether a program of which each word has to pass a test is sound.
+fn sound_by(mut words: &[u64], good: fn(u64) -> bool) -> bool {
     if words.len() > NODES {
         return false;
     }
     while let Some((w, rest)) = words.split_first() {
         words = rest;
-        if !proper(*w) || w % 256 == 7 {
+        if !good(*w) || w % 256 == 7 {
             return false;
         }
         if w % 256 == 6 {
             let Some((branches, rest)) = words.split_at_checked(count(*w)) else {
                 return false;
             };
-            if branches.is_empty() || !sound_branches(branches) {
+            if branches.is_empty() || !sound_branches(branches, good) {
                 return false;
             }
             words = rest;
         }
     }
     true
+}
+
+pub fn sound(words: &[u64]) -> bool {
+    sound_by(words, proper)
+}
+
+/// Whether a program is unsound by Req 08 alone: the original, which tests nothing, still has an
+/// answer that means something.
+pub fn unsound_since_08(words: &[u64]) -> bool {
+    sound_by(words, formed) && !sound(words)
 }
 
 fn tested(words: &[u64]) -> Answer<()> {
@@ -617,21 +644,30 @@ fn door(words: &[u64], w: Window) -> Answer<()> {
 }
 
 pub fn forward(words: &[u64], w: Window) -> Option<Answer<Found>> {
-    if let Err(refusal) = door(words, w) {
-        return Some(Err(refusal));
+    match door(words, w) {
+        Ok(()) => forward_search(words, w).map(Ok),
+        Err(refusal) => Some(Err(refusal)),
     }
+}
+
+/// The search alone, also of a program that is unsound by Req 08 alone.
+pub fn forward_search(words: &[u64], w: Window) -> Option<Found> {
     let bytes = &w.hay[w.start..w.end];
     let first = rows(words, bytes.len(), true)?.find(|row| fits(row, bytes));
-    Some(Ok(first.map_or(Found::Nothing, |row| Found::At(w.start + size(&row)))))
+    Some(first.map_or(Found::Nothing, |row| Found::At(w.start + size(&row))))
 }
 
 pub fn reverse(words: &[u64], w: Window) -> Option<Answer<Found>> {
-    if let Err(refusal) = door(words, w) {
-        return Some(Err(refusal));
+    match door(words, w) {
+        Ok(()) => reverse_search(words, w).map(Ok),
+        Err(refusal) => Some(Err(refusal)),
     }
+}
+
+pub fn reverse_search(words: &[u64], w: Window) -> Option<Found> {
     let bytes: Vec<u8> = w.hay[w.start..w.end].iter().rev().copied().collect();
     let first = rows(words, bytes.len(), false)?.find(|row| fits(row, &bytes));
-    Some(Ok(first.map_or(Found::Nothing, |row| Found::At(w.end - size(&row)))))
+    Some(first.map_or(Found::Nothing, |row| Found::At(w.end - size(&row))))
 }
 
 /// What the second forward door hands back, by the first one's answer.

@@ -7,6 +7,7 @@ use boreal_parser::hex_string::{Mask, Token};
 
 use crate::model;
 use crate::sides::{Answer, Compiled, Found, Picked, Read, Refusal, Side, Tok, Window, entries};
+use crate::tally::LeftOut;
 
 pub const SIDE: Side = Side {
     name: "original",
@@ -106,9 +107,24 @@ pub fn wide(text: &[u8]) -> bool {
     matches!(parsed(text), Some(Ok((tokens, _))) if !model::narrow(&list(&tokens)))
 }
 
-/// The same of a program, on a window that the original can be asked about.
-pub fn wide_words(words: &[u64], w: Window) -> bool {
-    askable(words, w) && !model::narrow_words(words)
+/// Why the original is not asked about a program on a window that it could be asked about.
+pub fn left_out(words: &[u64], w: Window) -> Option<LeftOut> {
+    if !within(w) {
+        None
+    } else if model::unsound_since_08(words) {
+        Some(LeftOut::Since08)
+    } else if model::sound(words) && !model::narrow_words(words) {
+        Some(LeftOut::Fields)
+    } else {
+        None
+    }
+}
+
+/// Both checks of a program that is 15 since Req 08, where the fields suffice.
+pub fn since_08(words: &[u64], w: Window) -> Option<[Found; 2]> {
+    let program = if model::narrow_words(words) { Program::new(words) } else { None }?;
+    let forward = program.forward(w.hay, w.start, w.end);
+    Some([forward, program.reverse(w.hay, w.start, w.end)].map(found))
 }
 
 /// None also where the original's fields do not suffice, whatever it builds there, and where its
@@ -149,14 +165,15 @@ fn found(at: Option<usize>) -> Found {
     at.map_or(Found::Nothing, Found::At)
 }
 
-/// Not for unsound programs and bad windows: there the original panics or means nothing.
-fn askable(words: &[u64], w: Window) -> bool {
-    model::sound(words) && w.start <= w.end && w.end <= w.hay.len()
+fn within(w: Window) -> bool {
+    w.start <= w.end && w.end <= w.hay.len()
 }
 
-/// None also where the original's fields do not suffice.
+/// None for unsound programs and bad windows, where the original panics or means nothing, for programs
+/// that are unsound since Req 08 alone, which it takes, and where its fields do not suffice.
 fn program(words: &[u64], w: Window) -> Option<Program> {
-    if askable(words, w) && model::narrow_words(words) { Program::new(words) } else { None }
+    let asked = model::sound(words) && within(w) && model::narrow_words(words);
+    if asked { Program::new(words) } else { None }
 }
 
 fn forward(words: &[u64], w: Window) -> Option<Answer<Found>> {

@@ -2,7 +2,7 @@
 
 use crate::generate::{self, PIECES, Rng, SIGNS, Taste, WORDS};
 use crate::sides::{Answer, Compiled, Found, Picked, Read, Side, Tok, Window};
-use crate::tally::{Answers, EXAMPLES, Tally};
+use crate::tally::{Answers, EXAMPLES, LeftOut, Tally};
 use crate::{model, original, ours};
 
 pub struct Judge {
@@ -24,7 +24,7 @@ macro_rules! answers {
             original: one(&$judge.original),
             document: one(&$judge.document),
             ours: one(&$judge.ours),
-            left_out: false,
+            left_out: None,
         }
     }};
 }
@@ -63,6 +63,20 @@ fn known_compile(text: &[u8], a: &Answer<Compiled>, b: &Answer<Compiled>) -> Opt
         }
         _ => half_after_not(text, a, b),
     }
+}
+
+/// Sound or not, and which rule of Req 08 is broken where no other is.
+fn soundness(sound: bool, words: &[u64]) -> String {
+    if sound {
+        return "sound".into();
+    }
+    if !model::unsound_since_08(words) {
+        return "unsound".into();
+    }
+    let mut why: Vec<_> = words.iter().filter_map(|w| model::unmeant(*w)).collect();
+    why.sort_unstable();
+    why.dedup();
+    format!("unsound since Req 08 ({})", if why.len() > 1 { "several" } else { why[0] })
 }
 
 /// The counts of what is done with texts.
@@ -117,15 +131,17 @@ impl Judge {
 
     fn compile(&self, tally: &mut Tally, text: &[u8]) {
         let mut answers: Answers<Compiled> = answers!(self, compile, text);
-        answers.left_out = answers.original.is_none() && original::wide(text);
+        if answers.original.is_none() && original::wide(text) {
+            answers.left_out = Some(LeftOut::Fields);
+        }
         let known = |a: &Answer<Compiled>, b: &Answer<Compiled>| known_compile(text, a, b);
         let label = |_: &Compiled| match answers.original {
-            None if answers.left_out => "compiled, the original left out".into(),
+            None if answers.left_out.is_some() => "compiled, the original left out".into(),
             None => "compiled, declined by the original".into(),
             Some(_) => "compiled".into(),
         };
         tally.count(&answers, label, || shown(text), known);
-        let built = if answers.left_out { original::built(text) } else { None };
+        let built = answers.left_out.and_then(|_| original::built(text));
         if let Some(built) = built {
             tally.count_left_out(built, model::as_original(text), || shown(text));
         }
@@ -148,19 +164,27 @@ impl Judge {
             Found::At(_) => "found".into(),
             Found::Nothing => "nothing".into(),
         };
+        let left_out = original::left_out(words, w);
         let mut forward: Answers<Found> = answers!(self, forward, words, w);
-        forward.left_out = forward.original.is_none() && original::wide_words(words, w);
+        forward.left_out = left_out;
         tally[0].count(&forward, label, show, |_, _| None);
         let mut reverse: Answers<Found> = answers!(self, reverse, words, w);
-        reverse.left_out = forward.left_out;
+        reverse.left_out = left_out;
         tally[1].count(&reverse, label, show, |_, _| None);
+        if left_out == Some(LeftOut::Since08) {
+            if let Some(said) = original::since_08(words, w) {
+                let before = [model::forward_search(words, w), model::reverse_search(words, w)];
+                for ((tally, said), before) in tally.iter_mut().zip(said).zip(before) {
+                    tally.count_since_08(Some(Ok(said)), before.map(Ok), show);
+                }
+            }
+        }
     }
 
     fn mirror(&self, tally: &mut [Tally; 2], words: &[u64]) {
         let show = || format!("{words:x?}");
         let sound: Answers<bool> = answers!(self, sound, words);
-        let label = |s: &bool| if *s { "sound".into() } else { "unsound".into() };
-        tally[0].count(&sound, label, show, |_, _| None);
+        tally[0].count(&sound, |s| soundness(*s, words), show, |_, _| None);
         let mirror: Answers<Vec<u64>> = answers!(self, mirror, words);
         tally[1].count(&mirror, |_| "mirrored".into(), show, |_, _| None);
     }

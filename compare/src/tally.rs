@@ -24,13 +24,21 @@ struct Pair {
     examples: Vec<String>,
 }
 
+/// Why the original is not asked about an input, whatever it would answer.
+#[derive(Clone, Copy, PartialEq, Eq, PartialOrd, Ord)]
+pub enum LeftOut {
+    /// Its fields do not suffice.
+    Fields,
+    /// The program is 15 since Req 08, and was sound before.
+    Since08,
+}
+
 /// The answers of the three sides to one input; None where a side gives none.
 pub struct Answers<T> {
     pub original: Option<Answer<T>>,
     pub document: Option<Answer<T>>,
     pub ours: Option<Answer<T>>,
-    /// Whether the original is not asked because its fields do not suffice.
-    pub left_out: bool,
+    pub left_out: Option<LeftOut>,
 }
 
 #[derive(Default)]
@@ -38,7 +46,7 @@ pub struct Tally {
     inputs: u64,
     /// How many of them the original answers, and about how many it is not asked.
     compared: u64,
-    left_out: u64,
+    left_out: BTreeMap<LeftOut, u64>,
     outcomes: BTreeMap<String, u64>,
     pairs: BTreeMap<&'static str, Pair>,
 }
@@ -55,7 +63,9 @@ impl Tally {
     ) {
         self.inputs += 1;
         self.compared += u64::from(answers.original.is_some());
-        self.left_out += u64::from(answers.left_out);
+        if let Some(why) = answers.left_out {
+            *self.left_out.entry(why).or_default() += 1;
+        }
         let outcome = match answers.document.as_ref().or(answers.original.as_ref()) {
             None => "not judged".into(),
             Some(Ok(value)) => label(value),
@@ -67,8 +77,8 @@ impl Tally {
         self.pair("original and ours", &answers.original, &answers.ours, &show, &known);
     }
 
-    /// Counts what the original does by itself with an input that is left out, and what the rules make
-    /// of it in the original's fields.
+    /// Counts what the original does by itself with an input that is left out for its fields, and what
+    /// the rules make of it in these.
     pub fn count_left_out<T: PartialEq + Debug>(
         &mut self,
         original: T,
@@ -78,6 +88,18 @@ impl Tally {
         let due = Some(due.ok_or(Refusal { number: 12, place: 0 }));
         let name = "original where left out, and the rules in its fields";
         self.pair(name, &Some(Ok(original)), &due, &show, &|_, _| None);
+    }
+
+    /// Counts what the original answers by itself where a program is 15 since Req 08, and what the rules
+    /// without it would say.
+    pub fn count_since_08<T: PartialEq + Debug>(
+        &mut self,
+        original: Option<Answer<T>>,
+        before: Option<Answer<T>>,
+        show: impl Fn() -> String,
+    ) {
+        let name = "original where 15 since Req 08, and the rules without it";
+        self.pair(name, &original, &before, &show, &|_, _| None);
     }
 
     fn pair<T: PartialEq + Debug>(
@@ -115,11 +137,13 @@ impl Tally {
         let outcomes: Vec<_> = self.outcomes.iter().map(|(k, n)| format!("{k}: {n}")).collect();
         let mut lines =
             vec![format!("{title}: {} inputs", self.inputs), format!("  {}", outcomes.join(", "))];
-        let (compared, left_out) = (self.compared, self.left_out);
-        if compared + left_out > 0 {
-            let rest = self.inputs - compared - left_out;
+        let compared = self.compared;
+        let [wide, since_08] = [LeftOut::Fields, LeftOut::Since08]
+            .map(|why| self.left_out.get(&why).copied().unwrap_or_default());
+        if compared + wide + since_08 > 0 {
+            let rest = self.inputs - compared - wide - since_08;
             lines.push(format!(
-                "  original: {compared} compared, {left_out} left out for its fields, {rest} without an answer"
+                "  original: {compared} compared, {wide} left out for its fields, {since_08} as 15 since Req 08, {rest} without an answer"
             ));
         }
         for (name, pair) in &self.pairs {
