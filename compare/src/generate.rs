@@ -485,7 +485,7 @@ fn less(rng: &mut Rng, n: usize) -> u64 {
     rng.below(n) as u64
 }
 
-/// Lengths about what the original's fields hold and what ours do.
+/// Lengths about what the original's fields hold and what ours do; the first is none for a jump.
 const LENGTHS: &[u64] = &[0, 1, 2, 254, 255, 256, 257, 300, 65_534, 65_535];
 
 fn plain_word(rng: &mut Rng, alphabet: &[u8], far: bool) -> u64 {
@@ -495,9 +495,9 @@ fn plain_word(rng: &mut Rng, alphabet: &[u8], far: bool) -> u64 {
         0..=3 => word(0, b, 0),
         4 => word(1, b & mask, mask),
         5 => word(2, b & mask, mask),
-        6 => word(1 + less(rng, 2), b, mask),
-        7 if far => word(3, rng.pick(LENGTHS), 0),
-        7 => word(3, less(rng, 4), 0),
+        6 => word(1 + less(rng, 2), rng.pick(&[0, mask]), mask),
+        7 if far => word(3, rng.pick(&LENGTHS[1..]), 0),
+        7 => word(3, 1 + less(rng, 3), 0),
         _ => 5,
     }
 }
@@ -519,7 +519,7 @@ pub fn program(rng: &mut Rng, alphabet: &[u8], most: usize) -> Vec<u64> {
             1 => {
                 let mut inner = Vec::new();
                 for _ in 0..1 + rng.below(3) {
-                    let n = rng.below(4);
+                    let n = 1 + rng.below(3);
                     inner.push(word(7, n as u64, 0));
                     inner.extend((0..n).map(|_| plain_word(rng, alphabet, far)));
                 }
@@ -556,7 +556,7 @@ pub fn wide(rng: &mut Rng) -> (Vec<u64>, Vec<u8>) {
         let (a, b) = (less(rng, below), less(rng, below));
         words.push(word(4, a.min(b), a.max(b)));
         words.push(0x4200);
-        words.push(word(3, less(rng, below), 0));
+        words.push(word(3, 1 + less(rng, below - 1), 0));
         words.push(word(4, less(rng, 3), 3 + less(rng, 20)));
     }
     words.push(rng.pick(&[0x4200, 0x4100, 5]));
@@ -584,31 +584,101 @@ pub fn far(rng: &mut Rng) -> (Vec<u64>, Vec<u8>) {
     (words, hay)
 }
 
-/// A program with a few words spoilt, mostly unsound.
-pub fn spoilt(rng: &mut Rng, words: &[u64]) -> Vec<u64> {
-    const FIELDS: &[u64] = &[0, 1, 2, 254, 255, 256, 257, 32_768, 65_534, 65_535];
-    let mut out = words.to_vec();
-    out.push(word(0, 0x41, 0));
-    for _ in 0..1 + rng.below(2) {
-        let at = rng.below(out.len());
-        out[at] = match rng.below(9) {
-            0 | 1 => out[at] ^ (1 << rng.below(64)),
-            2 => word(7, less(rng, 3), 0),
-            3 => word(6, less(rng, 4), 0),
-            4 => less(rng, 12),
-            5 => word(4, less(rng, 4), less(rng, 4)),
-            6 if rng.one_in(2) => word(less(rng, 9), rng.pick(FIELDS), 0),
-            6 => word(less(rng, 9), rng.pick(FIELDS), rng.pick(FIELDS)),
-            // As words were before: their second field began at bit 16.
-            7 => less(rng, 8) + (less(rng, 256) << 8) + (less(rng, 256) << 16),
-            _ => rng.next() >> rng.pick(&[0, 24, 32]),
-        };
+/// A word that Req 08 refuses, or one that comes near it and stays sound: a value that is its mask, or
+/// has only bits of it, no bits at all, a range from 0 to 0.
+fn hardly_meant(rng: &mut Rng) -> u64 {
+    let kind = 1 + less(rng, 2);
+    let (value, mask, bit) = (less(rng, 256), less(rng, 256), 1 << rng.below(8));
+    match rng.below(10) {
+        0 | 1 => word(kind, (value & mask) | bit, mask & !bit),
+        2 | 3 => word(kind, value, mask),
+        4 => word(kind, value & mask, mask),
+        5 => word(kind, mask, mask),
+        6 => word(kind, 0, 0),
+        7 | 8 => word(3, 0, 0),
+        _ => word(4, 0, 0),
     }
-    out
 }
 
-/// The words from which all short programs are made. The last three: lengths above 255, which the
-/// original's fields don't hold, and a mask as it was when the second field began at bit 16.
+/// Any word instead of another.
+fn other_word(rng: &mut Rng, old: u64) -> u64 {
+    const FIELDS: &[u64] = &[0, 1, 2, 254, 255, 256, 257, 32_768, 65_534, 65_535];
+    match rng.below(9) {
+        0 | 1 => old ^ (1 << rng.below(64)),
+        2 => word(7, less(rng, 3), 0),
+        3 => word(6, less(rng, 4), 0),
+        4 => less(rng, 12),
+        5 => word(4, less(rng, 4), less(rng, 4)),
+        6 if rng.one_in(2) => word(less(rng, 9), rng.pick(FIELDS), 0),
+        6 => word(less(rng, 9), rng.pick(FIELDS), rng.pick(FIELDS)),
+        // As words were before: their second field began at bit 16.
+        7 => less(rng, 8) + (less(rng, 256) << 8) + (less(rng, 256) << 16),
+        _ => rng.next() >> rng.pick(&[0, 24, 32]),
+    }
+}
+
+/// Puts an empty branch before an alternation's first branch, between two or behind its last, or takes
+/// the nodes out of one. A program without an alternation gets one.
+fn empty_branch(rng: &mut Rng, words: &mut Vec<u64>) {
+    let of = |words: &[u64], kind: u64| -> Vec<usize> {
+        (0..words.len()).filter(|at| words[*at] % 256 == kind).collect()
+    };
+    let alternations = of(words, 6);
+    if alternations.is_empty() {
+        let at = rng.below(words.len() + 1);
+        words.splice(at..at, [word(6, 1, 0), word(7, 0, 0)]);
+        return;
+    }
+    let at = rng.pick(&alternations);
+    let end = words.len().min(at + 1 + (words[at] >> 8) as u16 as usize);
+    let mut marks: Vec<_> = of(&words[..end], 7).into_iter().filter(|mark| *mark > at).collect();
+    if rng.one_in(3) && !marks.is_empty() {
+        let mark = rng.pick(&marks);
+        let next = marks.iter().copied().find(|other| *other > mark).unwrap_or(end);
+        words[at] = words[at].wrapping_sub(word(0, (next - mark - 1) as u64, 0));
+        words.splice(mark..next, [word(7, 0, 0)]);
+    } else {
+        marks.push(end);
+        words[at] = words[at].wrapping_add(word(0, 1, 0));
+        words.insert(rng.pick(&marks), word(7, 0, 0));
+    }
+}
+
+/// A program with a few words damaged, mostly unsound, half of these by Req 08; and how many words
+/// were damaged.
+pub fn spoilt(rng: &mut Rng, words: &[u64]) -> (Vec<u64>, usize) {
+    let mut out = words.to_vec();
+    out.push(word(0, 0x41, 0));
+    let mut damaged = 0;
+    for _ in 0..1 + rng.below(2) {
+        match rng.below(8) {
+            0..=3 => {
+                let plain: Vec<_> =
+                    (0..out.len()).filter(|at| !matches!(out[*at] % 256, 6 | 7)).collect();
+                let at = if plain.is_empty() { 0 } else { rng.pick(&plain) };
+                let new = hardly_meant(rng);
+                damaged += usize::from(out[at] != new);
+                out[at] = new;
+            }
+            4 => {
+                empty_branch(rng, &mut out);
+                damaged += 1;
+            }
+            _ => {
+                let at = rng.below(out.len());
+                let new = other_word(rng, out[at]);
+                damaged += usize::from(out[at] != new);
+                out[at] = new;
+            }
+        }
+    }
+    (out, damaged)
+}
+
+/// The words from which all short programs are made. Those before the last three are refused since
+/// Req 08, by themselves or, the branch of no nodes, where a branch may stand; the last three have
+/// lengths above 255, which the original's fields don't hold, and a mask as it was when the second
+/// field began at bit 16.
 pub const WORDS: &[u64] = &[
     0x0000_4100,
     0x0000_4200,
@@ -619,14 +689,17 @@ pub const WORDS: &[u64] = &[
     0x0100_0004,
     0x0200_0004,
     0x0200_0104,
-    0x0100_0104,
+    0x0000_0004,
     0x0000_0005,
     0x0000_0206,
     0x0000_0306,
     0x0000_0406,
-    0x0000_0007,
     0x0000_0107,
     0x0000_0207,
+    0x0000_0101,
+    0x0000_0102,
+    0x0000_0003,
+    0x0000_0007,
     0x0001_0003,
     0x0001_2C00_0104,
     0x0001_0101,

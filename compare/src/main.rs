@@ -76,6 +76,7 @@ fn compared(judge: &runs::Judge, args: &[String]) -> Option<bool> {
         "spans" => judge.spans(seed(), count(100_000)),
         "programs" => judge.programs(length(4)),
         "checks" => judge.random_checks(seed(), count(300_000)),
+        "words" => judge.damaged_words(seed(), count(300_000)),
         "listings" => listings::listings(&args[1], number(args, 2, 1), number(args, 3, 2000)),
         "all" => all(judge, seed(), count(1_000_000)),
         _ => return None,
@@ -86,7 +87,7 @@ fn compared(judge: &runs::Judge, args: &[String]) -> Option<bool> {
 /// on as many threads as there are processors. What takes longest is begun first.
 #[cfg(original)]
 fn all(judge: &runs::Judge, seed: u64, count: usize) -> bool {
-    let all: [(&str, &(dyn Fn() -> bool + Sync)); 11] = [
+    let all: [(&str, &(dyn Fn() -> bool + Sync)); 12] = [
         ("samples", &samples::samples),
         ("rooms", &ours::rooms),
         ("literals", &|| judge.random_literals(seed, count)),
@@ -96,6 +97,7 @@ fn all(judge: &runs::Judge, seed: u64, count: usize) -> bool {
         ("damaged", &|| judge.damaged(seed, count)),
         ("texts", &|| judge.texts(6)),
         ("checks", &|| judge.random_checks(seed, count)),
+        ("words", &|| judge.damaged_words(seed, count)),
         ("programs", &|| judge.programs(5)),
         ("spans", &|| judge.spans(seed, count)),
     ];

@@ -377,7 +377,7 @@ impl Judge {
             let most = rng.pick(&[3, 6, 10]);
             let mut words = generate::program(&mut rng, alphabet, most);
             if rng.one_in(8) {
-                words = generate::spoilt(&mut rng, &words);
+                words = generate::spoilt(&mut rng, &words).0;
             }
             if rng.one_in(200) {
                 let filling = rng.pick(&[generate::word(0, 0x41, 0), generate::word(3, 65_535, 0)]);
@@ -400,6 +400,43 @@ impl Judge {
             }
         }
         let title = |what: &str| format!("{what} random programs, seed {seed}");
+        [
+            checks[0].report(&title("forward checks of")),
+            checks[1].report(&title("reverse checks of")),
+            mirror[0].report(&title("soundness of")),
+            mirror[1].report(&title("mirrors of")),
+        ]
+        .iter()
+        .all(|good| *good)
+    }
+
+    /// Random programs of which at least one word is damaged, some so long that they are 13, each on
+    /// one window, some of these wrong.
+    pub fn damaged_words(&self, seed: u64, count: usize) -> bool {
+        let mut rng = Rng::new(seed);
+        let (mut checks, mut mirror) = <([Tally; 2], [Tally; 2])>::default();
+        let mut all = 0;
+        for _ in 0..count {
+            let most = rng.pick(&[1, 3, 6, 10]);
+            let sound = generate::program(&mut rng, b"AB\n\x00\xff", most);
+            let (mut words, damaged) = loop {
+                let (words, damaged) = generate::spoilt(&mut rng, &sound);
+                if damaged > 0 {
+                    break (words, damaged);
+                }
+            };
+            all += damaged;
+            if rng.one_in(100) {
+                words.resize(rng.pick(&[511, 512, 513]), generate::word(0, 0x41, 0));
+            }
+            self.mirror(&mut mirror, &words);
+            let hay = generate::bytes(&mut rng, b"AB\n\x00\xff", 14);
+            let (start, end) = generate::window(&mut rng, hay.len());
+            self.checks(&mut checks, &words, Window { hay: &hay, start, end });
+        }
+        let title = |what: &str| {
+            format!("{what} {count} damaged programs with {all} damaged words, seed {seed}")
+        };
         [
             checks[0].report(&title("forward checks of")),
             checks[1].report(&title("reverse checks of")),
