@@ -644,34 +644,31 @@ fn empty_branch(rng: &mut Rng, words: &mut Vec<u64>) {
     }
 }
 
-/// A program with a few words damaged, mostly unsound, half of these by Req 08; and how many words
-/// were damaged.
+/// A program with one or two words damaged, mostly unsound, half of these by Req 08; and how many words
+/// are damaged at least, 0 if the program came out as it went in.
 pub fn spoilt(rng: &mut Rng, words: &[u64]) -> (Vec<u64>, usize) {
-    let mut out = words.to_vec();
-    out.push(word(0, 0x41, 0));
-    let mut damaged = 0;
+    let whole = [words, &[word(0, 0x41, 0)]].concat();
+    let mut out = whole.clone();
     for _ in 0..1 + rng.below(2) {
         match rng.below(8) {
             0..=3 => {
                 let plain: Vec<_> =
                     (0..out.len()).filter(|at| !matches!(out[*at] % 256, 6 | 7)).collect();
                 let at = if plain.is_empty() { 0 } else { rng.pick(&plain) };
-                let new = hardly_meant(rng);
-                damaged += usize::from(out[at] != new);
-                out[at] = new;
+                out[at] = hardly_meant(rng);
             }
-            4 => {
-                empty_branch(rng, &mut out);
-                damaged += 1;
-            }
+            4 => empty_branch(rng, &mut out),
             _ => {
                 let at = rng.below(out.len());
-                let new = other_word(rng, out[at]);
-                damaged += usize::from(out[at] != new);
-                out[at] = new;
+                out[at] = other_word(rng, out[at]);
             }
         }
     }
+    let damaged = match out.len() == whole.len() {
+        true => out.iter().zip(&whole).filter(|(new, old)| new != old).count(),
+        // By an empty branch the words after it stand elsewhere.
+        false => 1,
+    };
     (out, damaged)
 }
 

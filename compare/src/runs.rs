@@ -435,7 +435,7 @@ impl Judge {
             self.checks(&mut checks, &words, Window { hay: &hay, start, end });
         }
         let title = |what: &str| {
-            format!("{what} {count} damaged programs with {all} damaged words, seed {seed}")
+            format!("{what} damaged programs, seed {seed}, at least {all} damaged words")
         };
         [
             checks[0].report(&title("forward checks of")),
