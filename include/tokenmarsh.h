@@ -43,14 +43,14 @@
 extern "C" {
 #endif
 
-/* The version that this header describes, and in one number. The structs and the words of pools change between versions. */
+/* The version that this header describes, and in one number. The structs, the words of pools and what is refused change between versions. */
 #define TM_VERSION_MAJOR 0
 #define TM_VERSION_MINOR 4
 #define TM_VERSION_PATCH 0
 #define TM_VERSION (TM_VERSION_MAJOR * 65536u + TM_VERSION_MINOR * 256u + TM_VERSION_PATCH)
 
 /* The version of the library. A program that was compiled with one header and is linked or loaded with a library for which
- * tm_version() != TM_VERSION must not go on: it would misread the structs that the other functions answer, or lend them pools of other words. */
+ * tm_version() != TM_VERSION must not go on: it might misread the structs that the other functions answer, lend them pools of other words, or get other refusals. */
 uint32_t tm_version(void);
 
 /* The longest text, and the words that each kind of pool must have: of 32 bits for tokens, of 64 for nodes. */
@@ -154,7 +154,7 @@ tm_mirror_result tm_mirror(const uint64_t *program, size_t program_len, uint64_t
 /* 1 if the words are a sound program, else 0. Sound are at most 512 words of the kinds that tm_compile names, each below 2^40 and with 0 where
  * nothing is named; values and masks are bytes; the value of a mask, or of its negation, has no bit that the mask lacks; a jump is of 1 or more; a
  * range has its fewest at most its most; an alternation is filled exactly by one or more branches, which stand nowhere else; a branch holds 1 to
- * 255 words, only of the kinds 0, 1, 2, 3 and 5. So no words at all are sound, and so are a range from 0 to 0, a mask of 0 with value 0, which fits
+ * 255 words, only of the kinds 0, 1, 2, 3 and 5. So a program of no words is sound, and so are a range from 0 to 0, a mask of 0 with value 0, which fits
  * every byte, and its negation, which fits none. What tm_compile writes is sound, and so is the mirror of a sound program. */
 uint32_t tm_sound(const uint64_t *program, size_t program_len);
 

@@ -8,7 +8,7 @@ pub fn side() -> Side {
     // An archive from before would take each word of a program for two of its own.
     // The call takes nothing.
     #[cfg(tm_version)]
-    assert!(unsafe { crate::raw::tm_version() } >= 768, "node words have 64 bits since 0.3.0");
+    assert!(unsafe { crate::raw::tm_version() } >= 1024, "0.4.0 refuses what Req 08 names");
     Side {
         name: "ours",
         #[cfg(tm_read)]

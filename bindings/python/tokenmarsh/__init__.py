@@ -350,7 +350,7 @@ class _Program:
     """Words that are sound, tested once. Its two kinds mean different things by the same words, and so can do different things."""
 
     def __init__(self, words: Iterable[int]) -> None:
-        """Refusals 13, 15: `sound` says which words are."""
+        """Refusals 13, and 15 where `sound` is False."""
         self._words = tuple(map(operator.index, words))
         if len(self._words) > NODE_POOL:
             raise Refused(Refusal.TOO_MANY_NODES)
@@ -458,7 +458,7 @@ def mirror(words: Iterable[int]) -> Tuple[int, ...]:
 
 
 def sound(words: Iterable[int]) -> bool:
-    """Whether words are a sound program: include/tokenmarsh.h says at tm_sound which are. So that damage shows, what can't have been meant is not: a value with
+    """Whether words are a sound program: include/tokenmarsh.h says at tm_sound which are. So that some damage shows, what can't have been meant is not sound: a value with
     bits outside its mask, a jump of 0, a branch without nodes. No compiled program has any of these, nor the mirror of a sound one.
 
         >>> sound([]), sound(compile(b"{ A? }").forward.words)

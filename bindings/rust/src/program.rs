@@ -2,7 +2,7 @@ use crate::refusal::{Refusal, Refused};
 use crate::{NODE_POOL, broken, nothing_after, of_this_version, raw, refused, within};
 
 /// A word of a program: kind + 2^8 * first + 2^24 * second, of a kind below 2^8 and two fields below 2^16. What they mean stands in include/tokenmarsh.h
-/// at `tm_compile`, and which words are sound at `tm_sound`. So that damage shows, what can't have been meant is not: a value with bits outside its mask, a
+/// at `tm_compile`, and which words are sound at `tm_sound`. So that some damage shows, what can't have been meant is not sound: a value with bits outside its mask, a
 /// jump of 0, a branch without nodes. No compiled program has any of these, nor the mirror of a sound one.
 ///
 /// ```

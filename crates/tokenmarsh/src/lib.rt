@@ -17,7 +17,7 @@ ghost use Rattle.literaldoor.specs.Door.{literalsSays, bytesLeft, lengthsLeft};
 ghost use Rattle.readdoor.specs.Door.{readSays, readLeaves};
 ghost use Rattle.tokenmarsh.specs.Results.{readTold, compileTold, literalsTold, mirrorTold, checkTold, tailTold};
 
-// major * 65536 + minor * 256 + patch, of 0.4.0: a caller compares it with its header's TM_VERSION, since the structs may differ between versions.
+// major * 65536 + minor * 256 + patch, of 0.4.0: a caller compares it with its header's TM_VERSION, since structs, words and refusals may differ between versions.
 #[no_mangle]
 pub extern "C" fn tm_version() -> u32
     ensures { λ r. ⌜ r ≡ 0 * 65536 + 4 * 256 + 0 ⌝ }
