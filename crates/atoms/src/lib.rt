@@ -1,5 +1,7 @@
 // Translated from boreal's boreal/src/atoms.rs (MIT OR Apache-2.0), commit 7010b5e967; see NOTICE.
 // The score is the port's own; the walk over the atoms of a literal is the original's.
+#![tactic(auto)]
+
 ghost use Rattle.std.specs.Prelude.{◌≡◌, max, take};
 ghost use Rattle.atoms.specs.Score.{atom_len, byte_score, atom_score, literal_score};
 

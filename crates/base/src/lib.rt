@@ -1,4 +1,6 @@
 // What every door shares: the limits, the numbered refusals; and the zeroing of a pool of tokens (programs' pools are zeroed by crate nodes).
+#![tactic(auto)]
+
 ghost use Rattle.std.specs.Prelude.{◌≡◌, ◌-◌, ◌≤◌, length};
 ghost use Rattle.base.specs.Refusals.{number_of};
 ghost use Rattle.base.specs.Pools.{zeroed};

@@ -1,4 +1,6 @@
 // Translated from boreal's boreal/src/bitmaps.rs (MIT OR Apache-2.0), commit 7010b5e967; see NOTICE.
+#![tactic(auto)]
+
 ghost use Rattle.std.specs.Prelude.{◌≡◌, false, not, ◌||◌, ◌/◌, ◌%◌, ◌≤◌, eqb};
 ghost use Rattle.bitmap.specs.Bitmap.{bit, tally, has, Holds, size};
 

@@ -1,5 +1,7 @@
 // Translated from boreal's boreal/src/matcher/validator/simple.rs (MIT OR Apache-2.0), commit 7010b5e967; see NOTICE.
 // The doors of the two checks: any words, any haystack and any window numbers are answered.
+#![tactic(auto)]
+
 ghost use Rattle.std.specs.Prelude.{◌≡◌};
 ghost use Rattle.checkdoors.specs.Doors.{refusal, why_not, forward_says, reverse_says, Answered, HandsBack};
 

@@ -1,5 +1,7 @@
 // Translated from boreal's boreal/src/matcher/literals.rs (MIT OR Apache-2.0), commit 7010b5e967; see NOTICE.
 // Which run of a pattern wins, over token entries.
+#![tactic(auto)]
+
 ghost use Rattle.std.specs.Prelude.{◌≡◌, List, [], ◌∷◌, ℕ, ◌+◌, ◌-◌, ◌≤◌, min, length, take, drop};
 ghost use Rattle.def_meaning.specs.Limits.{token_pool};
 ghost use Rattle.def_picking.specs.Literals.{literals};

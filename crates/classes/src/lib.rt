@@ -1,5 +1,7 @@
 // Translated from boreal's boreal/src/matcher/literals.rs (MIT OR Apache-2.0), commit 7010b5e967; see NOTICE.
 // The bytes that one token entry takes: which, how many, and number j of them.
+#![tactic(auto)]
+
 ghost use Rattle.std.specs.Prelude.{◌≡◌, ◌≤◌, ◌<◌, ◌%◌, length, get_or};
 ghost use Rattle.def_meaning.specs.Tokens.{MaskedByte, NotMaskedByte};
 ghost use Rattle.bitmap.specs.Bitmap.{Holds};

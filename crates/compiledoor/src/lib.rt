@@ -1,4 +1,6 @@
 // The door by which any bytes are compiled as a pattern: its programs, forwards and in reverse.
+#![tactic(auto)]
+
 ghost use Rattle.std.specs.Prelude.{◌≡◌, ◌≤◌, length};
 ghost use Rattle.def_meaning.specs.Limits.{node_pool};
 ghost use Rattle.def_reading.specs.Lists.{reading};

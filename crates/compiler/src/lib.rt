@@ -1,4 +1,6 @@
 // From token entries to the words of both programs, or to refusal 12, 14 or 13.
+#![tactic(auto)]
+
 ghost use Rattle.std.specs.Prelude.{◌≡◌, not, ◌&&◌, ◌||◌, ◌++◌, leb, ◌+◌, ◌*◌, ◌≤◌, length, take, drop};
 ghost use Rattle.def_meaning.specs.Limits.{node_limit, node_pool};
 ghost use Rattle.def_meaning.specs.Tokens.{Tokens, Jump};

@@ -1,5 +1,7 @@
 // The listing program: what it reads, what it writes, and what it says where it can do neither. Descriptors are arguments, so that a program of
 // the gate can try those that fail. A program has no exit status to tell a loss by, so it tells it by a line on standard error.
+#![tactic(auto)]
+
 ghost use Rattle.std.specs.Prelude.{◌≡◌, ◌≤◌, length, take};
 ghost use Rattle.lister.specs.Listings.{listing_of, listing_limit};
 ghost use Rattle.console.specs.Inputs.{Within};

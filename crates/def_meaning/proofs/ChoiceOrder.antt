@@ -63,7 +63,7 @@ mem_via k (c ∷ cs) {x} m = go (mem_via k cs) (Memᴰ.cases_cons m)
     go ih (inl e) = (c, e, Memᴰ.head refl)
     go ih (inr n) = let q = ih n in (q.0, q.1, Memᴰ.tail q.2)
 
-times_mem : {ks : List Way} {cs : List Choice} {k : Way} {c : Choice} → Memᴰ k ks → Memᴰ c cs → Memᴰ (via k c) (ks ⊠ cs)
+times_mem : {k : Way} {ks : List Way} {cs : List Choice} {c : Choice} → Memᴰ k ks → Memᴰ c cs → Memᴰ (via k c) (ks ⊠ cs)
 unfolding ◌⊠◌
 times_mem {c = c} (Memᴰ.head {x = x} e) m = Memᴰ.append_left _ (Memᴰ.cast (ap (λ (j : Way). via j c) e) (via_mem x m))
 times_mem {cs = cs} (Memᴰ.tail {x = x} n) m = Memᴰ.append_right (via_each x cs) (times_mem n m)
@@ -219,14 +219,34 @@ module _ (o : Order) where
     sooner_irrefl (at_this h) e = way_irrefl h (cc)
     sooner_irrefl (further h) e = sooner_irrefl h (cc)
 
+  -- at four ends, of which two and two are equal
   mutual
-    way_asym : {j k : Way} → SoonerWay o j k → SoonerWay o k j → ⊥
-    way_asym (of_lengths {m = m} {n = n} h) (of_lengths g) = earlier_asym o m n h g
-    way_asym (in_first h) (in_first g) = sooner_asym h g
-    way_asym (in_later h) (in_later g) = way_asym h g
+    way_against : {j k j' k' : Way} → SoonerWay o j k → SoonerWay o j' k' → j' ≡ k → k' ≡ j → ⊥
+    way_against (of_lengths {m = m} {n = n} h) (of_lengths {m = m'} {n = n'} g) e f =
+        let a : m' ≡ n = cc in
+        let b : n' ≡ m = cc in
+        earlier_asym o m n h (subst (λ (x : ℕ). Earlier o x m) a (subst (λ (y : ℕ). Earlier o m' y) b g))
+    way_against (in_first h) (in_first g) e f = sooner_against h g (cc) (cc)
+    way_against (in_later h) (in_later g) e f = way_against h g (cc) (cc)
+    way_against (of_lengths h) of_branches e f = cc
+    way_against (of_lengths h) (in_first g) e f = cc
+    way_against (of_lengths h) (in_later g) e f = cc
+    way_against of_branches (of_lengths g) e f = cc
+    way_against of_branches of_branches e f = cc
+    way_against of_branches (in_first g) e f = cc
+    way_against of_branches (in_later g) e f = cc
+    way_against (in_first h) (of_lengths g) e f = cc
+    way_against (in_first h) of_branches e f = cc
+    way_against (in_first h) (in_later g) e f = cc
+    way_against (in_later h) (of_lengths g) e f = cc
+    way_against (in_later h) of_branches e f = cc
+    way_against (in_later h) (in_first g) e f = cc
 
-    pub sooner_asym : {c d : Choice} → Sooner o c d → Sooner o d c → ⊥
-    sooner_asym (at_this h) (at_this g) = way_asym h g
-    sooner_asym (at_this h) (further g) = way_irrefl h refl
-    sooner_asym (further h) (at_this g) = way_irrefl g refl
-    sooner_asym (further h) (further g) = sooner_asym h g
+    sooner_against : {c d c' d' : Choice} → Sooner o c d → Sooner o c' d' → c' ≡ d → d' ≡ c → ⊥
+    sooner_against (at_this h) (at_this g) e f = way_against h g (cc) (cc)
+    sooner_against (at_this h) (further g) e f = way_irrefl h (cc)
+    sooner_against (further h) (at_this g) e f = way_irrefl g (cc)
+    sooner_against (further h) (further g) e f = sooner_against h g (cc) (cc)
+
+  pub sooner_asym : {c d : Choice} → Sooner o c d → Sooner o d c → ⊥
+  sooner_asym h g = sooner_against h g refl refl

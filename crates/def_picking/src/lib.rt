@@ -1,1 +1,3 @@
 // Which search literals win. It holds no function: its definitions stand in specs/ and its laws in proofs/.
+
+#![tactic(auto)]

@@ -1,5 +1,7 @@
 // Translated from boreal's boreal-parser/src/hex_string.rs (MIT OR Apache-2.0), commit 7010b5e967; see NOTICE.
 // The small readers. Each one answers where it stopped, and where the blanks after that end.
+#![tactic(auto)]
+
 ghost use Rattle.std.specs.Prelude.{◌≡◌, ◌&&◌, ◌+◌, ◌<◌, get_or, eqb, ltb};
 ghost use Rattle.def_meaning.specs.Limits.{inner_jump_limit};
 ghost use Rattle.def_reading.specs.Blanks.{blank, skip};

@@ -1,5 +1,7 @@
 // Translated from boreal's boreal/src/matcher/validator/simple.rs (MIT OR Apache-2.0), commit 7010b5e967; see NOTICE.
 // The words of one program, made from token entries, forwards or from every list read backwards.
+#![tactic(auto)]
+
 ghost use Rattle.std.specs.Prelude.{◌≡◌, true, not, ◌||◌, leb, ◌++◌, ◌+◌, ◌*◌, ◌-◌, ◌≤◌, ◌<◌, length, get_or, drop, set};
 ghost use Rattle.def_meaning.specs.Limits.{branch_limit, token_pool};
 ghost use Rattle.def_meaning.specs.Programs.{alt};

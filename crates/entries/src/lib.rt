@@ -1,5 +1,7 @@
 // Translated from boreal's boreal/src/matcher/literals.rs (MIT OR Apache-2.0), commit 7010b5e967; see NOTICE.
 // Token entries, walked from the front: where each ends, and whether all are plain.
+#![tactic(auto)]
+
 ghost use Rattle.std.specs.Prelude.{◌≡◌, ◌≤◌, length};
 ghost use Rattle.def_picking.specs.Literals.{plain_list, plain_lists};
 ghost use Rattle.def_picking.specs.Runs.{plain_alternatives};

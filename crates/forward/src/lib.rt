@@ -2,6 +2,8 @@
 // The forward check: the first choice, short jumps before long, that fits at the window's start.
 // Nodes of fixed length are a loop; only jump lengths and tails after a branch recurse. Parts are made
 // anew (`&m[0..]`) where they are handed on: a slice that is passed as it came is copied through memory.
+#![tactic(auto)]
+
 ghost use Rattle.std.specs.Prelude.{◌≡◌, true, ◌⊎◌, ◌∷◌};
 ghost use Rattle.def_meaning.specs.Programs.{range, alt, ◌▹◌};
 ghost use Rattle.def_meaning.specs.Rows.{forward};

@@ -1,5 +1,7 @@
 // Answers the lines of the file `programs`, each a haystack, the two bounds of a window and node words, by the doors that take programs. The words are any
 // words: what a text cannot compile to is tried here. What the program must write, the file `stdout`, was made outside: README.md beside it says how.
+#![tactic(auto)]
+
 ghost use Rattle.std.specs.Prelude.{◌≤◌, length};
 
 use digits::Numeral;

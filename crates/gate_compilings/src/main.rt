@@ -1,4 +1,6 @@
 // Compiles texts from standard input, one on each line, and writes what the compiling door answers and leaves.
+#![tactic(auto)]
+
 ghost use Rattle.std.specs.Prelude.{◌≤◌, length};
 
 use compiledoor::CompileAnswer;

@@ -1,5 +1,7 @@
 // What the listing program says where it can't read or write: its functions on a folder, a full device and closed descriptors, and the whole of it
 // on an argument that it does not take. Standard error is a file here, which is shown at the end.
+#![tactic(auto)]
+
 use libc::{STDERR_FILENO, STDOUT_FILENO};
 
 // Nothing of these may reach standard output.

@@ -1,4 +1,6 @@
 // Reads texts from standard input, each on a line after its length, and writes what the reading door answers and leaves.
+#![tactic(auto)]
+
 use digits::Numeral;
 use gatekit::Style;
 use libc::{STDIN_FILENO, STDOUT_FILENO};

@@ -1,4 +1,6 @@
 // Lists every line of the file `texts` as a pattern: the line's first bytes, its listing, and an empty line.
+#![tactic(auto)]
+
 ghost use Rattle.std.specs.Prelude.{◌≤◌, length};
 
 use libc::STDOUT_FILENO;

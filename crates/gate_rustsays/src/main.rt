@@ -1,5 +1,7 @@
 // Answers the cases of the file `cases` by the library's doors, in the lines that `compare/run sample` writes for the original Rust. What the
 // program must write, the file `stdout`, was made by the Rust and not by this program: README.md beside it says how.
+#![tactic(auto)]
+
 ghost use Rattle.std.specs.Prelude.{◌≤◌, length};
 
 use base::Refusal;

@@ -1,5 +1,7 @@
 // What programs of the gate share: numbers, words and bytes on standard output, what is spelt in hex, and files that are read whole. No contract can say
 // what is written; each program is held to its file `stdout`, and so are these.
+#![tactic(auto)]
+
 ghost use Rattle.std.specs.Prelude.{◌≤◌, length};
 ghost use Rattle.io.specs.Counts.{IsPrefixLen};
 
@@ -18,7 +20,7 @@ pub const OLD_TOKEN: u32 = 7;
 pub const TOKENS: usize = 4100;
 
 // How words are laid out: with a blank before each, or a token's entry to a line.
-#[derive(Drop)]
+#[derive(Clone, Copy)]
 pub enum Style {
     Decimal,
     Hex,

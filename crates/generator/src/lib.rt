@@ -1,5 +1,7 @@
 // Translated from boreal's boreal/src/matcher/literals.rs (MIT OR Apache-2.0), commit 7010b5e967; see NOTICE.
 // The generator of literals: all of them, in order, into lent buffers.
+#![tactic(auto)]
+
 ghost use Rattle.std.specs.Prelude.{◌≡◌, ◌≤◌, ◌<◌, length};
 ghost use mathlib.Core.List.{map, flatten};
 ghost use Rattle.def_meaning.specs.Limits.{literal_limit, token_pool, entry_limit};

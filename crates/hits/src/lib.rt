@@ -1,4 +1,6 @@
 // What the benchmark runs: the searches below the doors, at every place of one haystack. Soundness is tested once.
+#![tactic(auto)]
+
 ghost use Rattle.std.specs.Prelude.{◌≡◌, length};
 ghost use Rattle.hits.specs.Hits.{last_start, last_end};
 

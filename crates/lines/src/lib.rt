@@ -1,4 +1,6 @@
 // The lines of a listing, written into lent bytes as crate printing's writers do.
+#![tactic(auto)]
+
 ghost use Rattle.std.specs.Prelude.{◌≡◌, ◌+◌, ◌*◌, ◌%◌, ◌<◌, ◌^◌, min, length};
 ghost use Rattle.printing.specs.Laid.{Put};
 ghost use Rattle.def_meaning.specs.Words.{byte_size};

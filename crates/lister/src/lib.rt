@@ -1,4 +1,6 @@
 // The listing of a text, as the listing program writes it.
+#![tactic(auto)]
+
 ghost use Rattle.std.specs.Prelude.{◌≡◌, ◌<◌, ◌^◌, length};
 ghost use Rattle.def_reading.specs.Lists.{reading};
 ghost use Rattle.printing.specs.Laid.{laid, Put};

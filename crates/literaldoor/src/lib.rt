@@ -1,5 +1,7 @@
 // Translated from boreal's boreal/src/matcher/literals.rs (MIT OR Apache-2.0), commit 7010b5e967; see NOTICE.
 // The door by which the search literals of any bytes, read as a pattern, are picked.
+#![tactic(auto)]
+
 ghost use Rattle.std.specs.Prelude.{◌≡◌, true, ◌≤◌, length};
 ghost use Rattle.def_meaning.specs.Limits.{literal_limit, token_pool};
 ghost use Rattle.def_picking.specs.Literals.{literals as literalsOf};

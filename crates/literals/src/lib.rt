@@ -1,5 +1,7 @@
 // Translated from boreal's boreal/src/matcher/literals.rs (MIT OR Apache-2.0), commit 7010b5e967; see NOTICE.
 // Which search literals win in a run of token entries.
+#![tactic(auto)]
+
 ghost use Rattle.std.specs.Prelude.{◌≡◌, List, ◌∷◌, ◌≤◌, ◌-◌, length, take, drop};
 ghost use Rattle.def_meaning.specs.Limits.{token_pool};
 ghost use Rattle.def_meaning.specs.Tokens.{Tokens, nothing};

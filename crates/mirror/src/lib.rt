@@ -1,4 +1,6 @@
 // The mirror of a sound program: its items and each branch's contents in reverse, its branches in their order.
+#![tactic(auto)]
+
 ghost use Rattle.std.specs.Prelude.{◌≡◌, reverse, ◌≤◌, length};
 ghost use Rattle.def_meaning.specs.Limits.{node_limit};
 ghost use Rattle.def_meaning.specs.Words.{Sound, SoundBranches, mirror_branches, mirror_words};

@@ -1,6 +1,8 @@
 // Translated from boreal's boreal/src/matcher/validator/simple.rs (MIT OR Apache-2.0), commit 7010b5e967; see NOTICE.
 // A node word and the node that it says: the one taken apart into the other, and made from it. Nowhere else is a word taken apart or made by
 // arithmetic, so what a word's layout is stands here: the types, the sizes, and the small functions for kind and fields.
+#![tactic(auto)]
+
 ghost use Rattle.std.specs.Prelude.{◌≡◌, ◌&&◌, ◌%◌, ◌≤◌, ◌<◌, leb, ltb, length};
 ghost use Rattle.base.specs.Pools.{zeroed};
 ghost use Rattle.def_meaning.specs.NodeWords.{word};

@@ -1,5 +1,7 @@
 // Translated from boreal's boreal/src/matcher/literals.rs (MIT OR Apache-2.0), commit 7010b5e967; see NOTICE.
 // What wins so far, and one more slice against it.
+#![tactic(auto)]
+
 ghost use Rattle.std.specs.Prelude.{◌≡◌, true, List, ℕ, ◌-◌, take, drop};
 ghost use Rattle.def_picking.specs.Runs.{Slice};
 ghost use Rattle.def_picking.specs.Candidates.{ranked, widened, against, too_many};
@@ -15,7 +17,7 @@ pub enum Rank {
 }
 
 // What wins: nothing so far, the words of a slice with its rank, or too many literals somewhere.
-#[derive(Drop)]
+#[derive(Clone, Copy)]
 pub enum Winner {
     Nothing,
     Taken(usize, usize, u32),

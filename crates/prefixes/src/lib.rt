@@ -1,5 +1,7 @@
 // Translated from boreal's boreal/src/matcher/literals.rs (MIT OR Apache-2.0), commit 7010b5e967; see NOTICE.
 // With which prefixes literal number k of token entries begins.
+#![tactic(auto)]
+
 ghost use Rattle.std.specs.Prelude.{◌≡◌, ◌*◌, ◌≤◌, ◌<◌, min, length, drop};
 ghost use Rattle.def_meaning.specs.Limits.{literal_limit};
 ghost use Rattle.tallies.specs.Tallies.{count_top};

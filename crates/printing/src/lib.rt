@@ -1,5 +1,7 @@
 // Bytes and numbers as text, written into lent bytes. A writer lays down what fits and always answers the place after all of its bytes, so that no
 // caller has to ask for room on the way: who called first compares the last place with the buffer's length.
+#![tactic(auto)]
+
 ghost use Rattle.std.specs.Prelude.{◌≡◌, ◌+◌, ◌*◌, ◌<◌, ◌^◌, length};
 ghost use mathlib.Core.List.{[], ◌∷◌, flat_map};
 ghost use Rattle.printing.specs.Laid.{Put};

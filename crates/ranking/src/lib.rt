@@ -1,5 +1,7 @@
 // Translated from boreal's boreal/src/matcher/literals.rs (MIT OR Apache-2.0), commit 7010b5e967; see NOTICE.
 // The rank of a slice of token entries, by the scores of its literals.
+#![tactic(auto)]
+
 ghost use Rattle.std.specs.Prelude.{◌≡◌, ◌≤◌, ◌<◌, ◌-◌, min, length};
 ghost use Rattle.def_meaning.specs.Limits.{literal_limit, token_pool};
 ghost use Rattle.atoms.specs.Score.{literal_score};

@@ -1,5 +1,7 @@
 // Translated from boreal's boreal-parser/src/hex_string.rs (MIT OR Apache-2.0), commit 7010b5e967; see NOTICE.
 // The door by which any bytes are read as a pattern.
+#![tactic(auto)]
+
 ghost use Rattle.std.specs.Prelude.{◌≡◌, length};
 ghost use Rattle.def_meaning.specs.Limits.{token_pool};
 ghost use Rattle.def_reading.specs.Lists.{reading};

@@ -1,6 +1,8 @@
 // Translated from boreal's boreal-parser/src/hex_string.rs (MIT OR Apache-2.0), commit 7010b5e967; see NOTICE.
 // The readers of token, list and alternatives call each other. Lists and alternatives are read in loops, so the stack
 // grows with the levels and not with the tokens.
+#![tactic(auto)]
+
 ghost use Rattle.std.specs.Prelude.{◌≡◌, [], ◌∷◌, ◌+◌, ◌-◌, ◌/◌, ◌≤◌, ◌<◌, length};
 ghost use Rattle.def_meaning.specs.Limits.{level_limit, token_pool};
 ghost use Rattle.def_meaning.specs.Entries.{entries_of, mask_number};

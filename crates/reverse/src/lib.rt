@@ -1,6 +1,8 @@
 // Translated from boreal's boreal/src/matcher/validator/simple.rs (MIT OR Apache-2.0), commit 7010b5e967; see NOTICE.
 // The reverse check: the first choice, long jumps before short, that fits at the window's end, read from there.
 // The shape is the forward check's, for the same reasons.
+#![tactic(auto)]
+
 ghost use Rattle.std.specs.Prelude.{◌≡◌, true, ◌⊎◌, ◌∷◌};
 ghost use Rattle.def_meaning.specs.Programs.{range, alt, ◌▹◌};
 ghost use Rattle.def_meaning.specs.Rows.{backward};

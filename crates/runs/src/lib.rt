@@ -1,5 +1,7 @@
 // Translated from boreal's boreal/src/matcher/literals.rs (MIT OR Apache-2.0), commit 7010b5e967; see NOTICE.
 // The words of the runs of token entries, and of their parts.
+#![tactic(auto)]
+
 ghost use Rattle.std.specs.Prelude.{◌≡◌, cond, eqb, ◌≤◌, length};
 ghost use Rattle.def_picking.specs.Runs.{closes};
 ghost use Rattle.entries.specs.Words.{token_in};

@@ -1,4 +1,6 @@
 // The soundness test of node words: any words at all are sound or not. Each function is one loop, linear in the words.
+#![tactic(auto)]
+
 ghost use Rattle.std.specs.Prelude.{◌≡◌, length};
 ghost use Rattle.def_meaning.specs.Words.{flat_words, sound_branches, sound_words, sound};
 ghost use Rattle.nodes.specs.Nodes.{shape_of};

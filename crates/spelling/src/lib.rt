@@ -1,5 +1,7 @@
 // Translated from boreal's boreal/src/matcher/literals.rs (MIT OR Apache-2.0), commit 7010b5e967; see NOTICE.
 // The writing of literal number k of token entries.
+#![tactic(auto)]
+
 ghost use Rattle.std.specs.Prelude.{◌≤◌, ◌<◌, length};
 ghost use Rattle.def_meaning.specs.Limits.{literal_limit};
 ghost use Rattle.def_picking.specs.Numbers.{count, count_in, ending_of, ending_in, literal_at};

@@ -1,5 +1,7 @@
 // Translated from boreal's boreal/src/matcher/validator/simple.rs (MIT OR Apache-2.0), commit 7010b5e967; see NOTICE.
 // What both checks do at one word and one byte.
+#![tactic(auto)]
+
 ghost use Rattle.std.specs.Prelude.{◌≡◌, reverse, min, true};
 ghost use Rattle.def_meaning.specs.Words.{shape, proper};
 ghost use Rattle.steps.specs.Steps.{first_byte, is_test, pass_shape};

@@ -1,5 +1,7 @@
 // Translated from boreal's boreal/src/matcher/literals.rs (MIT OR Apache-2.0), commit 7010b5e967; see NOTICE.
 // How many literals token entries have, how many combinations, and how long the shortest literal is.
+#![tactic(auto)]
+
 ghost use Rattle.std.specs.Prelude.{◌≡◌, ◌+◌, ◌*◌, ◌≤◌, min, length};
 ghost use Rattle.tallies.specs.Tallies.{count_top};
 ghost use Rattle.def_picking.specs.Literals.{combinations_of, combinations, combinations_in, length_of, length_in, shortest};

@@ -1,4 +1,6 @@
 // The doors as C functions: include/tokenmarsh.h documents them. An answer is a struct by value, whose `refusal` is 0 where there is none.
+#![tactic(auto)]
+
 ghost use Rattle.std.specs.Prelude.{◌≡◌, cond, ◌+◌, ◌*◌};
 ghost use Rattle.def_meaning.specs.Values.{Bytes};
 ghost use Rattle.def_meaning.specs.Words.{sound};
