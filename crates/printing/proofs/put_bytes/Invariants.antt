@@ -1,0 +1,13 @@
+-- What is written so far is what the elements before `i` give. Assumes nothing.
+use mathlib.Core.Path.{◌≡◌}
+use mathlib.Core.List.{[], ◌∷◌, flat_map}
+use Prim.Native.Nat.{◌+◌, ◌-◌, ◌≤◌}
+use lib.ListN.{length, take}
+use Rattle.printing.specs.Laid.{Put}
+use Rattle.printing.proofs.put_bytes.Given as goal
+
+abbrev pub invariant-loop-i : goal.invariant-loop-i
+invariant-loop-i l = (l.i ≤ length l.s) × (l.k ≡ l.at + l.i) × Put l.initial.out l.at (flat_map (λ b. b ∷ []) (take l.i l.s)) l.k l.out
+
+abbrev pub decreases-loop-i : goal.decreases-loop-i
+decreases-loop-i l = length l.s - l.i
