@@ -10,37 +10,37 @@ use Rattle.def_meaning.proofs.PartLaws.{from}
 use Rattle.forward.proofs.+branches_check_choices_jumps.Given as goal
 
 abbrev pub decreases-branches : goal.decreases-branches
-decreases-branches l = 3 * length a.1.0.now + 1
+decreases-branches l = 3 * length l.rest.now + 1
 
 abbrev pub decreases-check : goal.decreases-check
-decreases-check l = 3 * length a.0.now
+decreases-check l = 3 * length l.nodes.now
 
 abbrev pub decreases-choices : goal.decreases-choices
-decreases-choices l = 3 * length a.1.0.now + 2
+decreases-choices l = 3 * length l.rest.now + 2
 
 abbrev pub decreases-jumps : goal.decreases-jumps
-decreases-jumps l = 3 * length a.0.now + 1
+decreases-jumps l = 3 * length l.rest.now + 1
 
-abbrev pub branches-invariant-loop-n : goal.branches-invariant-loop-n
-branches-invariant-loop-n l = forward (range l.from l.to ▹ prog l.rest) l.tail ≡ forward (range l.n l.to ▹ prog l.rest) l.tail
+abbrev pub invariant-branches-loop-n : goal.invariant-branches-loop-n
+invariant-branches-loop-n l = forward (range l.from l.to ▹ prog l.rest) l.tail ≡ forward (range l.n l.to ▹ prog l.rest) l.tail
 
-abbrev pub branches-decreases-loop-n : goal.branches-decreases-loop-n
-branches-decreases-loop-n l = l.last + 1 - l.n
+abbrev pub decreases-branches-loop-n : goal.decreases-branches-loop-n
+decreases-branches-loop-n l = l.last + 1 - l.n
 
-abbrev pub branches-invariant-branches : goal.branches-invariant-branches
-branches-invariant-branches l = SoundBranches l.bs × (forward (alt (branches_of l.alts) ▹ range l.from l.to ▹ prog l.rest) l.mem ≡ forward (alt (branches_of l.bs) ▹ range l.from l.to ▹ prog l.rest) l.mem)
+abbrev pub invariant-branches-branches : goal.invariant-branches-branches
+invariant-branches-branches l = SoundBranches l.bs × (forward (alt (branches_of l.alts) ▹ range l.from l.to ▹ prog l.rest) l.mem ≡ forward (alt (branches_of l.bs) ▹ range l.from l.to ▹ prog l.rest) l.mem)
 
-abbrev pub branches-decreases-branches : goal.branches-decreases-branches
-branches-decreases-branches l = length l.bs
+abbrev pub decreases-branches-branches : goal.decreases-branches-branches
+decreases-branches-branches l = length l.bs
 
-abbrev pub check-invariant-loop-w : goal.check-invariant-loop-w
-check-invariant-loop-w l = (length l.ns ≤ length l.nodes) × Sound l.ns × (forward (prog l.nodes) l.mem ≡ forward (prog l.ns) l.m)
+abbrev pub invariant-check-loop-w : goal.invariant-check-loop-w
+invariant-check-loop-w l = (length l.ns ≤ length l.nodes) × Sound l.ns × (forward (prog l.nodes) l.mem ≡ forward (prog l.ns) l.m)
 
-abbrev pub check-decreases-loop-w : goal.check-decreases-loop-w
-check-decreases-loop-w l = length l.ns
+abbrev pub decreases-check-loop-w : goal.decreases-check-loop-w
+decreases-check-loop-w l = length l.ns
 
-abbrev pub jumps-invariant-loop-n : goal.jumps-invariant-loop-n
-jumps-invariant-loop-n l = forward (range l.from l.to ▹ prog l.rest) l.mem ≡ forward (range l.n l.to ▹ prog l.rest) l.mem
+abbrev pub invariant-jumps-loop-n : goal.invariant-jumps-loop-n
+invariant-jumps-loop-n l = forward (range l.from l.to ▹ prog l.rest) l.mem ≡ forward (range l.n l.to ▹ prog l.rest) l.mem
 
-abbrev pub jumps-decreases-loop-n : goal.jumps-decreases-loop-n
-jumps-decreases-loop-n l = l.last + 1 - l.n
+abbrev pub decreases-jumps-loop-n : goal.decreases-jumps-loop-n
+decreases-jumps-loop-n l = l.last + 1 - l.n
