@@ -1,7 +1,7 @@
 -- What a call leaves in a lent pool of words. A pool that is shorter than `size` is refused by 18 and stays as it is, so these are used
 -- of pools of at least `size` words alone. Assumes nothing: these are definitions.
 -- To be believed: `filled` `cleared`.
-use Rattle.std.specs.Prelude.{List, ◌++◌, ℕ, ◌+◌, ◌-◌, length, take, drop, replicate}
+use Rattle.std.specs.Prelude.{List, ◌++◌, ℕ, ◌-◌, length, take, drop, replicate}
 
 -- the words from `from` up to `to` are 0, and the others stay
 unfoldable pub zeroed : ℕ → ℕ → List ℕ → List ℕ

@@ -4,7 +4,7 @@ use mathlib.Core.Option.{some}
 use mathlib.Core.Logic.{inl}
 use mathlib.Core.List.{[], ◌∷◌}
 use Prim.Native.Char.{code}
-use Prim.Native.Nat.{ℕ, ◌+◌, ◌≤◌, ◌<◌}
+use Prim.Native.Nat.{ℕ, ◌+◌, ◌<◌}
 use native.Mathlib.Omega.{arith}
 use Rattle.base.specs.Text.{ascii}
 use Rattle.base.specs.declared.Refusal.TheVariants.{Unexpected, JumpAtBound}

@@ -8,7 +8,7 @@ use Prim.Native.Char.{code}
 use Prim.Native.Nat.{ℕ, suc, ◌+◌, ◌<◌, ◌≤◌}
 use native.Mathlib.Omega.{arith}
 use lib.ListN.{length, drop}
-use Rattle.def_meaning.specs.Tokens.{Mask, left, right, all, Token, Tokens, Byte, NotByte, MaskedByte, NotMaskedByte, Jump, Alternatives, nothing, ◌then◌, ◌or◌}
+use Rattle.def_meaning.specs.Tokens.{Mask, left, right, all, Token, Tokens, Byte, NotByte, MaskedByte, NotMaskedByte, Jump, Alternatives, nothing, ◌then◌}
 use Rattle.def_reading.specs.Blanks.{here, skip}
 use Rattle.def_grammar.proofs.Spelling.{Language, ◌⨾◌, Blank, Blanks, NoBlank, Spaced, Sign, Marked, Digit, decimal, upper, lower, HexDigit, Whole, Masked, Decimals, Numeral, Number, From, To, Single, Dashed, Bracketed, Bounds, AsJump, SpellsToken, SpellsTokens, SpellsLists}
 use Rattle.def_grammar.proofs.Standing.{after, here_is, skips}

@@ -12,9 +12,9 @@ use borrow.Author.Tests.{ltb-true, lt-ltb, le-ltb}
 use lib.Dec.{ltb}
 use lib.ListN.{length, length-append}
 use Rattle.def_meaning.specs.Limits.{level_limit, inner_jump_limit}
-use Rattle.def_meaning.specs.Tokens.{Mask, all, Token, Tokens, Lists, nothing, ◌then◌, ◌or◌}
+use Rattle.def_meaning.specs.Tokens.{Mask, all, Token, Tokens, Lists, nothing, ◌then◌}
 use Rattle.def_grammar.specs.Grammar as rule
-use Rattle.def_grammar.proofs.Spelling.{◌⨾◌, Blank, Blanks, Spaced, Sign, Marked, Digit, decimal, upper, lower, HexDigit, Whole, Masked, Decimals, value, Numeral, Number, From, To, Single, Dashed, Ordered, Bracketed, Bounds, Allowed, NotOne, AsJump, Negatable, NoJump, EndsWell, Bounded, SpellsToken, SpellsTokens, SpellsLists, SpellsRest, SpellsList, depth_in, depth, depths}
+use Rattle.def_grammar.proofs.Spelling.{◌⨾◌, Blank, Blanks, Spaced, Sign, Marked, decimal, upper, lower, HexDigit, Whole, Masked, Decimals, value, Numeral, Number, From, To, Single, Dashed, Ordered, Bracketed, Bounds, Allowed, NotOne, AsJump, Negatable, NoJump, EndsWell, Bounded, SpellsToken, SpellsTokens, SpellsLists, SpellsRest, SpellsList, depth_in, depth, depths}
 
 pub blank_spells : {c : ℕ} → rule.Blank c → Blank c
 unfolding Blank

@@ -1,6 +1,5 @@
 -- Laws of programs. Assumes nothing.
 use mathlib.Core.Path.{◌≡◌, sym}
-use Prim.Native.Nat.{◌-◌}
 use Rattle.def_meaning.specs.Programs.{Prog, end, ◌▹◌, ◌⧺◌}
 use Rattle.def_meaning.specs.Choices.{Order}
 use Rattle.def_meaning.specs.Rows.{◌⊗◌, rows, rows_of}

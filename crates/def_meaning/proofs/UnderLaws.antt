@@ -1,12 +1,11 @@
 -- What `Under` says: that each bit of the value lies under the mask, and so that some byte passes the Mask. Assumes nothing.
-use mathlib.Core.Path.{◌≡◌, refl, sym, ap, ap₂, ◌∙◌}
+use mathlib.Core.Path.{◌≡◌, refl, sym, ap, ◌∙◌}
 use mathlib.Core.Bool.{true, false, not}
 use mathlib.Core.Logic.{◌↔◌}
-use Prim.Native.Nat.{ℕ, zero, suc, ◌+◌, ◌*◌, ◌/◌, ◌%◌, ◌^◌, ◌≤◌, ◌<◌}
+use Prim.Native.Nat.{ℕ, zero, suc, ◌*◌, ◌/◌, ◌%◌, ◌^◌, ◌≤◌, ◌<◌}
 use native.Mathlib.Omega.{arith}
 use native.Mathlib.Nat.{le_refl, mul_comm, div-div-eq-div-mul, pow-suc}
-use lib.Dec.{eqb}
-use lib.Bits.{bit_and, and_step, and_zero_l, and_shr, and_mod}
+use lib.Bits.{bit_and, and_zero_l, and_shr, and_mod}
 use borrow.Author.Tests.{eqb-true, eq-eqb, ne_eqb}
 use Rattle.def_meaning.specs.Programs.{pass, mask, negated_mask}
 use Rattle.def_meaning.specs.NodeWords.{Under}

@@ -11,7 +11,7 @@ use lib.ListN.{length, get_or}
 use Rattle.base.specs.declared.Refusal.{Refusal}
 use Rattle.base.specs.declared.Refusal.TheVariants.{TextTooLong, Unexpected, JumpAtBound, HexStringTooDeep, TooManyTokens}
 use Rattle.def_meaning.specs.Limits.{text_limit, token_limit, level_limit}
-use Rattle.def_meaning.specs.Tokens.{Token, Tokens, Lists, nothing, ◌then◌, ◌or◌}
+use Rattle.def_meaning.specs.Tokens.{Token, Tokens, Lists, nothing, ◌then◌}
 use Rattle.def_meaning.specs.Entries.{token_count}
 use Rattle.def_reading.specs.Blanks.{skip}
 use Rattle.def_reading.specs.Pieces.{Seen, found, absent, refused, digit, within, jumped, leaf_at}

@@ -11,7 +11,7 @@ use lib.ListN.{length, get_or}
 use Rattle.base.specs.declared.Refusal.{Refusal}
 use Rattle.base.specs.declared.Refusal.TheVariants.{Unexpected, HexStringTooDeep, TooManyTokens}
 use Rattle.def_meaning.specs.Limits.{token_limit, level_limit}
-use Rattle.def_meaning.specs.Tokens.{Token, Tokens, Lists, nothing, ◌then◌, neither, ◌or◌}
+use Rattle.def_meaning.specs.Tokens.{Token, Tokens, Lists, nothing, neither, ◌or◌}
 use Rattle.def_meaning.specs.Entries.{entries_of, entries}
 use Rattle.def_reading.specs.Blanks.{skip}
 use Rattle.def_reading.specs.Pieces.{leaf_at}

@@ -1,14 +1,14 @@
 -- The tests by which the code knows proper fields are those of the definition. Assumes nothing.
 use mathlib.Core.Path.{◌≡◌, refl, sym, ap, ap₂, ◌∙◌}
-use mathlib.Core.Bool.{Bool, true, false, cond, ◌&&◌, and_comm, and-true, and-false}
+use mathlib.Core.Bool.{Bool, true, false, ◌&&◌, and_comm, and-true, and-false}
 use Prim.Native.Nat.{ℕ, zero, suc, ◌+◌, ◌*◌, ◌/◌, ◌%◌, ◌≤◌, ◌<◌}
 use native.Mathlib.Omega.{arith}
 use native.Mathlib.Nat.{mod-eq_of_lt}
 use lib.Dec.{eqb, leb, ltb, leb-suc-suc}
 use lib.Bits.{bit_and, and_mask}
-use borrow.Author.Tests.{eqb-true, eq-eqb, ne_eqb, leb-true, leb-false, le-leb, lt-leb, ltb-true, ltb-false, lt-ltb, le-ltb}
+use borrow.Author.Tests.{eq-eqb, ne_eqb, leb-true, leb-false, le-leb, lt-leb, ltb-true, ltb-false, lt-ltb, le-ltb}
 use Rattle.def_meaning.specs.Limits.{branch_limit}
-use Rattle.def_meaning.specs.Words.{byte_size, field_size, kind_of, first_of, second_of, word_size, under_mask, counts, proper_by}
+use Rattle.def_meaning.specs.Words.{byte_size, field_size, first_of, second_of, word_size, counts, proper_by}
 use Rattle.def_meaning.proofs.FieldLaws.{word_made}
 use Rattle.nodes.specs.Nodes.{mask_in, most_in}
 

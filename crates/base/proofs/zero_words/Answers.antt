@@ -1,7 +1,7 @@
 -- The loop keeps the words before `i` zeroed from `from` on. Assumes nothing.
 use mathlib.Core.Path.{refl, ap, ◌∙◌}
 use mathlib.Core.List.{List}
-use Prim.Native.Nat.{ℕ, ◌-◌}
+use Prim.Native.Nat.{ℕ}
 use lib.ListN.{set, length-set}
 use Rattle.base.proofs.PoolLaws.{zeroed_none, zeroed_more}
 use native.Mathlib.Omega.{arith}
