@@ -1,6 +1,6 @@
 -- What is known of the mirror's door, whose promise is in specs/MirrorDoor.antt. Assumes nothing.
 use mathlib.Core.Path.{◌≡◌, refl, sym, ap, ◌∙◌}
-use mathlib.Core.List.{List, [], ◌∷◌, reverse}
+use mathlib.Core.List.{List, [], ◌∷◌}
 use Prim.Native.Nat.{ℕ}
 use native.Mathlib.Omega.{arith}
 use Rattle.def_meaning.specs.NodeWords.{word}

@@ -1,6 +1,6 @@
 -- Bytes laid into a lent buffer, as far as it reaches. Assumes nothing: these are definitions.
 -- To be believed: nothing.
-use Rattle.std.specs.Prelude.{◌≡◌, List, [], ◌∷◌, ◌++◌, ℕ, ◌+◌, length, set}
+use Rattle.std.specs.Prelude.{◌≡◌, List, [], ◌∷◌, ℕ, ◌+◌, length, set}
 
 -- the buffer p with the bytes bs in it from the place `at` on; what would stand past p's end is left out (proofs/LaidLaws.antt, `laid_fits` and `laid_cut`)
 unfoldable pub laid : List ℕ → ℕ → List ℕ → List ℕ

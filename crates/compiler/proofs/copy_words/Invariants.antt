@@ -1,6 +1,6 @@
 -- `compiler::copy_words` meets its contract. Assumes nothing.
 use lib.ListN.{length, take, drop}
-use Prim.Native.Nat.{◌+◌, ◌-◌, ◌≤◌}
+use Prim.Native.Nat.{◌-◌, ◌≤◌}
 use mathlib.Core.List.{◌++◌}
 use mathlib.Core.Path.{◌≡◌}
 use Rattle.compiler.proofs.copy_words.Given as goal

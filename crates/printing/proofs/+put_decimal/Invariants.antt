@@ -1,5 +1,5 @@
 -- The digits before the last are those of a tenth. Assumes nothing.
 use Rattle.printing.proofs.+put_decimal.Given as goal
 
-abbrev pub decreases-put-decimal : goal.decreases-put-decimal
-decreases-put-decimal l = a.1.1.0
+abbrev pub decreases-put_decimal : goal.decreases-put_decimal
+decreases-put_decimal l = l.n
