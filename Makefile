@@ -1,6 +1,7 @@
 # Builds and installs the library; `rt` builds and proves the crates themselves.
 #
 #     make                 the archive and the shared library, in target/staticlib
+#     make target/staticlib/libhits.a    what bench/run measures
 #     make test            the bindings' tests: C, Rust, Python
 #     make install         the library, header, pkg-config file and Python package
 #     make uninstall       takes these away again: name the same folders
@@ -36,10 +37,11 @@ export PREFIX DESTDIR LIBDIR INCLUDEDIR PYTHONDIR VERSION SONAME
 
 all: $(OUT)/libtokenmarsh.so
 
-$(OUT)/libtokenmarsh.a: crates.txt $(shell find crates -name '*.rt' -o -name '*.antt')
-	# rt staticlib proves what the library stands on one crate after another; rt check takes several at a time.
-	rt check $$(sed -n 's/^tokenmarsh: *//p' crates.txt)
-	rt staticlib tokenmarsh
+# rt lib proves what a library stands on, one crate after another, then the library, and compiles it; what is proved already it takes as it is.
+$(OUT)/lib%.a: crates.txt $(shell find crates -name out -prune -o '(' -name '*.rt' -o -name '*.antt' ')' -print)
+	cd crates/$* && rt lib
+	mkdir -p $(OUT)
+	cp crates/$*/out/lib$*.a $@
 
 $(OUT)/libtokenmarsh.so: $(OUT)/libtokenmarsh.a include/tokenmarsh.h
 	$(CC) -shared -o $@ -Wl,-soname,$(SONAME) -Wl,--whole-archive $< -Wl,--no-whole-archive
@@ -54,7 +56,7 @@ uninstall:
 	bindings/install --remove
 
 clean:
-	rm -rf $(OUT) target/bindings target/swaps target/compare target/bench target/example target/find target/ten bindings/rust/target compare/target bench/target
+	rm -rf $(OUT) target/bindings target/compare target/bench target/example target/find target/ten bindings/rust/target compare/target bench/target
 	rm -rf bindings/python/__pycache__ bindings/python/tokenmarsh/__pycache__ compare/__pycache__
 
 help:

@@ -11,6 +11,6 @@ fn main() {
     println!("benchmark: not run. Set BOREAL_SRC to a checkout of boreal, then bench/run.");
     #[cfg(all(original, not(ours)))]
     println!(
-        "benchmark: not run. No archive with tm_hits and tm_hits_back: rt staticlib hits."
+        "benchmark: not run. No archive with tm_hits and tm_hits_back: make target/staticlib/libhits.a"
     );
 }
