@@ -5,7 +5,7 @@ use mathlib.Core.List.{List, ◌∷◌, append-nil}
 use Prim.Native.Nat.{ℕ, ◌≤◌, ◌<◌}
 use native.Mathlib.Omega.{arith}
 use lib.Dec.{leb}
-use lib.ListN.{length, length-append}
+use lib.ListN.{length-append}
 use borrow.Author.Tests.{leb-true}
 use Rattle.def_meaning.specs.Limits.{branch_limit}
 use Rattle.def_meaning.specs.Programs.{Test, byte, mask, negated_mask, any, dot, Item, Prog, Branches, one, jump, range, alt, end, ◌▹◌, stop, or}
@@ -14,7 +14,7 @@ use Rattle.def_meaning.specs.Words.{field_size, word_for, is_flat, flat_prog, pr
 use Rattle.def_meaning.proofs.ProperLaws.{OfTest}
 use Rattle.def_meaning.proofs.NodeWords.{listed_sound, program_listed}
 use Rattle.def_meaning.proofs.SoundLaws.{and_left, and_right, false_true}
-use Rattle.def_compiling.specs.ProgramWords.{opening, words_for, words_of, words_in, nodes}
+use Rattle.def_compiling.specs.ProgramWords.{opening, words_of, words_in, nodes}
 use Rattle.def_compiling.specs.Compile.{short_in, short_of, short}
 
 -- what is not nothing has an item

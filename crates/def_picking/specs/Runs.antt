@@ -1,7 +1,7 @@
 -- Segments, runs, parts and slices. Assumes nothing: these are definitions.
 -- To be believed: `closes` `plain_alternatives` `at_front` `segmented` `segments` `filled_ones` `first_last` `runs` `is_literal` `joins_part` `part_before` `parts` `Slice` `literal_only` `longer` `slices`.
 use Rattle.std.specs.Prelude.{Bool, true, false, cond, not, ◌&&◌, ◌||◌, List, [], ◌∷◌, ◌++◌, ℕ, ◌+◌, leb}
-use Rattle.def_meaning.specs.Tokens.{Token, Tokens, Byte, NotByte, MaskedByte, NotMaskedByte, Jump, Alternatives, nothing, ◌then◌, ◌or◌, ◌⊕◌}
+use Rattle.def_meaning.specs.Tokens.{Token, Tokens, Byte, NotByte, MaskedByte, NotMaskedByte, Jump, Alternatives, nothing, ◌then◌, ◌⊕◌}
 use Rattle.def_picking.specs.Literals.{is_byte, is_plain, plain_lists, length_in}
 
 unfoldable pub is_alternatives : Token → Bool

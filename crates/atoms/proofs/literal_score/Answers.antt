@@ -1,5 +1,4 @@
 -- The invariant: `best` is the highest score of the windows up to `at`, none of which reaches past the end.
-use Prim.Native.Nat.{◌-◌}
 use Rattle.atoms.proofs.Laws.{best_first, best_next, best_last}
 use native.Mathlib.Omega.{arith}
 use Rattle.atoms.proofs.literal_score.Goals as goal
@@ -9,12 +8,11 @@ loop-at-init c =
     (omega arith, best_first c.args.lit.now _ c.score-best.ensures)
 
 pub loop-at-preserved : goal.loop-at-preserved
-loop-at-preserved c =
-    (
-      omega arith,
-      best_next c.args.lit.now c.loop-at.at _ _ _
-          c.loop-at.invariant.1 c.score.ensures c.larger-best.ensures,
-    )
+loop-at-preserved c = (
+  omega arith,
+  best_next c.args.lit.now c.loop-at.at _ _ _
+      c.loop-at.invariant.1 c.score.ensures c.larger-best.ensures,
+)
 
 pub returns : goal.returns
 returns c =

@@ -1,6 +1,6 @@
 -- The invariant: the sum is the score of the bytes passed, of which there are at most four.
 use mathlib.Core.Path.{ap, ◌∙◌}
-use Prim.Native.Nat.{ℕ, ◌+◌, ◌-◌}
+use Prim.Native.Nat.{ℕ, ◌+◌}
 use lib.ListN.{get_or}
 use Rattle.atoms.proofs.Laws.{byte_le, atom_none, atom_more, atom_le}
 use native.Mathlib.Omega.{arith}
@@ -16,11 +16,10 @@ overflow_add-sum c =
     record { fits = omega (arith, byte_le (get_or l i 0), atom_le i l) }
 
 pub loop-i-preserved : goal.loop-i-preserved
-loop-i-preserved c =
-    (
-      omega arith,
-      omega arith,
-      ap (λ (x : ℕ). c.loop-i.sum + x) c.byte_score-sum.ensures
-          ∙ atom_more c.args.bytes.now c.loop-i.i _ (omega arith)
-          c.loop-i.invariant.2,
-    )
+loop-i-preserved c = (
+  omega arith,
+  omega arith,
+  ap (λ (x : ℕ). c.loop-i.sum + x) c.byte_score-sum.ensures
+      ∙ atom_more c.args.bytes.now c.loop-i.i _ (omega arith)
+      c.loop-i.invariant.2,
+)
