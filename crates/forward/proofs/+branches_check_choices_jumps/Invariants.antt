@@ -6,7 +6,6 @@ use lib.ListN.{length}
 use Rattle.def_meaning.specs.Programs.{range, alt, ◌▹◌}
 use Rattle.def_meaning.specs.Rows.{forward}
 use Rattle.def_meaning.specs.Words.{prog, branches_of, Sound, SoundBranches}
-use Rattle.def_meaning.proofs.PartLaws.{from}
 use Rattle.forward.proofs.+branches_check_choices_jumps.Given as goal
 
 abbrev pub decreases-branches : goal.decreases-branches

@@ -1,6 +1,5 @@
 -- `forward::flat` meets its contract: what fits the whole is what fits what is left. Assumes nothing.
 use mathlib.Core.Path.{sym, ap, ◌∙◌}
-use mathlib.Core.Bool.{true}
 use Rattle.def_meaning.specs.Choices.{short}
 use Rattle.def_meaning.proofs.KindLaws.{kind_jump}
 use Rattle.steps.specs.Steps.{answer}

@@ -1,0 +1,36 @@
+-- `hits::tm_hits` meets its contract. Assumes nothing.
+use borrow.Author.Tests.{not-false}
+use mathlib.Core.Path.{refl, sym, ap, ◌∙◌}
+use Prim.Native.Nat.{◌-◌}
+use Rattle.def_meaning.specs.Rows.{forward}
+use Rattle.def_meaning.specs.Words.{prog}
+use Rattle.def_meaning.proofs.WordSpans.{sound_words_lem}
+use Rattle.steps.specs.Steps.{answer}
+use Rattle.hits.specs.Hits.{start_in}
+use Rattle.hits.proofs.HitLaws as law
+use native.Mathlib.Omega.{arith}
+use Rattle.def_meaning.proofs.PartLaws.{to_end}
+use Rattle.hits.proofs.tm_hits.Goals as goal
+
+pub loop-i-init : goal.loop-i-init
+unfolding start_in
+loop-i-init c = (omega arith, refl)
+
+pub check-got-requires : goal.check-got-requires
+check-got-requires c =
+    let W = c.args.words.now in
+    sound_words_lem W (sym c.is_sound.ensures ∙ c.if-not-is_sound.false)
+
+pub loop-i-preserved-in-Left : goal.loop-i-preserved-in-Left
+loop-i-preserved-in-Left c =
+    let W = c.args.words.now in
+    let H = c.args.hay.now in
+    let I = c.loop-i.i in
+    (omega arith, law.start_hit W H I _ (sym c.in-Left.is ∙ c.check-got.ensures ∙ ap (λ l. answer (forward (prog W) l)) (to_end I H)))
+
+pub loop-i-preserved : goal.loop-i-preserved
+loop-i-preserved c =
+    let W = c.args.words.now in
+    let H = c.args.hay.now in
+    let I = c.loop-i.i in
+    (omega arith, law.start_miss W H I _ c.loop-i.invariant.1 (sym c.in_default.is ∙ c.check-got.ensures ∙ ap (λ l. answer (forward (prog W) l)) (to_end I H)))
