@@ -7,4 +7,4 @@ use Rattle.console.specs.declared.Input.TheVariants.{Bytes, Unreadable}
 -- no more bytes than there is room for
 abbrev pub Within : Input → ℕ → Type 0
 Within (Bytes n) room = n ≤ room
-Within Unreadable room = Unit {0}
+Within (Unreadable _) room = Unit {0}

@@ -1,5 +1,5 @@
-// The listing program: what it reads, what it writes, and what it says where it can do neither. Descriptors are arguments, so that a program of
-// the gate can try those that fail. A program has no exit status to tell a loss by, so it tells it by a line on standard error.
+// The listing program: what it reads, what it writes, and what it says where it can do neither. The reader, the writer and standard error are arguments,
+// so that a program of the gate can try those that fail. A program has no exit status to tell a loss by, so it tells it by a line on standard error.
 #![tactic(auto)]
 
 ghost use Rattle.std.specs.Prelude.{◌≡◌, ◌≤◌, length, take};
@@ -7,43 +7,73 @@ ghost use Rattle.lister.specs.Listings.{listing_of, listing_limit};
 ghost use Rattle.console.specs.Inputs.{Within};
 
 use base::TEXT_LIMIT;
-use libc::{STDERR_FILENO, STDIN_FILENO, STDOUT_FILENO};
 use lines::Listed;
+use std::env::FillError;
+use std::fmt::{Display, Formatter};
+use std::io::{Read, Write};
+use std::rt::Env;
+use std::{fmt, io};
 
 // Room for the listing of every text.
 const LISTING_LIMIT: usize = 86016;
 
-// How many bytes stand before the end of an input, or that a read of it failed.
+// How many bytes stand before the end of an input, or why a read of it failed.
 #[derive(Drop)]
 enum Input {
     Bytes(usize),
-    Unreadable,
+    Unreadable(io::Error),
 }
 
-// Reads until the buffer is full or the input ends. (io::read_full takes a read that fails for the input's end.)
-fn fill(from: i32, buf: &mut [u8]) -> Input
+// Reads until the buffer is full or the input ends. (Read::read_exact takes an input that ends before the buffer is full for an error.)
+fn fill<R: Read>(from: &mut R, buf: &mut [u8]) -> Input
     ensures { Within result (length buf.old) }
 {
     let mut done = 0;
     while done < buf.len() {
-        let got = libc::read(from, &mut buf[done..]);
-        if got < 0 {
-            return Input::Unreadable;
+        match from.read(&mut buf[done..]) {
+            Ok(0) => return Input::Bytes(done),
+            Ok(more) => done += more,
+            Err(why) => return Input::Unreadable(why),
         }
-        let more = io::count(got, &buf[done..]);
-        if more == 0 {
-            return Input::Bytes(done);
-        }
-        done += more;
     }
     Input::Bytes(done)
 }
 
+// The words of the system, which the library ends with the error's number in brackets.
+fn words(said: &str) -> &str {
+    match said.split_once(" (os error ") {
+        Some((words, _)) => words,
+        None => said,
+    }
+}
+
+// Why a call of the system failed, in its words alone.
+#[derive(Drop)]
+struct Reason(io::Error);
+
+impl Display for Reason {
+    fn fmt<W: fmt::Write>(&self, f: &mut Formatter<W>) -> fmt::Result {
+        let mut room = [0u8; 256];
+        let mut rest = &mut room[..];
+        let _ = rest.write_fmt(&self.0);
+        let n = 256 - rest.len();
+        match str::from_utf8(&room[..n]) {
+            Ok(said) => f.write_str(words(said)),
+            Err(_) => Err(fmt::Error),
+        }
+    }
+}
+
+// Says on standard error what the program cannot do, and why. Where that cannot be said either, nobody is left to be told.
+fn complain<E: Eprint>(err: &E, what: &str, why: io::Error) {
+    let why = Reason(why);
+    let _ = eprintln!(err; "listing: {what}: {why}");
+}
+
 // Writes all of the bytes, or says why it could not.
-fn write_out(to: i32, bytes: &[u8]) {
-    let is_written = io::write_all(to, bytes);
-    if !is_written {
-        os::fail(b"listing: standard output cannot be written");
+fn write_out<W: Write, E: Eprint>(to: &mut W, bytes: &[u8], err: &E) {
+    if let Err(why) = to.write_all(bytes) {
+        complain(err, "standard output cannot be written", why);
     }
 }
 
@@ -60,40 +90,37 @@ fn lay(text: &[u8], out: &mut [u8]) -> usize
 }
 
 // The listing of a text, written.
-pub fn show(text: &[u8], to: i32) {
+pub fn show<W: Write, E: Eprint>(text: &[u8], to: &mut W, err: &E) {
     let mut out = [0u8; LISTING_LIMIT];
     let n = lay(text, &mut out);
-    write_out(to, &out[0..n]);
+    write_out(to, &out[0..n], err);
 }
 
 // The listing of what an input holds: one byte more than a text may have is read, so that a text that is too long shows.
-pub fn list(from: i32, to: i32) {
+pub fn list<R: Read, W: Write, E: Eprint>(from: &mut R, to: &mut W, err: &E) {
     let mut text = [0u8; TEXT_LIMIT + 1];
-    let r = fill(from, &mut text);
-    let Input::Bytes(n) = r else {
-        os::fail(b"listing: standard input cannot be read");
-        return;
-    };
-    show(&text[0..n], to);
+    match fill(from, &mut text) {
+        Input::Bytes(n) => show(&text[0..n], to, err),
+        Input::Unreadable(why) => complain(err, "standard input cannot be read", why),
+    }
 }
 
 // The line of usage: where it was asked for it is the program's output, else a complaint.
-fn explain() {
-    let usage = b"usage: listing < FILE (lists the pattern that FILE holds; takes no arguments)\n";
-    let mut word = [0u8; 6];
-    let n = os::arg(1, &mut word);
-    if check::same(&word[..n], b"--help") {
-        write_out(STDOUT_FILENO, usage);
+fn explain<P: Print, E: Eprint>(is_asked: bool, rt: &P, err: &E) {
+    let usage = "usage: listing < FILE (lists the pattern that FILE holds; takes no arguments)\n";
+    if is_asked {
+        write_out(&mut io::writer(rt), usage.as_bytes(), err);
     } else {
-        io::write_all(STDERR_FILENO, usage);
+        let _ = err.eprint(usage);
     }
 }
 
 // The program. Whoever gives it an argument wants something else than a wait for standard input.
-pub fn run() {
-    if os::arg_count() > 1 {
-        explain();
-    } else {
-        list(STDIN_FILENO, STDOUT_FILENO);
+pub fn run<R: Env + io::Input + Print, E: Eprint>(rt: &R, err: &E) {
+    let mut word = [0u8; 6];
+    match rt.arg(1, &mut word) {
+        Err(FillError::NotPresent) => list(&mut rt.reader(), &mut io::writer(rt), err),
+        Err(FillError::TooLong) => explain(false, rt, err),
+        Ok(n) => explain(&word[..n] == b"--help".as_slice(), rt, err),
     }
 }

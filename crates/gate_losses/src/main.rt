@@ -1,39 +1,54 @@
-// What the listing program says where it can't read or write: its functions on a folder, a full device and closed descriptors, and the whole of it
-// on an argument that it does not take. Standard error is a file here, which is shown at the end.
+// What the listing program says where it can't read or write: its functions on a folder, a full device and files that are open for the other thing, and
+// the whole of it on an argument that it does not take. Standard error is a file here, which is shown at the end.
 #![tactic(auto)]
 
-use libc::{STDERR_FILENO, STDOUT_FILENO};
+use std::fmt::Display;
+use std::fs::File;
+use std::io::Write;
+use std::{fs, io};
 
-// Nothing of these may reach standard output.
-fn try_inputs() {
-    let folder = os::open_read(b".");
-    console::list(folder, STDOUT_FILENO);
-    libc::close(folder);
-    console::list(folder, STDOUT_FILENO);
+// The file that stands for standard error.
+#[derive(Drop)]
+struct Said(File);
+
+impl Eprint for Said {
+    fn eprint<D: Display + Drop>(&self, value: D) -> io::Result<()> {
+        (&self.0).write_fmt(value)
+    }
+
+    fn eprintln<D: Display + Drop>(&self, value: D) -> io::Result<()> {
+        (&self.0).writeln(value)
+    }
 }
 
-fn try_outputs() {
-    let full = os::open_overwrite(b"/dev/full");
-    console::show(b"{ 61 }", full);
-    libc::close(full);
-    console::show(b"{ 61 }", full);
+// Nothing of these may reach standard output. The system refuses to read what is open for writing alone as it refuses a closed descriptor.
+fn try_inputs(rt: &HostRuntime, said: &Said) -> io::Result<()> {
+    let mut folder = fs::open(rt, ".")?;
+    console::list(&mut folder, &mut io::writer(rt), said);
+    let mut unreadable = fs::create(rt, "unreadable")?;
+    console::list(&mut unreadable, &mut io::writer(rt), said);
+    Ok(())
 }
 
-fn tell(path: &[u8]) {
-    let file = os::open_read(path);
-    let mut lines = io::buffer();
-    let n = io::read_full(file, &mut lines);
-    io::write_all(STDOUT_FILENO, &lines[..n]);
-    libc::close(file);
+// The same of writing to what is open for reading alone.
+fn try_outputs(rt: &HostRuntime, said: &Said) -> io::Result<()> {
+    let mut full = fs::create(rt, "/dev/full")?;
+    console::show(b"{ 61 }", &mut full, said);
+    let mut unwritable = fs::open(rt, "/dev/full")?;
+    console::show(b"{ 61 }", &mut unwritable, said);
+    Ok(())
 }
 
-fn main() {
-    let path = b"said";
-    libc::close(STDERR_FILENO);
-    // This gets the lowest number that is free, so it is standard error from here on.
-    os::open_overwrite(path);
-    try_inputs();
-    try_outputs();
-    console::run();
-    tell(path);
+fn tell(rt: &HostRuntime, path: &str) -> io::Result<()> {
+    let lines = fs::read(rt, path)?;
+    rt.write_all(&lines)
+}
+
+fn main(rt: HostRuntime) -> io::Result<()> {
+    let path = "said";
+    let said = Said(fs::create(&rt, path)?);
+    try_inputs(&rt, &said)?;
+    try_outputs(&rt, &said)?;
+    console::run(&rt, &said);
+    tell(&rt, path)
 }
