@@ -2,66 +2,78 @@
 // words: what a text cannot compile to is tried here. What the program must write, the file `stdout`, was made outside: README.md beside it says how.
 #![tactic(auto)]
 
-ghost use Rattle.std.specs.Prelude.{◌≤◌, length};
+ghost use Rattle.std.specs.Prelude.{◌≤◌};
 
 use digits::Numeral;
 use gatekit::Style;
-use libc::STDOUT_FILENO;
 use mirror::MirrorAnswer;
 use nodes::NodeWord;
+use std::io;
 
 fn size(n: u32) -> usize {
     n as usize
 }
 
 // What is left of the mirror's pool, and the used words.
-fn left(pool: &[NodeWord], used: usize) {
-    gatekit::left(pool, used, 512);
-    gatekit::words(pool, used, Style::Hex);
+fn left<P: Print>(rt: &P, pool: &[NodeWord], used: usize) -> io::Result<()> {
+    gatekit::left(rt, pool, used, 512)?;
+    gatekit::words(rt, pool, used, Style::Hex)
 }
 
-fn mirrored(program: &[NodeWord], pool: &mut [NodeWord]) {
+fn mirrored<P: Print>(rt: &P, program: &[NodeWord], pool: &mut [NodeWord]) -> io::Result<()> {
     let r = mirror::mirror(program, pool);
     match r {
         MirrorAnswer::Mirrored(n) => {
-            gatekit::tell(b" ", n as u64);
-            left(pool, n);
+            gatekit::tell(rt, b" ", n as u64)?;
+            left(rt, pool, n)
         }
         MirrorAnswer::Refused(why) => {
-            gatekit::tell(b" refused ", why.number() as u64);
-            left(pool, 0);
+            gatekit::tell(rt, b" refused ", why.number() as u64)?;
+            left(rt, pool, 0)
         }
     }
 }
 
 // Into a pool that has room, and into one that is a word too short.
-fn mirrors(program: &[NodeWord]) {
+fn mirrors<P: Print>(rt: &P, program: &[NodeWord]) -> io::Result<()> {
     let mut pool = [gatekit::OLD; 516];
-    io::write_all(STDOUT_FILENO, b"\nmirror");
-    mirrored(program, &mut pool);
+    rt.write_all(b"\nmirror")?;
+    mirrored(rt, program, &mut pool)?;
     let mut short = [gatekit::OLD; 511];
-    io::write_all(STDOUT_FILENO, b"\nshort");
-    mirrored(program, &mut short);
+    rt.write_all(b"\nshort")?;
+    mirrored(rt, program, &mut short)
 }
 
-fn checks(program: &[NodeWord], hay: &[u8], start: usize, end: usize) {
-    io::write_all(STDOUT_FILENO, b"\nforward");
-    gatekit::found(checkdoors::forward(program, hay, start, end));
-    io::write_all(STDOUT_FILENO, b"\nleft");
-    gatekit::hex(checkdoors::left_forward(program, hay, start, end));
-    io::write_all(STDOUT_FILENO, b"\nreverse");
-    gatekit::found(checkdoors::reverse(program, hay, start, end));
+fn checks<P: Print>(
+    rt: &P,
+    program: &[NodeWord],
+    hay: &[u8],
+    start: usize,
+    end: usize,
+) -> io::Result<()> {
+    rt.write_all(b"\nforward")?;
+    gatekit::found(rt, checkdoors::forward(program, hay, start, end))?;
+    rt.write_all(b"\nleft")?;
+    gatekit::hex(rt, checkdoors::left_forward(program, hay, start, end))?;
+    rt.write_all(b"\nreverse")?;
+    gatekit::found(rt, checkdoors::reverse(program, hay, start, end))
 }
 
-fn answers(program: &[NodeWord], hay: &[u8], start: usize, end: usize) {
+fn answers<P: Print>(
+    rt: &P,
+    program: &[NodeWord],
+    hay: &[u8],
+    start: usize,
+    end: usize,
+) -> io::Result<()> {
     if sound::is_sound(program) {
-        io::write_all(STDOUT_FILENO, b"sound");
+        rt.write_all(b"sound")?;
     } else {
-        io::write_all(STDOUT_FILENO, b"unsound");
+        rt.write_all(b"unsound")?;
     }
-    checks(program, hay, start, end);
-    mirrors(program);
-    io::write_all(STDOUT_FILENO, b"\n");
+    checks(rt, program, hay, start, end)?;
+    mirrors(rt, program)?;
+    rt.write_all(b"\n")
 }
 
 // What a word becomes by one more hex digit.
@@ -74,83 +86,75 @@ fn longer(w: NodeWord, v: u8) -> NodeWord
 // The word that is spelt in hex.
 fn word(hex: &[u8]) -> NodeWord {
     let mut w = 0;
-    let mut i = 0;
-    while i < hex.len() {
-        w = longer(w, gatekit::value(hex[i]));
-        i += 1;
+    for c in hex {
+        w = longer(w, gatekit::value(*c));
     }
     w
 }
 
 // The words that are spelt in hex, a blank before each, as far as there is room; how many they are.
 fn unhex_words(text: &[u8], pool: &mut [NodeWord]) -> usize {
-    let mut at = 0;
-    let mut n = 0;
-    while n < pool.len() {
-        if text.len() <= at {
+    let mut rest = text;
+    for n in 0..pool.len() {
+        let Some((_, spelt)) = rest.split_first() else {
             return n;
-        }
-        let end = bytes::scan::find(text, at + 1, text.len(), b' ');
-        pool[n] = word(&text[at + 1..end]);
-        at = end;
-        n += 1;
+        };
+        let end = gatekit::blank(spelt);
+        pool[n] = word(&spelt[..end]);
+        rest = &spelt[end..];
     }
-    n
+    pool.len()
 }
 
 // The words of a program, on a haystack.
-fn program(text: &[u8], hay: &[u8], start: usize, end: usize) {
+fn program<P: Print>(rt: &P, text: &[u8], hay: &[u8], start: usize, end: usize) -> io::Result<()> {
     let mut pool: [NodeWord; 600] = [0; 600];
     let count = gatekit::least(unhex_words(text, &mut pool), 600);
-    answers(&pool[0..count], hay, start, end);
+    answers(rt, &pool[0..count], hay, start, end)
 }
 
 // The window's bounds and the words.
-fn window(text: &[u8], hay: &[u8]) {
+fn window<P: Print>(rt: &P, text: &[u8], hay: &[u8]) -> io::Result<()> {
     let Numeral::Number(start, _, next) = digits::number(text, 0) else {
-        return;
+        return Ok(());
     };
     let Numeral::Number(end, rest, _) = digits::number(text, next) else {
-        return;
+        return Ok(());
     };
     if text.len() < rest {
-        return;
+        return Ok(());
     }
-    program(&text[rest..], hay, size(start), size(end));
+    program(rt, &text[rest..], hay, size(start), size(end))
 }
 
-fn case(line: &[u8]) {
-    let blank = bytes::scan::find(line, 0, line.len(), b' ');
+fn case<P: Print>(rt: &P, line: &[u8]) -> io::Result<()> {
+    let blank = gatekit::blank(line);
     if blank == line.len() {
-        return;
+        return Ok(());
     }
     let mut hay = [0u8; 512];
     let n = gatekit::unhex(&line[0..blank], &mut hay);
-    window(&line[blank + 1..], &hay[..n]);
+    window(rt, &line[blank + 1..], &hay[..n])
 }
 
 // Of a line that is no heading the first bytes, and then the answers.
-fn line(l: &[u8]) {
-    if gatekit::heading(l) {
-        return;
+fn line<P: Print>(rt: &P, l: &[u8]) -> io::Result<()> {
+    if gatekit::heading(rt, l)? {
+        return Ok(());
     }
-    gatekit::show(l);
-    case(l);
+    gatekit::show(rt, l)?;
+    case(rt, l)
 }
 
-fn lines(text: &[u8])
-    requires { length text.now ≤ 65536 }
-{
-    let mut at = 0;
-    while at < text.len() {
-        let end = bytes::scan::find(text, at, text.len(), b'\n');
-        line(&text[at..end]);
-        at = end + 1;
+fn lines<P: Print>(rt: &P, text: &[u8]) -> io::Result<()> {
+    for l in text.split_inclusive(|c| *c == b'\n') {
+        line(rt, gatekit::without_end(l))?;
     }
+    Ok(())
 }
 
-fn main() {
+fn main(rt: HostRuntime) -> io::Result<()> {
     let mut text = [0u8; 65536];
-    let n = gatekit::load(b"programs", &mut text);
-    lines(&text[..n]);
+    let n = gatekit::load(&rt, "programs", &mut text)?;
+    lines(&rt, &text[..n])
 }

@@ -3,71 +3,73 @@
 
 use digits::Numeral;
 use gatekit::Style;
-use libc::{STDIN_FILENO, STDOUT_FILENO};
 use readdoor::ReadAnswer;
+use std::io;
 
-fn left(pool: &[u32], used: usize) {
-    gatekit::tokens_left(pool, used, 4096);
-    io::write_all(STDOUT_FILENO, b"\n");
+fn left<P: Print>(rt: &P, pool: &[u32], used: usize) -> io::Result<()> {
+    gatekit::tokens_left(rt, pool, used, 4096)?;
+    rt.write_all(b"\n")
 }
 
-fn one(text: &[u8], pool: &mut [u32]) {
+fn one<P: Print>(rt: &P, text: &[u8], pool: &mut [u32]) -> io::Result<()> {
     let r = readdoor::read(text, pool);
     match r {
         ReadAnswer::Read { end, words } => {
-            gatekit::tell(b"read ", end as u64);
-            gatekit::tell(b" words ", words as u64);
-            left(pool, words);
+            gatekit::tell(rt, b"read ", end as u64)?;
+            gatekit::tell(rt, b" words ", words as u64)?;
+            left(rt, pool, words)?;
             if words <= 64 {
-                gatekit::tokens(pool, words, Style::Entries);
+                gatekit::tokens(rt, pool, words, Style::Entries)?;
             }
+            Ok(())
         }
         ReadAnswer::Refused(code, place) => {
-            gatekit::refused(code, place);
-            left(pool, 0);
+            gatekit::refused(rt, code, place)?;
+            left(rt, pool, 0)
         }
     }
 }
 
 // The four words beyond the 4,096 that a call may write must stay.
-fn roomy(text: &[u8]) {
+fn roomy<P: Print>(rt: &P, text: &[u8]) -> io::Result<()> {
     let mut pool = [gatekit::OLD_TOKEN; 4100];
-    one(text, &mut pool);
+    one(rt, text, &mut pool)
 }
 
 // A word less than a call wants.
-fn short(text: &[u8]) {
+fn short<P: Print>(rt: &P, text: &[u8]) -> io::Result<()> {
     let mut pool = [gatekit::OLD_TOKEN; 4095];
-    one(text, &mut pool);
+    one(rt, text, &mut pool)
 }
 
-fn run(input: &[u8]) {
+fn run<P: Print>(rt: &P, input: &[u8]) -> io::Result<()> {
     let mut at = 0;
     while at < input.len() {
         let size = digits::number(input, at);
         let Numeral::Number(n, stop, _) = size else {
-            return;
+            return Ok(());
         };
         if input.len() <= stop {
-            return;
+            return Ok(());
         }
         let start = stop + 1;
         if input.len() - start < n as usize {
-            return;
+            return Ok(());
         }
         let end = start + n as usize;
         if end < at {
-            return;
+            return Ok(());
         }
-        roomy(&input[start..end]);
+        roomy(rt, &input[start..end])?;
         at = end + 1;
     }
+    Ok(())
 }
 
-fn main() {
+fn main(rt: HostRuntime) -> io::Result<()> {
     let mut input = [0u8; 65536];
-    let n = io::read_full(STDIN_FILENO, &mut input);
-    run(&input[..n]);
-    short(b"{ AB }");
-    short(b"{ AG }");
+    let n = gatekit::read_full(&mut rt.reader(), &mut input)?;
+    run(&rt, &input[..n])?;
+    short(&rt, b"{ AB }")?;
+    short(&rt, b"{ AG }")
 }

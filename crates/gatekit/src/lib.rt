@@ -4,12 +4,15 @@
 
 ghost use Rattle.std.specs.Prelude.{◌≤◌, length};
 ghost use Rattle.io.specs.Counts.{IsPrefixLen};
+ghost use Rattle.std.specs.Io.{ReadsAtMost};
 
 use base::Refusal;
 use checkdoors::Answer;
 use digits::Nibble;
-use libc::STDOUT_FILENO;
 use nodes::NodeWord;
+use std::io::Read;
+use std::rt::Files;
+use std::{fs, io};
 
 // The words of a pool hold this before a call, so that what stays shows.
 pub const OLD: NodeWord = 7;
@@ -35,84 +38,57 @@ pub fn least(n: usize, most: usize) -> usize
 }
 
 // A text, and a number after it.
-pub fn tell(text: &[u8], n: u64) {
-    io::write_all(STDOUT_FILENO, text);
-    io::print_decimal(STDOUT_FILENO, n);
+pub fn tell<P: Print>(rt: &P, text: &[u8], n: u64) -> io::Result<()> {
+    rt.write_all(text)?;
+    rt.print(n)
 }
 
-pub fn refused(why: Refusal, place: usize) {
-    tell(b"refused ", why.number() as u64);
-    tell(b" at ", place as u64);
+pub fn refused<P: Print>(rt: &P, why: Refusal, place: usize) -> io::Result<()> {
+    tell(rt, b"refused ", why.number() as u64)?;
+    tell(rt, b" at ", place as u64)
 }
 
 // What a check answers, after a blank.
-pub fn found(r: Answer) {
+pub fn found<P: Print>(rt: &P, r: Answer) -> io::Result<()> {
     match r {
-        Answer::At(n) => tell(b" ", n as u64),
-        Answer::NoMatch => {
-            io::write_all(STDOUT_FILENO, b" no");
-        }
-        Answer::Refused(why) => tell(b" refused ", why.number() as u64),
+        Answer::At(n) => tell(rt, b" ", n as u64),
+        Answer::NoMatch => rt.write_all(b" no"),
+        Answer::Refused(why) => tell(rt, b" refused ", why.number() as u64),
     }
 }
 
 // An entry has four words.
-fn entry_word(w: u64, i: usize) {
-    io::print_decimal(STDOUT_FILENO, w);
-    if i % 4 == 3 {
-        io::write_all(STDOUT_FILENO, b"\n");
-    } else {
-        io::write_all(STDOUT_FILENO, b" ");
-    }
+fn entry_word<P: Print>(rt: &P, w: u64, i: usize) -> io::Result<()> {
+    let after = if i % 4 == 3 { "\n" } else { " " };
+    print!(rt; "{w}{after}")
 }
 
 // Word number i.
-fn word(w: NodeWord, i: usize, style: Style) {
+fn word<P: Print>(rt: &P, w: NodeWord, i: usize, style: Style) -> io::Result<()> {
     match style {
-        Style::Decimal => tell(b" ", w),
-        Style::Hex => {
-            io::write_all(STDOUT_FILENO, b" ");
-            io::print_hex(STDOUT_FILENO, w, 1);
-        }
-        Style::Entries => entry_word(w, i),
+        Style::Decimal => tell(rt, b" ", w),
+        Style::Hex => print!(rt; " {w:x}"),
+        Style::Entries => entry_word(rt, w, i),
     }
 }
 
 // The first n words of a pool.
-pub fn words(pool: &[NodeWord], n: usize, style: Style) {
-    let mut i = 0;
-    while i < n {
-        if i < pool.len() {
-            word(pool[i], i, style);
-        }
-        i += 1;
+pub fn words<P: Print>(rt: &P, pool: &[NodeWord], n: usize, style: Style) -> io::Result<()> {
+    for (i, w) in pool.iter().take(n).enumerate() {
+        word(rt, *w, i, style)?;
     }
-}
-
-fn one_if(v: NodeWord, w: NodeWord) -> usize
-    ensures { result ≤ 1 }
-{
-    if v == w { 1 } else { 0 }
+    Ok(())
 }
 
 // How many words from `from` up to `to` hold `v`.
 fn holding(pool: &[NodeWord], from: usize, to: usize, v: NodeWord) -> usize {
-    let mut found = 0;
-    let mut i = from;
-    while i < to {
-        if pool.len() <= i {
-            return found;
-        }
-        found += one_if(pool[i], v);
-        i += 1;
-    }
-    found
+    pool.iter().take(to).skip(from).filter(|w| **w == v).count()
 }
 
 // What a call left in a pool of which it may write `size` words: how many of them are 0 after the used ones, and how many beyond are as before.
-pub fn left(pool: &[NodeWord], used: usize, size: usize) {
-    tell(b" zeros ", holding(pool, used, size, 0) as u64);
-    tell(b" old ", holding(pool, size, pool.len(), OLD) as u64);
+pub fn left<P: Print>(rt: &P, pool: &[NodeWord], used: usize, size: usize) -> io::Result<()> {
+    tell(rt, b" zeros ", holding(pool, used, size, 0) as u64)?;
+    tell(rt, b" old ", holding(pool, size, pool.len(), OLD) as u64)
 }
 
 fn wide(w: u32) -> NodeWord {
@@ -121,27 +97,22 @@ fn wide(w: u32) -> NodeWord {
 
 // Tokens, which have narrower words: widened, they are told as the words of a program are.
 fn widen(tokens: &[u32], out: &mut [NodeWord]) {
-    let mut i = 0;
-    while i < tokens.len() {
-        if out.len() <= i {
-            return;
-        }
-        out[i] = wide(tokens[i]);
-        i += 1;
+    for (word, token) in out.iter_mut().zip(tokens) {
+        *word = wide(*token);
     }
 }
 
-pub fn tokens(pool: &[u32], n: usize, style: Style) {
+pub fn tokens<P: Print>(rt: &P, pool: &[u32], n: usize, style: Style) -> io::Result<()> {
     let mut wide: [NodeWord; TOKENS] = [0; TOKENS];
     widen(pool, &mut wide);
-    words(&wide, n, style);
+    words(rt, &wide, n, style)
 }
 
-pub fn tokens_left(pool: &[u32], used: usize, size: usize) {
+pub fn tokens_left<P: Print>(rt: &P, pool: &[u32], used: usize, size: usize) -> io::Result<()> {
     let mut wide: [NodeWord; TOKENS] = [0; TOKENS];
     widen(pool, &mut wide);
     let n = least(pool.len(), TOKENS);
-    left(&wide[0..n], used, size);
+    left(rt, &wide[0..n], used, size)
 }
 
 fn digit(v: u8) -> u8
@@ -151,19 +122,18 @@ fn digit(v: u8) -> u8
 }
 
 // A byte as two digits.
-fn pair(b: u8) {
+fn pair<P: Print>(rt: &P, b: u8) -> io::Result<()> {
     let two = [digit(b / 16), digit(b % 16)];
-    io::write_all(STDOUT_FILENO, &two);
+    rt.write_all(&two)
 }
 
 // A blank, and bytes in hex.
-pub fn hex(bytes: &[u8]) {
-    io::write_all(STDOUT_FILENO, b" ");
-    let mut i = 0;
-    while i < bytes.len() {
-        pair(bytes[i]);
-        i += 1;
+pub fn hex<P: Print>(rt: &P, bytes: &[u8]) -> io::Result<()> {
+    rt.write_all(b" ")?;
+    for b in bytes {
+        pair(rt, *b)?;
     }
+    Ok(())
 }
 
 // The value of a hex digit.
@@ -181,44 +151,74 @@ pub fn value(c: u8) -> u8
 pub fn unhex(hex: &[u8], out: &mut [u8]) -> usize
     ensures { IsPrefixLen result out.new }
 {
-    let mut n = 0;
-    while n < out.len() {
+    for n in 0..out.len() {
         if hex.len() / 2 <= n {
             return n;
         }
         out[n] = 16 * value(digits::peek(hex, 2 * n)) + value(digits::peek(hex, 2 * n + 1));
-        n += 1;
     }
-    n
+    out.len()
 }
 
 // The first bytes of a line.
-pub fn show(line: &[u8]) {
+pub fn show<P: Print>(rt: &P, line: &[u8]) -> io::Result<()> {
     let n = least(64, line.len());
-    io::write_all(STDOUT_FILENO, &line[0..n]);
-    io::write_all(STDOUT_FILENO, b"\n");
+    rt.write_all(&line[0..n])?;
+    rt.write_all(b"\n")
 }
 
 // Writes a heading as it is. Whether the line is one.
-pub fn heading(line: &[u8]) -> bool {
+pub fn heading<P: Print>(rt: &P, line: &[u8]) -> io::Result<bool> {
     if digits::peek(line, 0) != b'#' {
-        return false;
+        return Ok(false);
     }
-    io::write_all(STDOUT_FILENO, line);
-    io::write_all(STDOUT_FILENO, b"\n");
-    true
+    rt.write_all(line)?;
+    rt.write_all(b"\n")?;
+    Ok(true)
+}
+
+// A line of a text that was split behind each end of a line, without that end.
+pub fn without_end(line: &[u8]) -> &[u8] {
+    match line.strip_suffix(b"\n") {
+        Some(before) => before,
+        None => line,
+    }
+}
+
+// Where a line's first blank stands, or the line's length.
+pub fn blank(line: &[u8]) -> usize
+    ensures { result ≤ length line.now }
+{
+    match line.iter().position(|c| *c == b' ') {
+        Some(at) => at,
+        None => line.len(),
+    }
+}
+
+// The bytes of an input, as far as there is room; how many they are.
+pub fn read_full<R: Read>(from: &mut R, out: &mut [u8]) -> io::Result<usize>
+    ensures { ReadsAtMost result out.new }
+{
+    let mut done = 0;
+    while done < out.len() {
+        let more = from.read(&mut out[done..])?;
+        if more == 0 {
+            break;
+        }
+        done += more;
+    }
+    Ok(done)
 }
 
 // The bytes of a file, as far as there is room; how many they are. Where it cannot be opened it says so.
-pub fn load(path: &[u8], out: &mut [u8]) -> usize
-    ensures { IsPrefixLen result out.new }
+pub fn load<R: Files + Eprint>(rt: &R, path: &str, out: &mut [u8]) -> io::Result<usize>
+    ensures { ReadsAtMost result out.new }
 {
-    let file = os::open_read(path);
-    if file < 0 {
-        os::fail(path);
-        return 0;
+    match fs::open(rt, path) {
+        Ok(mut file) => read_full(&mut file, out),
+        Err(why) => {
+            eprintln!(rt; "{path}: {why}")?;
+            Ok(0)
+        }
     }
-    let n = io::read_full(file, out);
-    libc::close(file);
-    n
 }
