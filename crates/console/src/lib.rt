@@ -10,7 +10,7 @@ use base::TEXT_LIMIT;
 use lines::Listed;
 use std::env::FillError;
 use std::fmt::{Display, Formatter};
-use std::io::{Read, Write};
+use std::io::{ErrorKind, Read, Write};
 use std::rt::Env;
 use std::{fmt, io};
 
@@ -56,7 +56,7 @@ impl Display for Reason {
         let mut room = [0u8; 256];
         let mut rest = &mut room[..];
         let _ = rest.write_fmt(&self.0);
-        let n = 256 - rest.len();
+        let n = 256usize.saturating_sub(rest.len());
         match str::from_utf8(&room[..n]) {
             Ok(said) => f.write_str(words(said)),
             Err(_) => Err(fmt::Error),
@@ -70,10 +70,13 @@ fn complain<E: Eprint>(err: &E, what: &str, why: io::Error) {
     let _ = eprintln!(err; "listing: {what}: {why}");
 }
 
-// Writes all of the bytes, or says why it could not.
+// Writes all of the bytes, or says why it could not. Of a pipe whose reader went away nothing is said: a signal ends a program for that, which the
+// runtime has ignored.
 fn write_out<W: Write, E: Eprint>(to: &mut W, bytes: &[u8], err: &E) {
-    if let Err(why) = to.write_all(bytes) {
-        complain(err, "standard output cannot be written", why);
+    match to.write_all(bytes) {
+        Ok(()) => {}
+        Err(why) if why.kind() == ErrorKind::BrokenPipe => {}
+        Err(why) => complain(err, "standard output cannot be written", why),
     }
 }
 

@@ -2,8 +2,7 @@
 // what is written; each program is held to its file `stdout`, and so are these.
 #![tactic(auto)]
 
-ghost use Rattle.std.specs.Prelude.{◌≤◌, length};
-ghost use Rattle.io.specs.Counts.{IsPrefixLen};
+ghost use Rattle.std.specs.Prelude.{◌≡◌, ◌≤◌, length, take};
 ghost use Rattle.std.specs.Io.{ReadsAtMost};
 
 use base::Refusal;
@@ -149,7 +148,8 @@ pub fn value(c: u8) -> u8
 
 // The bytes that are spelt in hex, as far as there is room; how many they are.
 pub fn unhex(hex: &[u8], out: &mut [u8]) -> usize
-    ensures { IsPrefixLen result out.new }
+    ensures in_bounds { result ≤ length out.new }
+    ensures prefix { result ≡ length (take result out.new) }
 {
     for n in 0..out.len() {
         if hex.len() / 2 <= n {
