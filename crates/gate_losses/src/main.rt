@@ -25,7 +25,7 @@ impl Eprint for Said {
 fn try_inputs(rt: &HostRuntime, said: &Said) -> io::Result<()> {
     let mut folder = fs::open(rt, ".")?;
     console::list(&mut folder, &mut io::writer(rt), said);
-    let mut unreadable = fs::create(rt, "unreadable")?;
+    let mut unreadable = fs::create(rt, "/dev/null")?;
     console::list(&mut unreadable, &mut io::writer(rt), said);
     Ok(())
 }
@@ -34,7 +34,7 @@ fn try_inputs(rt: &HostRuntime, said: &Said) -> io::Result<()> {
 fn try_outputs(rt: &HostRuntime, said: &Said) -> io::Result<()> {
     let mut full = fs::create(rt, "/dev/full")?;
     console::show(b"{ 61 }", &mut full, said);
-    let mut unwritable = fs::open(rt, "/dev/full")?;
+    let mut unwritable = fs::open(rt, "/dev/null")?;
     console::show(b"{ 61 }", &mut unwritable, said);
     Ok(())
 }
