@@ -9,7 +9,7 @@ use lib.ListN.{length, get_or, length-append}
 use Rattle.base.specs.declared.Refusal.{Refusal}
 use Rattle.base.specs.declared.Refusal.TheVariants.{Unexpected}
 use Rattle.def_meaning.specs.Limits.{token_limit, token_pool}
-use Rattle.def_meaning.specs.Tokens.{Tokens, Lists, Alternatives, neither, ◌or◌}
+use Rattle.def_meaning.specs.Tokens.{Tokens, Lists, Alternatives, neither}
 use Rattle.def_meaning.specs.Entries.{entry, entries_in, entries_of, entries, list_entries, token_count, list_count}
 use Rattle.def_meaning.proofs.TokenLaws.{count_few}
 use Rattle.def_reading.specs.Blanks.{skip}

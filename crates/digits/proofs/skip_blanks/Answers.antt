@@ -1,6 +1,5 @@
 -- What is skipped from here is what is skipped from the start. Assumes nothing.
 use mathlib.Core.Path.{sym, ap, ◌∙◌}
-use Prim.Native.Nat.{◌-◌}
 use lib.ListN.{get_or}
 use Rattle.def_reading.specs.Blanks.{blank}
 use Rattle.def_reading.proofs.PieceLaws.{here_in, blank_pos, skip_none, skip_next}

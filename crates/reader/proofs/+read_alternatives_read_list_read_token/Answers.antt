@@ -2,7 +2,7 @@
 use mathlib.Core.Path.{◌≡◌, sym, ap, ◌∙◌, subst}
 use mathlib.Core.Bool.{Bool}
 use Prim.Native.Char.{code}
-use Prim.Native.Nat.{◌+◌, ◌-◌, ◌≤◌}
+use Prim.Native.Nat.{◌+◌, ◌≤◌}
 use native.Mathlib.Omega.{arith}
 use lib.ListN.{length}
 use Rattle.base.specs.declared.Refusal.TheVariants.{HexStringTooDeep, TooManyTokens}
@@ -18,7 +18,6 @@ use Rattle.reader.proofs.SaysLaws.{says_same, says_read, says_absent, says_refus
 use Rattle.reader.proofs.ListLoop.{Tokened, stepped, tokened_start, tokened_next, tokened_end, tokened_stop}
 use Rattle.reader.proofs.AlternativesLoop.{ListsRead, turned, lists_read_start, lists_read_next, lists_read_done, lists_read_else, lists_read_missing, lists_read_stop}
 use Prim.Native.Nat.{ℕ}
-use borrow.Fn.PlainCycle.{is}
 use Rattle.reader.proofs.+read_alternatives_read_list_read_token.Goals as goal
 
 pub read_alternatives-returns-then-peek-ne40 : goal.read_alternatives-returns-then-peek-ne40

@@ -1,7 +1,6 @@
 -- The cycle of calls {branches, check, choices, jumps} meets its contracts. Every loop keeps: the answer for the whole is the
 -- answer for what is left. Each call is at fewer words, or at as many on the way from check to choices to jumps or branches. Assumes nothing.
 use mathlib.Core.Path.{sym, ap, subst, ◌∙◌}
-use mathlib.Core.Logic.{◌⊎◌, ⊎_elim}
 use mathlib.Core.List.{List, reverse}
 use Prim.Native.Nat.{◌-◌, ◌≤◌}
 use native.Mathlib.Omega.{arith}
@@ -24,7 +23,6 @@ use Rattle.steps.proofs.Ranges as ranges
 use Rattle.steps.proofs.Alternatives as alts
 use Rattle.steps.proofs.Choices as choice
 use Prim.Native.Nat.{ℕ}
-use borrow.Fn.PlainCycle.{is}
 use Rattle.def_meaning.proofs.PartLaws.{from, length_from}
 use Rattle.reverse.proofs.+branches_check_choices_jumps.Goals as goal
 use Rattle.reverse.proofs.+branches_check_choices_jumps.Goals.{branches-in-Left+else-loop-n-test, branches-in_default-got}

@@ -8,7 +8,6 @@ use Rattle.def_meaning.specs.Programs.{range, alt, ◌▹◌}
 use Rattle.def_meaning.specs.Rows.{backward}
 use Rattle.def_meaning.specs.Words.{prog, branches_of, Sound, SoundBranches}
 use Rattle.def_meaning.proofs.RunLaws.{below}
-use Rattle.def_meaning.proofs.PartLaws.{from}
 use Rattle.reverse.proofs.+branches_check_choices_jumps.Given as goal
 
 abbrev pub decreases-branches : goal.decreases-branches

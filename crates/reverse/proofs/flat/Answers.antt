@@ -1,6 +1,5 @@
 -- `reverse::flat` meets its contract: what fits the whole is what fits what is left. Assumes nothing.
 use mathlib.Core.Path.{sym, ap, ◌∙◌}
-use mathlib.Core.Bool.{true}
 use mathlib.Core.List.{reverse}
 use lib.ListN.{length-reverse}
 use Rattle.def_meaning.specs.Choices.{long}
