@@ -15,6 +15,6 @@ pub returns : goal.returns
 unfolding has
 returns c =
     λ v h.
-    let ws = c.args.t1.words in
+    let ws = c.args.self.words in
     let word : Fits w64 (get_or ws (v / 64) 0) = search rules in
     four (λ i. 18446744073709551615 - get_or ws i 0) v h ∙ bit_not 64 (get_or ws (v / 64) 0) (v % 64) word.fits (omega arith)

@@ -12,6 +12,6 @@ pub returns : goal.returns
 unfolding has
 returns c =
     λ v h.
-    let ws = c.args.t1.words in
-    let us = c.args.t2.words in
+    let ws = c.args.self.words in
+    let us = c.args.other.words in
     four (λ i. bit_or (get_or ws i 0) (get_or us i 0)) v h ∙ bit_or_lem (get_or ws (v / 64) 0) (get_or us (v / 64) 0) (v % 64)

@@ -10,5 +10,5 @@ use Rattle.bitmap.proofs.Bitmap.with.Goals as goal
 pub returns : goal.returns
 unfolding has
 returns c =
-    let four : length c.args.t1.words ≡ 4 = search rules in
-    λ v h. set_one c.args.t1.words c.args.b v (omega arith)
+    let four : length c.args.self.words ≡ 4 = search rules in
+    λ v h. set_one c.args.self.words c.args.b v (omega arith)
