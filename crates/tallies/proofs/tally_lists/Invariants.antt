@@ -1,7 +1,7 @@
 -- `tallies::tally_lists` meets its contract. Assumes nothing.
 use Rattle.tallies.specs.Tallies.{count_top}
 use Rattle.def_picking.specs.Numbers.{count_in}
-use Rattle.def_picking.specs.Literals.{combinations, combinations_in}
+use Rattle.def_picking.specs.Literals.{combinations_in}
 use Rattle.entries.specs.Words.{lists_in}
 use lib.ListN.{length}
 use mathlib.Core.Path.{◌≡◌}
