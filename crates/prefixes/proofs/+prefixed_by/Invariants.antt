@@ -2,5 +2,5 @@
 use lib.ListN.{length}
 use Rattle.prefixes.proofs.+prefixed_by.Given as goal
 
-abbrev pub decreases-prefixed-by : goal.decreases-prefixed-by
-decreases-prefixed-by l = length a.0.now
+abbrev pub decreases-prefixed_by : goal.decreases-prefixed_by
+decreases-prefixed_by l = length l.ws.now
