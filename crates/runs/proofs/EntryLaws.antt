@@ -12,7 +12,7 @@ use lib.Seq.{take_at, drop_at, drop-drop}
 use borrow.Author.Tests.{ne_eqb}
 use Rattle.def_meaning.specs.Tokens.{Mask, left, right, all, Token, Tokens, Lists, Byte, NotByte, MaskedByte, NotMaskedByte, Jump, Alternatives, nothing, ◌then◌, neither, ◌or◌}
 use Rattle.def_meaning.specs.Values.{Spelled, SpelledMore}
-use Rattle.def_meaning.specs.Entries.{entry, mask_number, token_count, list_count, entries, list_entries}
+use Rattle.def_meaning.specs.Entries.{mask_number, token_count, list_count, entries, list_entries}
 use Rattle.def_meaning.proofs.SoundLaws.{and_left, and_right}
 use Rattle.def_meaning.proofs.TokenLaws.{fours, fours_in}
 use Rattle.def_meaning.proofs.ValueLaws.{any_spelled}
