@@ -10,7 +10,7 @@ use lib.Dec.{leb, ltb}
 use Rattle.def_meaning.specs.Tokens.{Tokens, nothing}
 use Rattle.atoms.specs.Score.{literal_score}
 use Rattle.def_picking.specs.Runs.{runs, parts, is_literal, Slice, slices}
-use Rattle.def_picking.specs.Candidates.{Ranked, ranked, skipped, excessive, Candidate, unranked, chosen, too_many, widened, against, rank_of, best, bytes_of, strong, alone_or, in_run, beats, between, among_runs, in_pattern}
+use Rattle.def_picking.specs.Candidates.{Ranked, ranked, skipped, excessive, Candidate, unranked, chosen, too_many_literals, widened, against, rank_of, best, bytes_of, strong, alone_or, in_run, beats, between, among_runs, in_pattern}
 
 -- each of some things is as asked
 unfoldable pub Every : {A : Type 0} → (A → Type 0) → List A → Type 0
@@ -37,7 +37,7 @@ module _ (Good : Tokens → Type 0) where
   unfoldable pub Holds : Candidate → Type 0
   Holds unranked = Unit {0}
   Holds (chosen n us) = Good us
-  Holds too_many = Unit {0}
+  Holds too_many_literals = Unit {0}
 
   -- a part, if it is a literal
   abbrev pub Literally : Tokens → Type 0
@@ -59,7 +59,7 @@ module _ (Good : Tokens → Type 0) where
   against_holds (chosen m ts) s (ranked n) e w h = holds_by (ltb m n) (chosen n (widened s)) (chosen m ts) (w n e) h
   against_holds (chosen m ts) s skipped e w h = h
   against_holds (chosen m ts) s excessive e w h = tt
-  against_holds too_many s r e w h = tt
+  against_holds too_many_literals s r e w h = tt
 
   best_holds : (ss : List Slice) (c : Candidate) → Every Widely ss → Holds c → Holds (best c ss)
   unfolding best Every
@@ -85,8 +85,8 @@ module _ (Good : Tokens → Type 0) where
   between_holds unranked d h k = k
   between_holds (chosen m ts) unranked h k = h
   between_holds (chosen m ts) (chosen n us) h k = holds_by (beats n us m ts) (chosen n us) (chosen m ts) k h
-  between_holds (chosen m ts) too_many h k = tt
-  between_holds too_many d h k = tt
+  between_holds (chosen m ts) too_many_literals h k = tt
+  between_holds too_many_literals d h k = tt
 
   among_holds : (rs : List Tokens) (c : Candidate) → Every (λ r. Holds (in_run r)) rs → Holds c → Holds (among_runs c rs)
   unfolding among_runs Every
@@ -102,4 +102,4 @@ pub holds_map : (asked told : Tokens → Type 0) → ((us : Tokens) → asked us
 unfolding Holds
 holds_map asked told f unranked h = tt
 holds_map asked told f (chosen n us) h = f us h
-holds_map asked told f too_many h = tt
+holds_map asked told f too_many_literals h = tt

@@ -13,7 +13,7 @@ use Rattle.def_meaning.specs.Values.{Bytes, Filled}
 use Rattle.def_meaning.specs.Tokens.{Token, Tokens, Byte, NotByte, MaskedByte, NotMaskedByte, Jump, Alternatives, nothing, ◌then◌, Spans, ◌⊕◌, total}
 use Rattle.def_picking.specs.Literals.{literals, length_of, length_in, NonemptyOf, Nonempty}
 use Rattle.def_picking.specs.Runs.{plain_alternatives}
-use Rattle.def_picking.specs.Candidates.{Candidate, unranked, chosen, too_many, in_pattern, picked, unpicked, taking, pick}
+use Rattle.def_picking.specs.Candidates.{Candidate, unranked, chosen, too_many_literals, in_pattern, picked, unpicked, taking, pick}
 use Rattle.def_picking.proofs.MatchLaws.{literals_are_spans}
 use Rattle.def_picking.proofs.NumberLaws.{count_literals}
 use Rattle.def_picking.proofs.LengthLaws.{literal_lengths}
@@ -37,7 +37,7 @@ picked_from ts n ls h = go (plain_alternatives ts) (in_pattern ts) refl refl h
         let a : m ≡ n = cc in
         let b : literals us ≡ ls = cc in
         inr (us, record { plainly = p; given = e ∙ ap (λ (k : ℕ). chosen k us) a; theirs = sym b })
-    go true too_many p e q = absurd (let z : ◌≡◌ {A = ℕ} 0 1 = cc in omega arith)
+    go true too_many_literals p e q = absurd (let z : ◌≡◌ {A = ℕ} 0 1 = cc in omega arith)
     go false c p e q = absurd (let z : ◌≡◌ {A = ℕ} 0 1 = cc in omega arith)
 
 -- at most 256 literals are picked

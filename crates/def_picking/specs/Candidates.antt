@@ -51,7 +51,7 @@ rank ts = combined (ltb combination_limit (combinations ts)) ts
 pub data Candidate : Type 0 where
   unranked : Candidate
   chosen : ℕ → Tokens → Candidate
-  too_many : Candidate
+  too_many_literals : Candidate
 
 -- a slice with the literal parts on either side
 unfoldable pub widened : Slice → Tokens
@@ -61,11 +61,11 @@ widened (slice prior own next) = prior ⊕ (own ⊕ next)
 unfoldable pub against : Candidate → Slice → Ranked → Candidate
 against unranked s (ranked n) = chosen n (widened s)
 against unranked s skipped = unranked
-against unranked s excessive = too_many
+against unranked s excessive = too_many_literals
 against (chosen m ts) s (ranked n) = cond (ltb m n) (chosen n (widened s)) (chosen m ts)
 against (chosen m ts) s skipped = chosen m ts
-against (chosen m ts) s excessive = too_many
-against too_many s r = too_many
+against (chosen m ts) s excessive = too_many_literals
+against too_many_literals s r = too_many_literals
 
 unfoldable pub rank_of : Slice → Ranked
 rank_of (slice prior own next) = rank own
@@ -110,8 +110,8 @@ unfoldable pub between : Candidate → Candidate → Candidate
 between unranked c = c
 between (chosen m ts) unranked = chosen m ts
 between (chosen m ts) (chosen n us) = cond (beats n us m ts) (chosen n us) (chosen m ts)
-between (chosen m ts) too_many = too_many
-between too_many c = too_many
+between (chosen m ts) too_many_literals = too_many_literals
+between too_many_literals c = too_many_literals
 
 unfoldable pub among_runs : Candidate → List Tokens → Candidate
 among_runs c [] = c
@@ -130,7 +130,7 @@ pub data Picked : Type 0 where
 unfoldable pub taking : Candidate → Picked
 taking unranked = picked 0 []
 taking (chosen n ts) = picked n (literals ts)
-taking too_many = unpicked TooManyLiterals
+taking too_many_literals = unpicked TooManyLiterals
 
 -- 19, then 17
 unfoldable pub pick : Tokens → Picked

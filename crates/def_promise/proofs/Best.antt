@@ -7,7 +7,7 @@ use mathlib.Core.List.{List, [], ◌∷◌, ◌++◌, append-nil, append_assoc, 
 use Prim.Native.Nat.{ℕ}
 use Rattle.def_meaning.specs.Tokens.{Tokens}
 use Rattle.def_reading.proofs.PieceLaws.{never}
-use Rattle.def_picking.specs.Candidates.{Candidate, unranked, chosen, too_many}
+use Rattle.def_picking.specs.Candidates.{Candidate, unranked, chosen, too_many_literals}
 use Rattle.def_promise.specs.Winners.{FirstBest, Best}
 use Rattle.def_promise.specs.Winners as table
 
@@ -44,9 +44,9 @@ module _ (Beats : Candidate → Candidate → Type 0) where
 
   pub best_one : (cs : List Candidate) {c d : Candidate} → Best Beats cs c → Best Beats cs d → c ≡ d
   best_one cs (table.too_many m) (table.too_many k) = refl
-  best_one cs (table.too_many m) (table.none_ranked a) = a too_many m
+  best_one cs (table.too_many m) (table.none_ranked a) = a too_many_literals m
   best_one cs (table.too_many m) (table.first few f) = absurd (few m)
-  best_one cs (table.none_ranked a) (table.too_many m) = sym (a too_many m)
+  best_one cs (table.none_ranked a) (table.too_many m) = sym (a too_many_literals m)
   best_one cs (table.none_ranked a) (table.none_ranked b) = refl
   best_one cs (table.none_ranked a) (table.first {n = n} {us = us} few f) = sym (a (chosen n us) (first_in cs (chosen n us) f))
   best_one cs (table.first few f) (table.too_many m) = absurd (few m)
@@ -60,8 +60,8 @@ abbrev pub against_next : (ℕ → Tokens → ℕ → Tokens → Bool) → Candi
 against_next over unranked d = d
 against_next over (chosen m ts) unranked = chosen m ts
 against_next over (chosen m ts) (chosen n us) = cond (over n us m ts) (chosen n us) (chosen m ts)
-against_next over (chosen m ts) too_many = too_many
-against_next over too_many d = too_many
+against_next over (chosen m ts) too_many_literals = too_many_literals
+against_next over too_many_literals d = too_many_literals
 
 abbrev pub best_from : (ℕ → Tokens → ℕ → Tokens → Bool) → Candidate → List Candidate → Candidate
 best_from over c [] = c
@@ -72,8 +72,8 @@ abbrev pub Ranking : (ℕ → Tokens → ℕ → Tokens → Type 0) → Candidat
 Ranking Over unranked d = ⊥
 Ranking Over (chosen n us) unranked = Unit {0}
 Ranking Over (chosen n us) (chosen m ts) = Over n us m ts
-Ranking Over (chosen n us) too_many = ⊥
-Ranking Over too_many d = ⊥
+Ranking Over (chosen n us) too_many_literals = ⊥
+Ranking Over too_many_literals d = ⊥
 
 -- it is tested, and it orders
 pub record Ordered (Beats : Candidate → Candidate → Type 0) (Over : ℕ → Tokens → ℕ → Tokens → Type 0) (over : ℕ → Tokens → ℕ → Tokens → Bool) : Type 0 where
@@ -85,8 +85,8 @@ pub record Ordered (Beats : Candidate → Candidate → Type 0) (Over : ℕ → 
   pub outdoes : (n m k : ℕ) (us ts vs : Tokens) → Over n us m ts → (Over k vs m ts → ⊥) → Over n us k vs
 
 module _ (Beats : Candidate → Candidate → Type 0) (Over : ℕ → Tokens → ℕ → Tokens → Type 0) (over : ℕ → Tokens → ℕ → Tokens → Bool) (o : Ordered Beats Over over) where
-  not_full : (cs : List Candidate) (d : Candidate) → (Memᴰ too_many cs → ⊥) → (too_many ≡ d → ⊥) → Memᴰ too_many (cs ++ (d ∷ [])) → ⊥
-  not_full cs d f g m = ⊎_elim f (λ (k : Memᴰ too_many (d ∷ [])). g (Memᴰ.eq_of_singleton k)) (Memᴰ.append_cases cs m)
+  not_full : (cs : List Candidate) (d : Candidate) → (Memᴰ too_many_literals cs → ⊥) → (too_many_literals ≡ d → ⊥) → Memᴰ too_many_literals (cs ++ (d ∷ [])) → ⊥
+  not_full cs d f g m = ⊎_elim f (λ (k : Memᴰ too_many_literals (d ∷ [])). g (Memᴰ.eq_of_singleton k)) (Memᴰ.append_cases cs m)
 
   -- one that comes after all is the best, or the best stays
   comes_first : (cs : List Candidate) (d : Candidate) → ((c : Candidate) → Memᴰ c cs → Beats d c) → FirstBest Beats (cs ++ (d ∷ [])) d
@@ -105,14 +105,14 @@ module _ (Beats : Candidate → Candidate → Type 0) (Over : ℕ → Tokens →
   past_earlier : (n m : ℕ) (us ts : Tokens) (c : Candidate) → Over n us m ts → Ranking Over (chosen m ts) c → Ranking Over (chosen n us) c
   past_earlier n m us ts unranked h k = tt
   past_earlier n m us ts (chosen i vs) h k = o.chains n m i us ts vs h k
-  past_earlier n m us ts too_many h k = k
+  past_earlier n m us ts too_many_literals h k = k
 
-  past_later : (n m : ℕ) (us ts : Tokens) (c : Candidate) → Over n us m ts → (c ≡ too_many → ⊥) → (Ranking Over c (chosen m ts) → ⊥) → Ranking Over (chosen n us) c
+  past_later : (n m : ℕ) (us ts : Tokens) (c : Candidate) → Over n us m ts → (c ≡ too_many_literals → ⊥) → (Ranking Over c (chosen m ts) → ⊥) → Ranking Over (chosen n us) c
   past_later n m us ts unranked h f k = tt
   past_later n m us ts (chosen i vs) h f k = o.outdoes n m i us ts vs h k
-  past_later n m us ts too_many h f k = f refl
+  past_later n m us ts too_many_literals h f k = f refl
 
-  beats_all : (cs : List Candidate) (n m : ℕ) (us ts : Tokens) → (Memᴰ too_many cs → ⊥) → FirstBest Beats cs (chosen m ts) → Over n us m ts → (c : Candidate) → Memᴰ c cs → Beats (chosen n us) c
+  beats_all : (cs : List Candidate) (n m : ℕ) (us ts : Tokens) → (Memᴰ too_many_literals cs → ⊥) → FirstBest Beats cs (chosen m ts) → Over n us m ts → (c : Candidate) → Memᴰ c cs → Beats (chosen n us) c
   beats_all cs n m us ts few f h c q =
       ⊎_elim
       (λ (k : Memᴰ c f.earlier). o.shown (chosen n us) c (past_earlier n m us ts c h (o.told (chosen m ts) c (f.beats_earlier c k))))
@@ -127,22 +127,22 @@ module _ (Beats : Candidate → Candidate → Type 0) (Over : ℕ → Tokens →
   after_none : (cs : List Candidate) → ((c : Candidate) → Memᴰ c cs → c ≡ unranked) → (d : Candidate) → Best Beats (cs ++ (d ∷ [])) d
   after_none cs a unranked = table.none_ranked (λ c m. ⊎_elim (a c) (λ (k : Memᴰ c (unranked ∷ [])). Memᴰ.eq_of_singleton k) (Memᴰ.append_cases cs m))
   after_none cs a (chosen n us) =
-      table.first (not_full cs (chosen n us) (λ m. never (let e = a too_many m in cc)) (λ e. never (cc)))
+      table.first (not_full cs (chosen n us) (λ m. never (let e = a too_many_literals m in cc)) (λ e. never (cc)))
       (comes_first cs (chosen n us) (λ c m. subst (λ (x : Candidate). Beats (chosen n us) x) (sym (a c m)) (o.shown (chosen n us) unranked tt)))
-  after_none cs a too_many = table.too_many (Memᴰ.append_right cs (Memᴰ.head refl))
+  after_none cs a too_many_literals = table.too_many (Memᴰ.append_right cs (Memᴰ.head refl))
 
-  after_first : (cs : List Candidate) (m : ℕ) (ts : Tokens) → (Memᴰ too_many cs → ⊥) → FirstBest Beats cs (chosen m ts) → (d : Candidate) → Best Beats (cs ++ (d ∷ [])) (against_next over (chosen m ts) d)
+  after_first : (cs : List Candidate) (m : ℕ) (ts : Tokens) → (Memᴰ too_many_literals cs → ⊥) → FirstBest Beats cs (chosen m ts) → (d : Candidate) → Best Beats (cs ++ (d ∷ [])) (against_next over (chosen m ts) d)
   after_first cs m ts few f unranked =
       table.first (not_full cs unranked few (λ e. never (cc))) (stays_first cs (chosen m ts) unranked f (λ h. o.told unranked (chosen m ts) h))
   after_first cs m ts few f (chosen n us) = go (over n us m ts) refl
     where
-      full : Memᴰ too_many (cs ++ (chosen n us ∷ [])) → ⊥
+      full : Memᴰ too_many_literals (cs ++ (chosen n us ∷ [])) → ⊥
       full = not_full cs (chosen n us) few (λ e. never (cc))
 
       go : (b : Bool) → over n us m ts ≡ b → Best Beats (cs ++ (chosen n us ∷ [])) (cond b (chosen n us) (chosen m ts))
       go true e = table.first full (comes_first cs (chosen n us) (beats_all cs n m us ts few f (o.passes n m us ts e)))
       go false e = table.first full (stays_first cs (chosen m ts) (chosen n us) f (λ h. o.fails n m us ts e (o.told (chosen n us) (chosen m ts) h)))
-  after_first cs m ts few f too_many = table.too_many (Memᴰ.append_right cs (Memᴰ.head refl))
+  after_first cs m ts few f too_many_literals = table.too_many (Memᴰ.append_right cs (Memᴰ.head refl))
 
   next_best : (cs : List Candidate) {c : Candidate} (d : Candidate) → Best Beats cs c → Best Beats (cs ++ (d ∷ [])) (against_next over c d)
   next_best cs d (table.too_many m) = table.too_many (Memᴰ.append_left (d ∷ []) m)

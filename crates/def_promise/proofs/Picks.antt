@@ -15,7 +15,7 @@ use Rattle.def_grammar.specs.Grammar.{Derives}
 use Rattle.def_grammar.proofs.Derivable.{accepted_derived, derived_accepted}
 use Rattle.def_grammar.proofs.FaultLaws.{fault_exactly}
 use Rattle.def_picking.specs.Runs.{plain_alternatives}
-use Rattle.def_picking.specs.Candidates.{Candidate, unranked, chosen, too_many, in_pattern, Picked, picked, unpicked, taking, pick}
+use Rattle.def_picking.specs.Candidates.{Candidate, unranked, chosen, too_many_literals, in_pattern, Picked, picked, unpicked, taking, pick}
 use Rattle.generator.specs.declared.Wrote.TheVariants.{All, NoRoom}
 use Rattle.generator.specs.Output as output
 use Rattle.generator.proofs.OutputLaws.{all_fit, too_short}
@@ -36,7 +36,7 @@ picked_yields ts = go (plain_alternatives ts) refl (in_pattern ts) refl
     go : (b : Bool) → plain_alternatives ts ≡ b → (c : Candidate) → in_pattern ts ≡ c → Yields ts (cond b (taking c) (unpicked NotPlain))
     go true h unranked e = table.none_ranked h ((pattern_wins ts unranked).0 e)
     go true h (chosen n us) e = table.winner h ((pattern_wins ts (chosen n us)).0 e)
-    go true h too_many e = table.too_many h ((pattern_wins ts too_many).0 e)
+    go true h too_many_literals e = table.too_many h ((pattern_wins ts too_many_literals).0 e)
     go false h c e = table.not_plain h
 
 pick_taking : (ts : Tokens) (c : Candidate) → plain_alternatives ts ≡ true → Wins ts c → pick ts ≡ taking c
@@ -46,7 +46,7 @@ pick_taking ts c h w = ap (λ (b : Bool). cond b (taking (in_pattern ts)) (unpic
 yields_picked : {ts : Tokens} {p : Picked} → Yields ts p → pick ts ≡ p
 unfolding pick taking
 yields_picked {ts} (table.not_plain h) = ap (λ (b : Bool). cond b (taking (in_pattern ts)) (unpicked NotPlain)) h
-yields_picked {ts} (table.too_many h w) = pick_taking ts too_many h w
+yields_picked {ts} (table.too_many h w) = pick_taking ts too_many_literals h w
 yields_picked {ts} (table.none_ranked h w) = pick_taking ts unranked h w
 yields_picked {ts} (table.winner {rank = n} {us = us} h w) = pick_taking ts (chosen n us) h w
 

@@ -16,7 +16,7 @@ use Rattle.atoms.specs.Score.{literal_score}
 use Rattle.def_reading.proofs.PieceLaws.{never}
 use Rattle.def_picking.specs.Literals.{literals, combinations}
 use Rattle.def_picking.specs.Runs.{runs, parts, is_literal, Slice, slice, slices}
-use Rattle.def_picking.specs.Candidates.{least, Ranked, ranked, skipped, excessive, rank_value, counted, combined, rank, Candidate, unranked, chosen, too_many, widened, against, rank_of, best, bytes_of, strong, alone_or, in_run, beats, between, among_runs, in_pattern}
+use Rattle.def_picking.specs.Candidates.{least, Ranked, ranked, skipped, excessive, rank_value, counted, combined, rank, Candidate, unranked, chosen, too_many_literals, widened, against, rank_of, best, bytes_of, strong, alone_or, in_run, beats, between, among_runs, in_pattern}
 use Rattle.def_picking.proofs.RefusalLaws.{excessive_is}
 use Rattle.def_promise.proofs.Best.{against_next, best_from, Ranking, Ordered, best_is}
 use Rattle.def_promise.specs.Winners.{Offers, Each, Higher, Better, Best, Strong, NoneStrong, WinsRun, Wins}
@@ -39,8 +39,8 @@ higher_shown : (c d : Candidate) → Ranking RankOver c d → Higher c d
 higher_shown unranked d h = absurd h
 higher_shown (chosen n us) unranked h = table.over_none
 higher_shown (chosen n us) (chosen m ts) h = table.above h
-higher_shown (chosen n us) too_many h = absurd h
-higher_shown too_many d h = absurd h
+higher_shown (chosen n us) too_many_literals h = absurd h
+higher_shown too_many_literals d h = absurd h
 
 higher_ordered : Ordered Higher RankOver rank_over
 higher_ordered = record {
@@ -69,8 +69,8 @@ better_shown unranked d h = absurd h
 better_shown (chosen n us) unranked h = table.higher table.over_none
 better_shown (chosen n us) (chosen m ts) (inl h) = table.higher (table.above h)
 better_shown (chosen n us) (chosen m ts) (inr (e, h)) = subst (λ (k : ℕ). Better (chosen n us) (chosen k ts)) (sym e) (table.longer h)
-better_shown (chosen n us) too_many h = absurd h
-better_shown too_many d h = absurd h
+better_shown (chosen n us) too_many_literals h = absurd h
+better_shown too_many_literals d h = absurd h
 
 beats_passes : (n m : ℕ) (us ts : Tokens) → beats n us m ts ≡ true → LengthOver n us m ts
 unfolding beats
@@ -140,7 +140,7 @@ module _ {A : Type 0} (Offer : A → Candidate → Type 0) (of : A → Candidate
 abbrev offered : Slice → Ranked → Candidate
 offered s (ranked n) = chosen n (widened s)
 offered s skipped = unranked
-offered s excessive = too_many
+offered s excessive = too_many_literals
 
 abbrev offer : Slice → Candidate
 offer s = offered s (rank_of s)
@@ -185,7 +185,7 @@ against_offered unranked s excessive = refl
 against_offered (chosen m ts) s (ranked n) = refl
 against_offered (chosen m ts) s skipped = refl
 against_offered (chosen m ts) s excessive = refl
-against_offered too_many s r = refl
+against_offered too_many_literals s r = refl
 
 best_offered : (ss : List Slice) (c : Candidate) → best c ss ≡ best_from rank_over c (map offer ss)
 unfolding best
@@ -280,8 +280,8 @@ unfolding between
 between_next unranked d = refl
 between_next (chosen m ts) unranked = refl
 between_next (chosen m ts) (chosen n us) = refl
-between_next (chosen m ts) too_many = refl
-between_next too_many d = refl
+between_next (chosen m ts) too_many_literals = refl
+between_next too_many_literals d = refl
 
 among_next : (rs : List Tokens) (c : Candidate) → among_runs c rs ≡ best_from beats c (map in_run rs)
 unfolding among_runs

@@ -10,7 +10,7 @@ use Rattle.def_grammar.specs.Grammar.{Derives}
 use Rattle.def_grammar.specs.Faults.{Fault}
 use Rattle.def_picking.specs.Literals.{literals}
 use Rattle.def_picking.specs.Runs.{plain_alternatives}
-use Rattle.def_picking.specs.Candidates.{unranked, chosen, too_many, Picked, picked, unpicked}
+use Rattle.def_picking.specs.Candidates.{unranked, chosen, too_many_literals, Picked, picked, unpicked}
 use Rattle.generator.specs.Output.{over}
 use Rattle.literaldoor.specs.Door as literaldoor
 use Rattle.def_promise.specs.Winners.{Wins}
@@ -18,7 +18,7 @@ use Rattle.def_promise.specs.Winners.{Wins}
 -- what the tokens ts yield: 19, else 17, else the rank and the literals of what wins; where nothing has a rank, no literals and rank 0
 pub data Yields (ts : Tokens) : Picked → Type 0 where
   not_plain : plain_alternatives ts ≡ false → Yields ts (unpicked NotPlain)
-  too_many : plain_alternatives ts ≡ true → Wins ts too_many → Yields ts (unpicked TooManyLiterals)
+  too_many : plain_alternatives ts ≡ true → Wins ts too_many_literals → Yields ts (unpicked TooManyLiterals)
   none_ranked : plain_alternatives ts ≡ true → Wins ts unranked → Yields ts (picked 0 [])
   winner : {rank : ℕ} {us : Tokens} → plain_alternatives ts ≡ true → Wins ts (chosen rank us) → Yields ts (picked rank (literals us))
 

@@ -7,14 +7,14 @@ use Rattle.def_meaning.specs.Tokens.{Tokens, nothing, ◌⊕◌}
 use Rattle.atoms.specs.Score.{literal_score}
 use Rattle.def_picking.specs.Literals.{literals, combinations}
 use Rattle.def_picking.specs.Runs.{runs, parts, is_literal, Slice, slice, slices}
-use Rattle.def_picking.specs.Candidates.{least, rank_value, Candidate, unranked, chosen, too_many, bytes_of}
+use Rattle.def_picking.specs.Candidates.{least, rank_value, Candidate, unranked, chosen, too_many_literals, bytes_of}
 
 -- A slice offers its rank and the literals of the slice with the literal parts on either side. Above 256 combinations it is skipped; if it is not
 -- skipped and its literals exceed 256, they are too many.
 pub data Offers : Slice → Candidate → Type 0 where
   ranks : {prior own next : Tokens} → combinations own ≤ combination_limit → length (literals own) ≤ literal_limit → Offers (slice prior own next) (chosen (rank_value own) (prior ⊕ (own ⊕ next)))
   skipped : {prior own next : Tokens} → combination_limit < combinations own → Offers (slice prior own next) unranked
-  exceeds : {prior own next : Tokens} → combinations own ≤ combination_limit → literal_limit < length (literals own) → Offers (slice prior own next) too_many
+  exceeds : {prior own next : Tokens} → combinations own ≤ combination_limit → literal_limit < length (literals own) → Offers (slice prior own next) too_many_literals
 
 -- what each of some things offers, in their order
 pub data Each {A : Type 0} (Offer : A → Candidate → Type 0) : List A → List Candidate → Type 0 where
@@ -41,9 +41,9 @@ pub record FirstBest (Beats : Candidate → Candidate → Type 0) (cs : List Can
 
 -- 17 if one has too many literals; nothing if none has a rank; else the first of the best
 pub data Best (Beats : Candidate → Candidate → Type 0) (cs : List Candidate) : Candidate → Type 0 where
-  too_many : Memᴰ too_many cs → Best Beats cs too_many
+  too_many : Memᴰ too_many_literals cs → Best Beats cs too_many_literals
   none_ranked : ((c : Candidate) → Memᴰ c cs → c ≡ unranked) → Best Beats cs unranked
-  first : {n : ℕ} {us : Tokens} → (Memᴰ too_many cs → ⊥) → FirstBest Beats cs (chosen n us) → Best Beats cs (chosen n us)
+  first : {n : ℕ} {us : Tokens} → (Memᴰ too_many_literals cs → ⊥) → FirstBest Beats cs (chosen n us) → Best Beats cs (chosen n us)
 
 -- a literal part that scores at least 80
 abbrev pub Strong : Tokens → Type 0

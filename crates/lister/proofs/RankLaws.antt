@@ -15,7 +15,7 @@ use Rattle.atoms.specs.Score.{literal_score}
 use Rattle.atoms.proofs.Laws.{score_le}
 use Rattle.def_picking.specs.Literals.{literals, combinations}
 use Rattle.def_picking.specs.Runs.{runs, parts, Slice, slice, slices}
-use Rattle.def_picking.specs.Candidates.{lowest, least, Ranked, ranked, skipped, excessive, rank_value, counted, combined, rank, Candidate, unranked, chosen, too_many, widened, against, rank_of, best, bytes_of, strong, alone_or, in_run, beats, between, among_runs, in_pattern, picked, pick}
+use Rattle.def_picking.specs.Candidates.{lowest, least, Ranked, ranked, skipped, excessive, rank_value, counted, combined, rank, Candidate, unranked, chosen, too_many_literals, widened, against, rank_of, best, bytes_of, strong, alone_or, in_run, beats, between, among_runs, in_pattern, picked, pick}
 use Rattle.def_picking.proofs.PickedLaws.{Source, picked_from}
 
 lowest_le : (ls : List (List ℕ)) (n : ℕ) → n ≤ 80 → lowest literal_score ls n ≤ 80
@@ -37,7 +37,7 @@ LowRank excessive = Unit {0}
 unfoldable Low : Candidate → Type 0
 Low unranked = Unit {0}
 Low (chosen n ts) = n ≤ 80
-Low too_many = Unit {0}
+Low too_many_literals = Unit {0}
 
 rank_low : (ts : Tokens) → LowRank (rank ts)
 unfolding rank combined counted rank_value
@@ -67,7 +67,7 @@ against_low unranked s excessive e h = tt
 against_low (chosen m ts) s (ranked n) e h = low_by (ltb m n) (chosen n (widened s)) (chosen m ts) e h
 against_low (chosen m ts) s skipped e h = h
 against_low (chosen m ts) s excessive e h = tt
-against_low too_many s r e h = tt
+against_low too_many_literals s r e h = tt
 
 best_low : (ss : List Slice) (c : Candidate) → Low c → Low (best c ss)
 unfolding best
@@ -88,8 +88,8 @@ unfolding between Low
 between_low unranked d h k = k
 between_low (chosen m ts) unranked h k = h
 between_low (chosen m ts) (chosen n us) h k = low_by (beats n us m ts) (chosen n us) (chosen m ts) k h
-between_low (chosen m ts) too_many h k = tt
-between_low too_many d h k = tt
+between_low (chosen m ts) too_many_literals h k = tt
+between_low too_many_literals d h k = tt
 
 among_low : (rs : List Tokens) (c : Candidate) → Low c → Low (among_runs c rs)
 unfolding among_runs

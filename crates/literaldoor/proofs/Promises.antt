@@ -17,7 +17,7 @@ use Rattle.def_meaning.specs.Values.{Bytes}
 use Rattle.def_reading.specs.Lists.{Verdict, accepted, reading}
 use Rattle.def_reading.proofs.PieceLaws.{never}
 use Rattle.def_picking.specs.Runs.{plain_alternatives, runs}
-use Rattle.def_picking.specs.Candidates.{Candidate, unranked, chosen, too_many, in_pattern, Picked, picked, unpicked, taking, pick}
+use Rattle.def_picking.specs.Candidates.{Candidate, unranked, chosen, too_many_literals, in_pattern, Picked, picked, unpicked, taking, pick}
 use Rattle.def_picking.proofs.RefusalLaws.{Some, not_plain_is, too_many_given, too_many_only}
 use Rattle.def_picking.proofs.PickedLaws.{picked_few}
 use Rattle.def_picking.proofs.HoldLaws.{HoldsOne, match_holds_literal}
@@ -68,7 +68,7 @@ never_eighteen ts x h n = go (plain_alternatives ts) (in_pattern ts) refl refl h
     go : (t : Bool) (c : Candidate) → plain_alternatives ts ≡ t → in_pattern ts ≡ c → cond t (taking c) (unpicked NotPlain) ≡ unpicked x → ⊥
     go true unranked p e q = let z : ◌≡◌ {A = ℕ} 0 1 = cc in omega arith
     go true (chosen m us) p e q = let z : ◌≡◌ {A = ℕ} 0 1 = cc in omega arith
-    go true too_many p e q = other TooManyLiterals (λ z. omega arith) q
+    go true too_many_literals p e q = other TooManyLiterals (λ z. omega arith) q
     go false c p e q = other NotPlain (λ z. omega arith) q
 
 refused_number : (e : ℕ) (x : Refusal) (b l : List ℕ) → picked_says e (unpicked x) b l ≡ refuses 18 0 → number_of x ≡ 18

@@ -17,7 +17,7 @@ use Rattle.def_meaning.proofs.PartLaws.{to_end, length_from}
 use Rattle.def_picking.specs.Literals.{taken, is_byte}
 use Rattle.def_picking.specs.Numbers.{count, prefixed, ending, literal_at}
 use Rattle.def_picking.specs.Runs.{is_literal, joins_part, part_before, parts, Slice, literal_only, longer, slices}
-use Rattle.def_picking.specs.Candidates.{Candidate, unranked, chosen, too_many, against, rank_of, best, bytes_of, byte_of, strong, alone_or, in_run}
+use Rattle.def_picking.specs.Candidates.{Candidate, unranked, chosen, too_many_literals, against, rank_of, best, bytes_of, byte_of, strong, alone_or, in_run}
 use Rattle.def_picking.proofs.RefusalLaws.{best_full}
 use Rattle.entries.specs.Words.{tokens_in}
 use Rattle.entries.proofs.StepLaws.{tokens_end}
@@ -70,7 +70,7 @@ module _ (run : List ℕ) (few : length run ≤ token_pool) where
         let e = tokens_end (drop at run) (let d = length-drop at run in omega arith) in
         sym (g.same ∙ ap (λ (x : Tokens). best (winner_says run top) (slices (parts x) (words run prior at))) e)
 
-    pub weighed_full : ((run : List ℕ) → winner_says run top ≡ too_many) → too_many ≡ best unranked (slices (parts (tokens_in run)) nothing)
+    pub weighed_full : ((run : List ℕ) → winner_says run top ≡ too_many_literals) → too_many_literals ≡ best unranked (slices (parts (tokens_in run)) nothing)
     weighed_full e = sym (g.same ∙ ap (λ (c : Candidate). best c (slices (parts (tokens_in (drop at run))) (words run prior at))) (e run) ∙ best_full (slices (parts (tokens_in (drop at run))) (words run prior at)))
 
     pub placed : 4 ≤ length run - at → Placed run prior at
@@ -272,7 +272,7 @@ run_alone run s e f = e ∙ go s e f (strong (parts (tokens_in run))) refl
     go x d n (some p) q = rw q
     go Nothing d n none q = absurd (n refl)
     go (Taken a b m) d n none q = absurd (let r : chosen m (tokens_in (take (b - a) (drop a run))) ≡ unranked = d ∙ ap (λ (o : Option Tokens). alone_or o unranked) q in let z : ◌≡◌ {A = ℕ} 0 1 = cc in omega arith)
-    go TooMany d n none q = absurd (let r : too_many ≡ unranked = d ∙ ap (λ (o : Option Tokens). alone_or o unranked) q in let z : ◌≡◌ {A = ℕ} 0 1 = cc in omega arith)
+    go TooMany d n none q = absurd (let r : too_many_literals ≡ unranked = d ∙ ap (λ (o : Option Tokens). alone_or o unranked) q in let z : ◌≡◌ {A = ℕ} 0 1 = cc in omega arith)
 
 pub run_slice : (run : List ℕ) (s t : Winner) → winner_says run s ≡ alone_or (strong (parts (tokens_in run))) unranked → s ≡ Nothing → winner_says run t ≡ best unranked (slices (parts (tokens_in run)) nothing) → winner_says run t ≡ in_run (tokens_in run)
 unfolding in_run alone_or

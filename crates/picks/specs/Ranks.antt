@@ -2,7 +2,7 @@
 -- To be believed: nothing.
 use Rattle.std.specs.Prelude.{◌≡◌, List, ℕ, ◌-◌, ◌≤◌, take, drop}
 use Rattle.def_picking.specs.Runs.{Slice}
-use Rattle.def_picking.specs.Candidates.{Ranked, ranked, skipped, excessive, Candidate, unranked, chosen, too_many, against}
+use Rattle.def_picking.specs.Candidates.{Ranked, ranked, skipped, excessive, Candidate, unranked, chosen, too_many_literals, against}
 use Rattle.entries.specs.Words.{tokens_in}
 use Rattle.picks.specs.declared.Rank.{Rank}
 use Rattle.picks.specs.declared.Rank.TheVariants.{Of, Skipped, TooMany}
@@ -18,7 +18,7 @@ rank_says TooMany = excessive
 abbrev pub winner_says : List ℕ → Winner → Candidate
 winner_says run Nothing = unranked
 winner_says run (Taken from to n) = chosen n (tokens_in (take (to - from) (drop from run)))
-winner_says run Overfull = too_many
+winner_says run Overfull = too_many_literals
 
 -- to the best so far the answer is as good as the rank
 abbrev pub Settles : Winner → Rank → Ranked → Type 0
