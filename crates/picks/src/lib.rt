@@ -4,7 +4,7 @@
 
 ghost use Rattle.std.specs.Prelude.{◌≡◌, true, List, ℕ, ◌-◌, take, drop};
 ghost use Rattle.def_picking.specs.Runs.{Slice};
-ghost use Rattle.def_picking.specs.Candidates.{ranked, widened, against, too_many};
+ghost use Rattle.def_picking.specs.Candidates.{ranked, widened, against, too_many_literals};
 ghost use Rattle.entries.specs.Words.{tokens_in};
 ghost use Rattle.picks.specs.Ranks.{rank_says, winner_says, Beaten};
 
@@ -63,7 +63,7 @@ pub fn ranked_against(best: Winner, from: usize, to: usize, rank: Rank) -> Winne
 
 // Too many literals somewhere, which no further slice changes.
 pub fn is_full(best: Winner) -> bool
-    ensures { result ≡ true → (run : List ℕ) → winner_says run best ≡ too_many }
+    ensures { result ≡ true → (run : List ℕ) → winner_says run best ≡ too_many_literals }
 {
     match best {
         Winner::Nothing => false,
