@@ -11,7 +11,7 @@ use Rattle.base.specs.declared.Refusal.{Refusal}
 use Rattle.base.specs.Refusals.{number_of}
 use Rattle.base.specs.Pools.{cleared}
 use Rattle.def_meaning.specs.Limits.{token_pool, node_pool}
-use Rattle.def_meaning.specs.Tokens.{Tokens, ◌or◌}
+use Rattle.def_meaning.specs.Tokens.{Tokens}
 use Rattle.def_meaning.specs.Values.{Spelled}
 use Rattle.def_meaning.specs.Entries.{entries}
 use Rattle.def_reading.specs.Lists.{accepted, rejected, reading}
@@ -24,7 +24,7 @@ use Rattle.def_compiling.specs.Compile.{Compiled, compiled, refused, compile}
 use Rattle.compiler.specs.declared.Made.{Made}
 use Rattle.compiler.specs.Made.{Fills}
 use Rattle.compiler.specs.Walks.{Entered}
-use Rattle.compiledoor.specs.Door.{CompileSaid, refuses, compile_said, made_says, compiled_says, verdict_says, compiled_forward, compiled_reverse, verdict_forward, verdict_reverse, room, compile_says, forward_leaves, reverse_leaves, TextFills}
+use Rattle.compiledoor.specs.Door.{CompileSaid, refuses, made_says, compiled_says, verdict_says, compiled_forward, compiled_reverse, verdict_forward, verdict_reverse, room, compile_says, forward_leaves, reverse_leaves, TextFills}
 
 -- what was read stands in the pool
 pub record Got (t q : List ℕ) (e u : ℕ) : Type 0 where
