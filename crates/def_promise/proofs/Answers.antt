@@ -53,7 +53,7 @@ module _ (ws hay : List ℕ) (s e : ℕ) (h : sound ws ≡ true) (d : s ≤ e) (
   to_first n g =
       let (v, f, k) = forward_finds ws hay s e h d l n g in
       let c = cut hay f.fits.0 v s e d l f.fits.1 in
-      let m : c.at ≡ n = c.from-end ∙ sym k in
+      let m : c.at ≡ n = c.from_end ∙ sym k in
       subst (FirstEnd (prog ws) hay s e) m (c.after, c.before, subst (FirstForward (prog ws) (window hay s e)) c.back f)
 
   pub of_first : (n : ℕ) → FirstEnd (prog ws) hay s e n → forward_says ws hay s e ≡ found n
@@ -73,7 +73,7 @@ module _ (ws hay : List ℕ) (s e : ℕ) (h : sound ws ≡ true) (d : s ≤ e) (
   to_start n g =
       let (u, f, k) = reverse_finds ws hay s e h d l n g in
       let c = cut hay u (reverse f.fits.0) s e d l (turned u f.fits.0 f.fits.1) in
-      let m : c.at ≡ n = c.from-start ∙ sym k in
+      let m : c.at ≡ n = c.from_start ∙ sym k in
       subst (FirstStart (prog ws) hay s e) m (c.after, c.before, subst (FirstReverse (prog ws) (window hay s e)) c.front f)
 
   pub of_start : (n : ℕ) → FirstStart (prog ws) hay s e n → reverse_says ws hay s e ≡ found n
@@ -96,7 +96,7 @@ module _ (spans : List ℕ → Type 0) (ws hay : List ℕ) (s e : ℕ) (h : soun
     span_of n (a, b, f) =
         let c = cut hay f.fits.0 (window hay n e) s e d l f.fits.1 in
         let k = part_length hay n e b l in
-        let m : c.at ≡ n = omega (arith, c.from-end) in
+        let m : c.at ≡ n = omega (arith, c.from_end) in
         let x : f.fits.0 ≡ window hay s n = c.front ∙ ap (window hay s) m in
         (a, omega arith, (exact (window hay s n) (part_bytes hay s n y)).1 (subst (Span (prog ws)) x (fits_span (prog ws) f.choice f.fits.0 f.fits.2)))
 
@@ -128,7 +128,7 @@ module _ (spans : List ℕ → Type 0) (ws hay : List ℕ) (s e : ℕ) (h : soun
         let c = cut hay (window hay s n) (reverse f.fits.0) s e d l (turned ws hay s e h d l (window hay s n) f.fits.0 f.fits.1) in
         let i : n ≤ length hay = omega arith in
         let k = part_length hay s n a i in
-        let m : c.at ≡ n = omega (arith, c.from-start) in
+        let m : c.at ≡ n = omega (arith, c.from_start) in
         let x : reverse f.fits.0 ≡ window hay n e = c.back ∙ ap (λ (z : ℕ). window hay z e) m in
         let z : f.fits.0 ≡ reverse (window hay n e) = sym (reverse-reverse f.fits.0) ∙ ap reverse x in
         (b, l, (exact (window hay n e) (part_bytes hay n e y)).1 (subst (Span (prog ws)) z (fits_span (prog ws) f.choice f.fits.0 f.fits.2)))
