@@ -1,7 +1,7 @@
 -- The functions by which picking is defined do what their names say. Assumes nothing.
 use mathlib.Core.Path.{◌≡◌, refl, sym, ap, ap₂, ◌∙◌, subst}
 use mathlib.Core.Bool.{Bool, true, false}
-use mathlib.Core.Logic.{◌⊎◌, ⊎_elim, ◌↔◌}
+use mathlib.Core.Logic.{⊎_elim, ◌↔◌}
 use mathlib.Core.List.Memᴰ
 use mathlib.Core.List.{List, [], ◌∷◌, ◌++◌, append-nil, append_assoc, Memᴰ}
 use Prim.Native.Nat.{ℕ, zero, suc, ◌+◌, ◌≤◌, ◌<◌, min}
@@ -9,7 +9,7 @@ use native.Mathlib.Omega.{arith}
 use native.Mathlib.Nat.{le_refl, le_trans, min-le_left, min-le_right, min-eq_left, min-eq_right}
 use lib.Dec.{leb}
 use borrow.Author.Tests.{leb-true, leb-false}
-use Rattle.def_meaning.specs.Tokens.{Mask, left, right, all, Token, Tokens, Lists, Byte, NotByte, MaskedByte, NotMaskedByte, Jump, Alternatives, nothing, ◌then◌, ◌or◌, Matches}
+use Rattle.def_meaning.specs.Tokens.{Mask, left, right, all, Token, Tokens, Lists, Byte, NotByte, MaskedByte, NotMaskedByte, Jump, Alternatives, nothing, ◌then◌, Matches}
 use Rattle.def_meaning.specs.Values.{Bytes, SpelledOne}
 use Rattle.def_meaning.proofs.SoundLaws.{and_both, false_true}
 use Rattle.def_meaning.proofs.TokenLaws.{one_span, span_one}

@@ -6,7 +6,7 @@ use mathlib.Core.Logic.{inl, inr, ◌↔◌}
 use mathlib.Core.List.{List, [], ◌∷◌, Memᴰ}
 use Prim.Native.Nat.{ℕ}
 use lib.ListN.{length}
-use Rattle.def_meaning.specs.Tokens.{left, right, all, Token, Tokens, Lists, Byte, NotByte, MaskedByte, NotMaskedByte, Jump, Alternatives, nothing, ◌then◌, ◌or◌, ◌⊕◌}
+use Rattle.def_meaning.specs.Tokens.{left, right, all, Token, Tokens, Lists, Byte, NotByte, MaskedByte, NotMaskedByte, Jump, Alternatives, nothing, ◌then◌, ◌⊕◌}
 use Rattle.def_meaning.specs.Values.{SpelledOne, Spelled, SpelledMore}
 use Rattle.def_meaning.proofs.ValueLaws.{any_spelled}
 use Rattle.def_meaning.proofs.SoundLaws.{and_left, and_right, false_true}

@@ -1,5 +1,5 @@
 -- Demand 3 from door to door: sound programs laid end to end, and the mirror, from the words to what the checks answer with them. Assumes nothing.
-use mathlib.Core.Path.{◌≡◌, refl, sym, ap, ap₂, ◌∙◌, subst}
+use mathlib.Core.Path.{◌≡◌, refl, sym, ap, ◌∙◌, subst}
 use mathlib.Core.Bool.{true}
 use mathlib.Core.Logic.{◌↔◌}
 use mathlib.Core.List.{List, ◌++◌, reverse, reverse-reverse}
@@ -9,7 +9,7 @@ use lib.Seq.{take_at}
 use borrow.Author.Tests.{le-ltb}
 use Rattle.base.specs.Pools.{filled}
 use Rattle.def_meaning.specs.Limits.{node_limit, node_pool}
-use Rattle.def_meaning.specs.Programs.{Prog, Span, ◌⧺◌, mirror}
+use Rattle.def_meaning.specs.Programs.{Prog, Span}
 use Rattle.def_meaning.specs.Words.{prog, sound, mirror_words}
 use Rattle.def_meaning.proofs.JoinLaws.{prog_append, append_span, span_append}
 use Rattle.def_meaning.proofs.WordSpans.{sound_length, sound_words_lem, join_sound, mirrored_sound, mirrored_span, span_mirrored}

@@ -1,7 +1,5 @@
 -- `hits::tm_hits` meets its contract. Assumes nothing.
-use borrow.Author.Tests.{not-false}
 use mathlib.Core.Path.{refl, sym, ap, ◌∙◌}
-use Prim.Native.Nat.{◌-◌}
 use Rattle.def_meaning.specs.Rows.{forward}
 use Rattle.def_meaning.specs.Words.{prog}
 use Rattle.def_meaning.proofs.WordSpans.{sound_words_lem}

@@ -1,7 +1,5 @@
 -- `hits::tm_hits_back` meets its contract. Assumes nothing.
-use borrow.Author.Tests.{not-false}
 use mathlib.Core.Path.{refl, sym, ◌∙◌}
-use Prim.Native.Nat.{◌-◌}
 use Rattle.def_meaning.proofs.WordSpans.{sound_words_lem}
 use Rattle.hits.specs.Hits.{end_in}
 use Rattle.hits.proofs.HitLaws as law
