@@ -2,8 +2,9 @@
 // what is written; each program is held to its file `stdout`, and so are these.
 #![tactic(auto)]
 
-ghost use Rattle.std.specs.Prelude.{◌≡◌, ◌≤◌, length, take};
+ghost use Rattle.std.specs.Prelude.{◌≡◌, ◌≢◌, ℕ, ◌<◌, ◌≤◌, length, slice_index, take};
 ghost use Rattle.std.specs.Io.{ReadsAtMost};
+ghost use Rattle.std.specs.Io.BufRead.{strip_last};
 
 use base::Refusal;
 use checkdoors::Answer;
@@ -178,16 +179,22 @@ pub fn heading<P: Print>(rt: &P, line: &[u8]) -> io::Result<bool> {
 }
 
 // A line of a text that was split behind each end of a line, without that end.
-pub fn without_end(line: &[u8]) -> &[u8] {
-    match line.strip_suffix(b"\n") {
-        Some(before) => before,
-        None => line,
+pub fn without_end(line: &[u8]) -> &[u8]
+    ensures { result.now ≡ strip_last 10 line.now }
+{
+    let n = line.len();
+    if n > 0 && line[n - 1] == b'\n' {
+        &line[..n - 1]
+    } else {
+        line
     }
 }
 
 // Where a line's first blank stands, or the line's length.
 pub fn blank(line: &[u8]) -> usize
-    ensures { result ≤ length line.now }
+    ensures bound { result ≤ length line.now }
+    ensures before { (i : ℕ) → i < result → slice_index line.now i ≢ 32 }
+    ensures there { result < length line.now → slice_index line.now result ≡ 32 }
 {
     match line.iter().position(|c| *c == b' ') {
         Some(at) => at,
