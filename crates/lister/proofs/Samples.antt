@@ -15,7 +15,6 @@ use Rattle.def_picking.specs.Literals
 use Rattle.def_picking.specs.Runs
 use Rattle.def_picking.specs.Candidates
 use Rattle.base.specs.Text.{ascii}
-use Rattle.printing.specs.Laid
 use Rattle.printing.specs.Numbers
 use Rattle.lines.specs.Lines
 use Rattle.lister.specs.Listings

@@ -1,0 +1,57 @@
+-- What the compiling door answers is what the definition compiles. Assumes nothing.
+use mathlib.Core.Path.{ap, ◌∙◌}
+use Prim.Native.Nat.{ℕ}
+use Rattle.def_meaning.specs.Limits.{node_pool}
+use Rattle.base.specs.Refusals.{number_of}
+use Rattle.lines.specs.Lines.{refused_line}
+use Rattle.printing.proofs.LaidLaws.{put_then, put_same}
+use Rattle.lister.specs.Listings.{listing_of}
+use Rattle.lister.proofs.DoorLaws.{made_door, refused_door, made_lines, refused_lines, made_sizes, programs_end, zeros, length_zeros}
+use native.Mathlib.Omega.{arith}
+use Rattle.lister.proofs.put_listing.Goals as goal
+
+pub slice_bounds-put_programs-end : goal.slice_bounds-put_programs-end
+slice_bounds-put_programs-end c =
+    let k = c.compile-got in
+    let t =
+    made_door c.args.text.now (zeros node_pool) (zeros node_pool) k.new.forward k.new.reverse _ c.in-Compiled.n c.in-Compiled.m k.result
+    (length_zeros node_pool) (length_zeros node_pool)
+    (k.auto.forward ∙ length_zeros node_pool) (k.auto.reverse ∙ length_zeros node_pool) c.in-Compiled.is k.ensures.0 k.ensures.1 k.ensures.2 in
+    omega (arith, t.forward_few)
+
+pub slice_bounds-put_programs-end-in-Compiled : goal.slice_bounds-put_programs-end-in-Compiled
+slice_bounds-put_programs-end-in-Compiled c =
+    let k = c.compile-got in
+    let t =
+    made_door c.args.text.now (zeros node_pool) (zeros node_pool) k.new.forward k.new.reverse _ c.in-Compiled.n c.in-Compiled.m k.result
+    (length_zeros node_pool) (length_zeros node_pool)
+    (k.auto.forward ∙ length_zeros node_pool) (k.auto.reverse ∙ length_zeros node_pool) c.in-Compiled.is k.ensures.0 k.ensures.1 k.ensures.2 in
+    omega (arith, t.reverse_few)
+
+pub put_picked-requires : goal.put_picked-requires
+put_picked-requires c =
+    let k = c.compile-got in
+    let t =
+    made_door c.args.text.now (zeros node_pool) (zeros node_pool) k.new.forward k.new.reverse _ c.in-Compiled.n c.in-Compiled.m k.result
+    (length_zeros node_pool) (length_zeros node_pool)
+    (k.auto.forward ∙ length_zeros node_pool) (k.auto.reverse ∙ length_zeros node_pool) c.in-Compiled.is k.ensures.0 k.ensures.1 k.ensures.2 in
+    let s = made_sizes t in
+    let l = programs_end _ _ c.put_programs-k.ensures (omega arith) (omega arith) in
+    omega arith
+
+pub returns-in-Compiled : goal.returns-in-Compiled
+returns-in-Compiled c =
+    let k = c.compile-got in
+    let t =
+    made_door c.args.text.now (zeros node_pool) (zeros node_pool) k.new.forward k.new.reverse _ c.in-Compiled.n c.in-Compiled.m k.result
+    (length_zeros node_pool) (length_zeros node_pool)
+    (k.auto.forward ∙ length_zeros node_pool) (k.auto.reverse ∙ length_zeros node_pool) c.in-Compiled.is k.ensures.0 k.ensures.1 k.ensures.2 in
+    put_same (listing_of c.args.text.now) (put_then c.put_programs-k.ensures c.put_picked.ensures) (made_lines c.args.text.now t)
+
+pub returns-in-Refused : goal.returns-in-Refused
+returns-in-Refused c =
+    let a = c.args in
+    let k = c.compile-got in
+    let r = c.in-Refused in
+    let e = refused_door a.text.now (zeros node_pool) (zeros node_pool) r.why r.place k.result (length_zeros node_pool) (length_zeros node_pool) r.is k.ensures.0 in
+    put_same (listing_of a.text.now) c.put_refused.ensures (ap (λ (x : ℕ). refused_line x r.place) c.number.ensures ∙ refused_lines a.text.now (number_of r.why) r.place e)

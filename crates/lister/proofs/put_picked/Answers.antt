@@ -1,0 +1,34 @@
+-- What the picking door answers is what the definition picks. Assumes nothing.
+use mathlib.Core.Path.{ap, ◌∙◌}
+use Rattle.base.specs.Refusals.{number_of}
+use Rattle.def_reading.specs.Lists.{reading}
+use Rattle.lines.specs.Lines.{literals_refused_line, got_lines}
+use Rattle.printing.proofs.LaidLaws.{put_same}
+use Rattle.lister.specs.Listings.{got_of, lent_bytes, lent_lengths}
+use Rattle.lister.proofs.DoorLaws.{taken_door, untaken_door, taken_lines, untaken_lines, zeros, length_zeros}
+use native.Mathlib.Omega.{arith}
+use Rattle.lister.proofs.put_picked.Goals as goal
+
+pub slice_bounds-put_literals-end : goal.slice_bounds-put_literals-end
+slice_bounds-put_literals-end c =
+    let k = c.literals-got in
+    let t =
+    taken_door (zeros lent_bytes) (zeros lent_lengths) (length_zeros lent_bytes) (length_zeros lent_lengths) c.args.text.now k.new.bytes k.new.lengths
+    _ c.in-Picked.count c.in-Picked.rank k.result c.in-Picked.is k.ensures.0 k.ensures.1 k.ensures.2 in
+    omega (arith, t.few, k.auto.lengths, length_zeros lent_lengths)
+
+pub returns-in-Picked : goal.returns-in-Picked
+returns-in-Picked c =
+    let k = c.literals-got in
+    let t =
+    taken_door (zeros lent_bytes) (zeros lent_lengths) (length_zeros lent_bytes) (length_zeros lent_lengths) c.args.text.now k.new.bytes k.new.lengths
+    _ c.in-Picked.count c.in-Picked.rank k.result c.in-Picked.is k.ensures.0 k.ensures.1 k.ensures.2 in
+    put_same (got_lines (got_of (reading c.args.text.now))) c.put_literals.ensures (taken_lines t)
+
+pub returns-in-Refused : goal.returns-in-Refused
+returns-in-Refused c =
+    let a = c.args in
+    let k = c.literals-got in
+    let r = c.in-Refused in
+    let e = untaken_door (zeros lent_bytes) (zeros lent_lengths) (length_zeros lent_bytes) (length_zeros lent_lengths) a.text.now r.why _ k.result r.is k.ensures.0 in
+    put_same (got_lines (got_of (reading a.text.now))) c.put_literals_refused.ensures (ap literals_refused_line c.number.ensures ∙ untaken_lines (reading a.text.now) (number_of r.why) e)
