@@ -7,7 +7,6 @@ use Rattle.literaldoor.specs.Door.{literals_said}
 use Rattle.readdoor.proofs.Got as into
 use lib.ListN.{length}
 use native.Mathlib.Nat.{le_refl}
-use Prim.Native.Nat.{◌-◌}
 use mathlib.Core.Path.{◌≡◌}
 use Rattle.literaldoor.proofs.literals.Goals as goal
 

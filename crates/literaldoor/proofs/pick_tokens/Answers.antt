@@ -1,10 +1,8 @@
 -- `literaldoor::pick_tokens` meets its contract. Assumes nothing.
-use borrow.Author.Tests.{not-true, not-false}
 use Rattle.literaldoor.proofs.DoorLaws as law
 use Rattle.literaldoor.specs.Door.{literals_said}
 use Rattle.picks.specs.Ranks.{winner_says}
 use Rattle.entries.specs.Words.{tokens_in}
-use Prim.Native.Nat.{◌-◌}
 use mathlib.Core.Path.{sym, ◌∙◌}
 use Rattle.literaldoor.proofs.pick_tokens.Goals as goal
 

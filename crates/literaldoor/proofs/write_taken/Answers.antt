@@ -2,7 +2,6 @@
 use Rattle.literaldoor.proofs.DoorLaws as law
 use Rattle.def_picking.specs.Literals.{literals as literalsOf}
 use Rattle.entries.specs.Words.{tokens_in}
-use Prim.Native.Nat.{◌-◌}
 use Rattle.literaldoor.proofs.write_taken.Goals as goal
 
 pub returns-in-All : goal.returns-in-All

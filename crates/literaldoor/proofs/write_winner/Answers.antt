@@ -1,7 +1,6 @@
 -- `literaldoor::write_winner` meets its contract. Assumes nothing.
 use Rattle.literaldoor.proofs.DoorLaws as law
 use Rattle.literaldoor.specs.Door.{literals_said}
-use Prim.Native.Nat.{◌-◌}
 use Rattle.literaldoor.proofs.write_winner.Goals as goal
 
 pub returns-in-Nothing : goal.returns-in-Nothing
