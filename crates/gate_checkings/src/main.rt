@@ -155,6 +155,6 @@ fn lines<P: Print>(rt: &P, text: &[u8]) -> io::Result<()> {
 
 fn main(rt: HostRuntime) -> io::Result<()> {
     let mut text = [0u8; 65536];
-    let n = gatekit::load(&rt, "programs", &mut text)?;
+    let n = gatekit::load(&rt, b"programs", &mut text)?;
     lines(&rt, &text[..n])
 }

@@ -18,6 +18,6 @@ fn lines<R: Print + Eprint>(rt: &R, texts: &[u8]) -> io::Result<()> {
 
 fn main(rt: HostRuntime) -> io::Result<()> {
     let mut texts = [0u8; 65536];
-    let n = gatekit::load(&rt, "texts", &mut texts)?;
+    let n = gatekit::load(&rt, b"texts", &mut texts)?;
     lines(&rt, &texts[..n])
 }

@@ -142,6 +142,6 @@ fn lines<P: Print>(rt: &P, cases: &[u8]) -> io::Result<()> {
 
 fn main(rt: HostRuntime) -> io::Result<()> {
     let mut cases = [0u8; 65536];
-    let n = gatekit::load(&rt, "cases", &mut cases)?;
+    let n = gatekit::load(&rt, b"cases", &mut cases)?;
     lines(&rt, &cases[..n])
 }

@@ -80,9 +80,24 @@ pub fn words<P: Print>(rt: &P, pool: &[NodeWord], n: usize, style: Style) -> io:
     Ok(())
 }
 
+fn one_if(v: NodeWord, w: NodeWord) -> usize
+    ensures { result ≤ 1 }
+{
+    if v == w { 1 } else { 0 }
+}
+
 // How many words from `from` up to `to` hold `v`.
 fn holding(pool: &[NodeWord], from: usize, to: usize, v: NodeWord) -> usize {
-    pool.iter().take(to).skip(from).filter(|w| **w == v).count()
+    let mut found = 0;
+    let mut i = from;
+    while i < to {
+        if pool.len() <= i {
+            return found;
+        }
+        found += one_if(pool[i], v);
+        i += 1;
+    }
+    found
 }
 
 // What a call left in a pool of which it may write `size` words: how many of them are 0 after the used ones, and how many beyond are as before.
@@ -204,7 +219,8 @@ pub fn blank(line: &[u8]) -> usize
 
 // The bytes of an input, as far as there is room; how many they are.
 pub fn read_full<R: Read>(from: &mut R, out: &mut [u8]) -> io::Result<usize>
-    ensures { ReadsAtMost result out.new }
+    ensures within { ReadsAtMost result out.new }
+    ensures kept { length out.new ≡ length out.old }
 {
     let mut done = 0;
     while done < out.len() {
@@ -218,8 +234,23 @@ pub fn read_full<R: Read>(from: &mut R, out: &mut [u8]) -> io::Result<usize>
 }
 
 // The bytes of a file, as far as there is room; how many they are. Where it cannot be opened it says so.
-pub fn load<R: Files + Eprint>(rt: &R, path: &str, out: &mut [u8]) -> io::Result<usize>
-    ensures { ReadsAtMost result out.new }
+pub fn load<R: Files + Eprint>(rt: &R, path: &[u8], out: &mut [u8]) -> io::Result<usize>
+    ensures within { ReadsAtMost result out.new }
+    ensures kept { length out.new ≡ length out.old }
+{
+    match str::from_utf8(path) {
+        Ok(name) => load_named(rt, name, out),
+        Err(why) => {
+            eprintln!(rt; "{path:?}: {why}")?;
+            Ok(0)
+        }
+    }
+}
+
+// The same of a file whose name is text, as std wants it.
+fn load_named<R: Files + Eprint>(rt: &R, path: &str, out: &mut [u8]) -> io::Result<usize>
+    ensures within { ReadsAtMost result out.new }
+    ensures kept { length out.new ≡ length out.old }
 {
     match fs::open(rt, path) {
         Ok(mut file) => read_full(&mut file, out),
