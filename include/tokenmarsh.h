@@ -5,7 +5,7 @@
  * zero. A buffer is a pointer and a count of its elements: the pointer is good for as many and aligned as its type asks, and may be null only
  * where the count is 0. A buffer that is written must not overlap another one that is lent to the same call; buffers that are only read
  * may. Nothing is kept after a call, nothing is allocated, and calls from several threads do not disturb each other, as long as none writes what
- * another uses. A call was seen to take up to 73,872 bytes of stack. A check tries the lengths of a range one after another, so that ranges
+ * another uses. A call was seen to take up to 73,872 bytes of stack, built by an older toolchain. A check tries the lengths of a range one after another, so that ranges
  * multiply its time: four of [0-255], or two of [0-65535], may take it many seconds. The other functions take microseconds, tm_literals up to some milliseconds.
  *
  * refusal is 0 if there is none, else one of the numbers below. place is then the offset in the text that is given beside it, and 0 for 12 to

@@ -27,7 +27,7 @@ What follows a pattern's closing brace and its blanks is ignored; `reached` is w
 A check is anchored: `end` tells of a match that starts with the window's first byte, `start` of one that ends with its last. To search a file, look for the
 literals first and check about these; find.py in bindings/python does so.
 
-A call was seen to take up to 73,872 bytes of stack. Python's threads have as much as `ulimit -s` says, usually 8 MiB; if `threading.stack_size` gives them
+Figures are those of an older toolchain. A call was seen to take up to 73,872 bytes of stack. Python's threads have as much as `ulimit -s` says, usually 8 MiB; if `threading.stack_size` gives them
 less, 256 KiB are enough.
 
 A check tries the lengths of a range one after another, so that ranges multiply its time: `41 [0-255]` once, twice, three and four times, and then `42`, took

@@ -27,7 +27,7 @@
 //!
 //! # Stack and time
 //!
-//! A call was seen to take up to 73,872 bytes of stack. Rust's own threads have 2 MiB; if you give one less, 128 KiB are enough.
+//! Figures are those of an older toolchain. A call was seen to take up to 73,872 bytes of stack. Rust's own threads have 2 MiB; if you give one less, 128 KiB are enough.
 //!
 //! A check tries the lengths of a range one after another, so that ranges multiply its time: `41 [0-255]` once, twice, three and four times, and then `42`, took
 //! 3 µs, 0.3 ms, 70 ms and 14.7 s at the first of 4,096 bytes 41, and `41 [0-65535]` twice some 30 s at the first of 200,000. It ends, but nothing ends

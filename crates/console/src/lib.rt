@@ -47,7 +47,7 @@ fn words(said: &str) -> &str {
     }
 }
 
-// Why a call of the system failed, in its words alone.
+// Why a call of the system failed, in its words alone; whole, with the number, where they are longer than any system's or no text.
 #[derive(Drop)]
 struct Reason(io::Error);
 
@@ -56,10 +56,11 @@ impl Display for Reason {
         let mut room = [0u8; 256];
         let mut rest = &mut room[..];
         let _ = rest.write_fmt(&self.0);
-        let n = 256usize.saturating_sub(rest.len());
+        let left = rest.len();
+        let n = 256usize.saturating_sub(left);
         match str::from_utf8(&room[..n]) {
-            Ok(said) => f.write_str(words(said)),
-            Err(_) => Err(fmt::Error),
+            Ok(said) if left > 0 => f.write_str(words(said)),
+            _ => write!(f, "{}", self.0),
         }
     }
 }

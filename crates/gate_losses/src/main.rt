@@ -40,8 +40,10 @@ fn try_outputs(rt: &HostRuntime, said: &Said) -> io::Result<()> {
 }
 
 fn tell(rt: &HostRuntime, path: &str) -> io::Result<()> {
-    let lines = fs::read(rt, path)?;
-    rt.write_all(&lines)
+    let mut lines = [0u8; 4096];
+    let mut file = fs::open(rt, path)?;
+    let n = gatekit::read_full(&mut file, &mut lines)?;
+    rt.write_all(&lines[..n])
 }
 
 fn main(rt: HostRuntime) -> io::Result<()> {
