@@ -1,5 +1,5 @@
 // The listing program: what it reads, what it writes, and what it says where it can do neither. The reader, the writer and standard error are arguments,
-// so that a program of the gate can try those that fail. A program has no exit status to tell a loss by, so it tells it by a line on standard error.
+// so that a program of the gate can try those that fail. A loss is told by a line on standard error, and the exit status stays 0 (docs/DECISIONS.md, Listing).
 #![tactic(auto)]
 
 ghost use Rattle.std.specs.Prelude.{◌≡◌, ◌≤◌, length, take};
