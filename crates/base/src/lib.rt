@@ -1,7 +1,7 @@
-// What every door shares: the limits, the numbered refusals; and the zeroing of a pool of tokens (programs' pools are zeroed by crate nodes).
+// What every door shares: the limits, and the numbered refusals with their places.
 #![tactic(auto)]
 
-ghost use Rattle.std.specs.Prelude.{◌≡◌, ◌-◌, ◌≤◌, length};
+ghost use Rattle.std.specs.Prelude.{◌≡◌, ◌≤◌, length};
 ghost use Rattle.base.specs.Refusals.{number_of};
 ghost use Rattle.base.specs.Pools.{zeroed};
 
@@ -50,28 +50,28 @@ pub const LENT_BYTES: usize = 32768;
 // The lengths that it lends for them.
 pub const LENT_LENGTHS: usize = 256;
 
-// Why a call gives no answer. Names are the original's where it has the case.
-#[derive(Drop)]
+// Why a call gives no answer, with the number under which 01's table has it. Names are the original's where it has the case.
+#[derive(Clone, Copy, Debug, PartialEq, Eq)]
 pub enum Refusal {
-    TextTooLong,
-    Unexpected,
-    NumberTooBig,
-    JumpEmpty,
-    JumpRangeInvalid,
-    JumpAtBound,
-    JumpUnboundedInAlternation,
-    JumpTooBigInAlternation,
-    CannotNegateMaskAll,
-    HexStringTooDeep,
-    TooManyTokens,
-    NotSimple,
-    TooManyNodes,
-    BranchTooLong,
-    Unsound,
-    BadWindow,
-    TooManyLiterals,
-    NoRoom,
-    NotPlain,
+    TextTooLong = 1,
+    Unexpected = 2,
+    NumberTooBig = 3,
+    JumpEmpty = 4,
+    JumpRangeInvalid = 5,
+    JumpAtBound = 6,
+    JumpUnboundedInAlternation = 7,
+    JumpTooBigInAlternation = 8,
+    CannotNegateMaskAll = 9,
+    HexStringTooDeep = 10,
+    TooManyTokens = 11,
+    NotSimple = 12,
+    TooManyNodes = 13,
+    BranchTooLong = 14,
+    Unsound = 15,
+    BadWindow = 16,
+    TooManyLiterals = 17,
+    NoRoom = 18,
+    NotPlain = 19,
 }
 
 impl Refusal {
@@ -79,27 +79,23 @@ impl Refusal {
     pub fn number(self) -> u32
         ensures { result ≡ number_of self }
     {
-        match self {
-            Refusal::TextTooLong => 1,
-            Refusal::Unexpected => 2,
-            Refusal::NumberTooBig => 3,
-            Refusal::JumpEmpty => 4,
-            Refusal::JumpRangeInvalid => 5,
-            Refusal::JumpAtBound => 6,
-            Refusal::JumpUnboundedInAlternation => 7,
-            Refusal::JumpTooBigInAlternation => 8,
-            Refusal::CannotNegateMaskAll => 9,
-            Refusal::HexStringTooDeep => 10,
-            Refusal::TooManyTokens => 11,
-            Refusal::NotSimple => 12,
-            Refusal::TooManyNodes => 13,
-            Refusal::BranchTooLong => 14,
-            Refusal::Unsound => 15,
-            Refusal::BadWindow => 16,
-            Refusal::TooManyLiterals => 17,
-            Refusal::NoRoom => 18,
-            Refusal::NotPlain => 19,
-        }
+        self as u32
+    }
+}
+
+// A refusal and the place at which it is given: the error of the doors that take texts.
+#[derive(Clone, Copy, Debug, PartialEq, Eq)]
+pub struct Refused {
+    pub why: Refusal,
+    pub place: usize,
+}
+
+// A refusal that no byte of a text is to blame for stands at place 0.
+impl From<Refusal> for Refused {
+    ghost from_gives = { λ why r. (r.why ≡ why) × (r.place ≡ 0) };
+
+    fn from(why: Refusal) -> Self {
+        Self { why, place: 0 }
     }
 }
 
@@ -108,9 +104,5 @@ pub fn zero_words(pool: &mut [u32], from: usize, to: usize)
     requires { (from ≤ to) × (to ≤ length pool.old) }
     ensures { pool.new ≡ zeroed from to pool.old }
 {
-    let mut i = from;
-    while i < to {
-        pool[i] = 0;
-        i += 1;
-    }
+    pool[from..to].fill(0);
 }
