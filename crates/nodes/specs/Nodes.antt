@@ -1,12 +1,12 @@
 -- What a node says, and its word. Assumes nothing: these are definitions.
 -- To be believed: nothing.
-use Rattle.std.specs.Prelude.{cond, List, [], ◌∷◌, ℕ, ◌<◌, eqb}
+use Rattle.std.specs.Prelude.{Option, Some, None, cond, List, [], ◌∷◌, ℕ, ◌<◌, eqb}
 use Rattle.def_meaning.specs.Programs.{Test, byte, mask, negated_mask, dot, one, jump, range}
 use Rattle.def_meaning.specs.Words.{field_size, Shape, item, opens, mark, wrong, word_for, word_of_shape}
 use Rattle.nodes.specs.declared.ByteTest.{ByteTest}
 use Rattle.nodes.specs.declared.ByteTest.TheVariants.{Byte, Mask, NegatedMask, Dot}
 use Rattle.nodes.specs.declared.Node.{Node}
-use Rattle.nodes.specs.declared.Node.TheVariants.{One, Jump, JumpRange, Alternation, AltBranch, Bad}
+use Rattle.nodes.specs.declared.Node.TheVariants.{One, Jump, JumpRange, Alternation, AltBranch}
 use Rattle.nodes.specs.declared.NextWord.{NextWord}
 use Rattle.nodes.specs.declared.NextWord.TheVariants.{Word, NoWord}
 
@@ -23,7 +23,11 @@ shape_of (Jump n) = item (jump n)
 shape_of (JumpRange a b) = item (range a b)
 shape_of (Alternation n) = opens n
 shape_of (AltBranch n) = mark n
-shape_of Bad = wrong
+
+-- a word of a kind that 01 does not have says none
+abbrev pub shape_said : Option Node → Shape
+shape_said (Some n) = shape_of n
+shape_said None = wrong
 
 -- the word of a test and of a node
 abbrev pub test_word : ByteTest → ℕ
@@ -31,6 +35,9 @@ test_word t = word_for (test_of t)
 
 abbrev pub word_of : Node → ℕ
 word_of n = word_of_shape (shape_of n)
+
+abbrev pub word_said : Option Node → ℕ
+word_said n = word_of_shape (shape_said n)
 
 -- the fields of a node fit a word: every node that the code holds is such a one, by its types
 abbrev pub TestFits : ByteTest → Type 0
@@ -45,7 +52,10 @@ NodeFits (Jump n) = n < field_size
 NodeFits (JumpRange a b) = (a < field_size) × (b < field_size)
 NodeFits (Alternation n) = n < field_size
 NodeFits (AltBranch n) = n < field_size
-NodeFits Bad = Unit {0}
+
+abbrev pub Fits : Option Node → Type 0
+Fits (Some n) = NodeFits n
+Fits None = Unit {0}
 
 -- the first of the words, if there is one
 abbrev pub first_word : List ℕ → NextWord

@@ -7,7 +7,7 @@ ghost use Rattle.std.specs.Prelude.{◌≡◌, ◌&&◌, ◌%◌, ◌≤◌, ◌
 ghost use Rattle.base.specs.Pools.{zeroed};
 ghost use Rattle.def_meaning.specs.NodeWords.{word};
 ghost use Rattle.def_meaning.specs.Words.{byte_size, field_size, kind_of, first_of, second_of, count_of, word_size, shape, proper_by, proper};
-ghost use Rattle.nodes.specs.Nodes.{shape_of, test_word, word_of, first_word, mask_in, most_in};
+ghost use Rattle.nodes.specs.Nodes.{shape_said, test_word, word_of, first_word, mask_in, most_in};
 
 use base::BRANCH_LIMIT;
 
@@ -49,8 +49,8 @@ const BYTES: Field = 256;
 // The first word past those of branches that may stand in a sound program.
 const BRANCHES: NodeWord = KINDS * (BRANCH_LIMIT as NodeWord + 1);
 
-// What is asked of one byte. Values and masks are fields here, since every word says a node.
-#[derive(Drop)]
+// What is asked of one byte. Values and masks are fields here, since every word of a kind that 01 has says a node.
+#[derive(Clone, Copy, Debug, PartialEq, Eq)]
 pub enum ByteTest {
     Byte(Field),
     Mask(Field, Field),
@@ -58,15 +58,14 @@ pub enum ByteTest {
     Dot,
 }
 
-// Every word says one of these: Bad is for the kinds that 01 does not have.
-#[derive(Drop)]
+// What a word says.
+#[derive(Clone, Copy, Debug, PartialEq, Eq)]
 pub enum Node {
     One(ByteTest),
     Jump(Field),
     JumpRange(Field, Field),
     Alternation(Field),
     AltBranch(Field),
-    Bad,
 }
 
 #[derive(Drop)]
@@ -115,7 +114,7 @@ pub fn count(w: NodeWord) -> Field
 pub fn field(n: u32) -> Field
     ensures { result ≡ n % field_size }
 {
-    ((n as NodeWord) % FIELDS) as Field
+    (NodeWord::from(n) % FIELDS) as Field
 }
 
 // What of a field fits a byte.
@@ -125,13 +124,13 @@ pub fn byte_of(a: Field) -> u8
     (a % BYTES) as u8
 }
 
-// The node that a word says.
-pub fn node_of(w: NodeWord) -> Node
-    ensures { shape_of result ≡ shape w }
+// The node that a word says: none, where its kind is one that 01 does not have.
+pub fn node_of(w: NodeWord) -> Option<Node>
+    ensures { shape_said result ≡ shape w }
 {
     let a = first(w);
     let b = second(w);
-    match kind(w) {
+    let node = match kind(w) {
         BYTE => Node::One(ByteTest::Byte(a)),
         MASK => Node::One(ByteTest::Mask(a, b)),
         NEGATED_MASK => Node::One(ByteTest::NegatedMask(a, b)),
@@ -140,8 +139,9 @@ pub fn node_of(w: NodeWord) -> Node
         DOT => Node::One(ByteTest::Dot),
         ALTERNATION => Node::Alternation(count(w)),
         ALT_BRANCH => Node::AltBranch(a),
-        _ => Node::Bad,
-    }
+        _ => return None,
+    };
+    Some(node)
 }
 
 // The word of a kind and two fields.
@@ -149,31 +149,33 @@ fn made(k: NodeWord, a: Field, b: Field) -> NodeWord
     requires { k < 256 }
     ensures { result ≡ word k a b }
 {
-    k + KINDS * (a as NodeWord) + SECOND * (b as NodeWord)
+    k + KINDS * NodeWord::from(a) + SECOND * NodeWord::from(b)
 }
 
-fn test_word(t: ByteTest) -> NodeWord
-    ensures { result ≡ test_word t }
-{
-    match t {
-        ByteTest::Byte(v) => made(BYTE, v, 0),
-        ByteTest::Mask(v, m) => made(MASK, v, m),
-        ByteTest::NegatedMask(v, m) => made(NEGATED_MASK, v, m),
-        ByteTest::Dot => made(DOT, 0, 0),
+impl From<ByteTest> for NodeWord {
+    ghost from_gives = { λ t w. w ≡ test_word t };
+
+    fn from(t: ByteTest) -> Self {
+        match t {
+            ByteTest::Byte(v) => made(BYTE, v, 0),
+            ByteTest::Mask(v, m) => made(MASK, v, m),
+            ByteTest::NegatedMask(v, m) => made(NEGATED_MASK, v, m),
+            ByteTest::Dot => made(DOT, 0, 0),
+        }
     }
 }
 
-// The word of a node.
-pub fn node_word(n: Node) -> NodeWord
-    ensures { result ≡ word_of n }
-{
-    match n {
-        Node::One(t) => test_word(t),
-        Node::Jump(a) => made(JUMP, a, 0),
-        Node::JumpRange(a, b) => made(JUMP_RANGE, a, b),
-        Node::Alternation(a) => made(ALTERNATION, a, 0),
-        Node::AltBranch(a) => made(ALT_BRANCH, a, 0),
-        Node::Bad => made(8, 0, 0),
+impl From<Node> for NodeWord {
+    ghost from_gives = { λ n w. w ≡ word_of n };
+
+    fn from(n: Node) -> Self {
+        match n {
+            Node::One(t) => NodeWord::from(t),
+            Node::Jump(a) => made(JUMP, a, 0),
+            Node::JumpRange(a, b) => made(JUMP_RANGE, a, b),
+            Node::Alternation(a) => made(ALTERNATION, a, 0),
+            Node::AltBranch(a) => made(ALT_BRANCH, a, 0),
+        }
     }
 }
 
@@ -251,9 +253,5 @@ pub fn zero_nodes(pool: &mut [NodeWord], from: usize, to: usize)
     requires { (from ≤ to) × (to ≤ length pool.old) }
     ensures { pool.new ≡ zeroed from to pool.old }
 {
-    let mut i = from;
-    while i < to {
-        pool[i] = 0;
-        i += 1;
-    }
+    pool[from..to].fill(0);
 }
