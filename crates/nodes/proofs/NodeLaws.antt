@@ -10,14 +10,14 @@ use Rattle.def_meaning.proofs.ProperLaws as proper-laws
 use Rattle.nodes.specs.declared.ByteTest.TheVariants.{Byte, Mask, NegatedMask, Dot}
 use Rattle.nodes.specs.declared.Node.{Node}
 use Rattle.nodes.specs.declared.Node.TheVariants.{One, Jump, JumpRange, Alternation, AltBranch}
-use Rattle.nodes.specs.Nodes.{shape_said, word_said, Fits}
+use Rattle.nodes.specs.Nodes.{shape_said, word_said, SaidFits}
 
 -- the node of a proper word has that word: made from node_of w it is w
 pub word_again : (w : ℕ) (n : Option Node) → proper w ≡ true → shape_said n ≡ shape w → word_said n ≡ w
 word_again w n p e = proper-laws.word_again w p (sym e)
 
 -- the word of a node says that node, and a word of no node says none
-pub shape_again : (n : Option Node) → Fits n → shape (word_said n) ≡ shape_said n
+pub shape_again : (n : Option Node) → SaidFits n → shape (word_said n) ≡ shape_said n
 unfolding shape_by
 shape_again (Some (One (Byte v))) h = made_shape 0 v 0 (omega arith) h (omega arith)
 shape_again (Some (One (Mask v m))) h = made_shape 1 v m (omega arith) h.0 h.1

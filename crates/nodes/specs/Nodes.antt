@@ -53,9 +53,9 @@ NodeFits (JumpRange a b) = (a < field_size) × (b < field_size)
 NodeFits (Alternation n) = n < field_size
 NodeFits (AltBranch n) = n < field_size
 
-abbrev pub Fits : Option Node → Type 0
-Fits (Some n) = NodeFits n
-Fits None = Unit {0}
+abbrev pub SaidFits : Option Node → Type 0
+SaidFits (Some n) = NodeFits n
+SaidFits None = Unit {0}
 
 -- the first of the words, if there is one
 abbrev pub first_word : List ℕ → NextWord
