@@ -1,13 +1,9 @@
 -- From what was read to what the door says. Assumes nothing.
-use mathlib.Core.Path.{◌≡◌, refl, ap, ◌∙◌}
-use mathlib.Core.Bool.{true, false, and-false}
-use mathlib.Core.List.{List}
-use Prim.Native.Nat.{ℕ, ◌-◌, ◌≤◌, ◌<◌}
-use native.Mathlib.Omega.{arith}
-use lib.Dec.{leb}
-use lib.ListN.{length, take, drop}
-use borrow.Author.Tests.{le-leb, lt-leb}
+use Rattle.std.proofs.Common.{◌≡◌, refl, ap, ◌∙◌, true, false, ◌⊎◌, inl, inr, Result, Ok, Err, IsErrAnd, List, ℕ, ◌-◌, ◌≤◌, ◌<◌, arith, leb, length, take}
+use Rattle.std.proofs.Math.Bool.{and-false}
+use Rattle.std.proofs.lemmas.Bool.{le-leb, lt-leb}
 use Rattle.base.specs.declared.Refusal.{Refusal}
+use Rattle.base.specs.declared.Refused.{Refused}
 use Rattle.base.specs.Refusals.{number_of}
 use Rattle.base.specs.Pools.{cleared}
 use Rattle.def_meaning.specs.Limits.{token_pool, node_pool}
@@ -21,44 +17,52 @@ use Rattle.readdoor.specs.declared.ReadAnswer.TheVariants as reads
 use Rattle.readdoor.specs.Door as read
 use Rattle.readdoor.proofs.Got as into
 use Rattle.def_compiling.specs.Compile.{Compiled, compiled, refused, compile}
-use Rattle.compiler.specs.declared.Made.{Made}
+use Rattle.compiler.specs.declared.Sizes.{Sizes}
 use Rattle.compiler.specs.Made.{Fills}
 use Rattle.compiler.specs.Walks.{Entered}
-use Rattle.compiledoor.specs.Door.{CompileSaid, refuses, made_says, compiled_says, verdict_says, compiled_forward, compiled_reverse, verdict_forward, verdict_reverse, room, compile_says, forward_leaves, reverse_leaves, TextFills}
+use Rattle.compiledoor.specs.declared.Compiled.{Compiled as Compiled'}
+use Rattle.compiledoor.specs.Door.{CompileSaid, refuses, compile_said, made_says, compiled_says, verdict_says, compiled_forward, compiled_reverse, verdict_forward, verdict_reverse, room, compile_says, forward_leaves, reverse_leaves, TextFills}
 
 -- what was read stands in the pool
 pub record Got (t q : List ℕ) (e u : ℕ) : Type 0 where
   pub tokens : Tokens
   pub verdict : reading t ≡ accepted e tokens
   pub spelled : Spelled tokens
-  pub words : take (u - 0) (drop 0 q) ≡ entries tokens
+  pub words : take u q ≡ entries tokens
   pub fits : u ≤ token_pool
-  pub whole : Entered (take (u - 0) (drop 0 q))
+  pub whole : Entered (take u q)
 
 module _ (t p q : List ℕ) (r : ReadAnswer) (a : read.read_said r ≡ read.read_says t p) (b : q ≡ read.read_leaves t p) (l : token_pool ≤ length p) where
   pub got : (e u : ℕ) → r ≡ reads.Read e u → Got t q e u
   got e u f =
       let g = into.got t p q r a b l e u f in
       let s : Spelled g.tokens = accepted_spelled t e g.tokens g.verdict in
+      let z : u - 0 ≡ u = omega arith in
+      let w : take u q ≡ entries g.tokens = rw z at g.words in
       record {
         tokens = g.tokens;
         verdict = g.verdict;
         spelled = s;
-        words = g.words;
+        words = w;
         fits = g.fits;
-        whole = record { tokens = g.tokens; entered = g.words; spelled = s; short = omega (arith, ap length g.words, g.few) };
+        whole = record { tokens = g.tokens; entered = w; spelled = s; short = omega (arith, ap length w, g.few) };
       }
 
   pub got_refused : (c : Refusal) (y : ℕ) → r ≡ reads.Refused c y → reading t ≡ rejected c y
   got_refused c y f = into.got_refused t p q r a b l c y f
 
+-- what `?` makes of a refusal of tokens
+pub said_at_none : (e : ℕ) (m : Result Sizes Refusal) (r : Result Compiled' Refused) (x : Refusal) → m ≡ Err x → IsErrAnd r (λ y. (y.why ≡ x) × (y.place ≡ 0)) → compile_said r ≡ made_says e m
+said_at_none e m (Ok y) x f h = absurd h
+said_at_none e m (Err y) x f h = rw (f, h.0, h.1)
+
 -- compiled
-made_text : (e : ℕ) (c : Compiled) (m : Made) (p p' q q' : List ℕ) → Fills c m p p' q q' → (made_says e m ≡ compiled_says e c) × (p' ≡ compiled_forward c p) × (q' ≡ compiled_reverse c q)
+made_text : (e : ℕ) (c : Compiled) (m : Result Sizes Refusal) (p p' q q' : List ℕ) → Fills c m p p' q q' → (made_says e m ≡ compiled_says e c) × (p' ≡ compiled_forward c p) × (q' ≡ compiled_reverse c q)
 unfolding compiled_says compiled_forward compiled_reverse
 made_text e (compiled f r) m p p' q q' (h, x, y) = (ap (made_says e) h, x, y)
 made_text e (refused z) m p p' q q' (h, x, y) = (ap (made_says e) h, x, y)
 
-pub text_compiled : (t : List ℕ) (e : ℕ) (ts : Tokens) (m : Made) (s : CompileSaid) (p p' q q' : List ℕ) → reading t ≡ accepted e ts → s ≡ made_says e m → Fills (compile ts) m p p' q q' → TextFills (reading t) s p p' q q'
+pub text_compiled : (t : List ℕ) (e : ℕ) (ts : Tokens) (m : Result Sizes Refusal) (s : CompileSaid) (p p' q q' : List ℕ) → reading t ≡ accepted e ts → s ≡ made_says e m → Fills (compile ts) m p p' q q' → TextFills (reading t) s p p' q q'
 unfolding verdict_says verdict_forward verdict_reverse
 text_compiled t e ts m s p p' q q' g f h =
     let k = made_text e (compile ts) m p p' q q' h in
@@ -80,11 +84,9 @@ pub door_text : (t : List ℕ) (s : CompileSaid) (p p' q q' : List ℕ) → room
 unfolding compile_says forward_leaves reverse_leaves
 door_text t s p p' q q' e h = rw e h
 
-pub small_first : (p q : List ℕ) → length p < node_pool → room p q ≡ false
-small_first p q h = rw (lt-leb node_pool (length p) h)
-
-pub small_second : (p q : List ℕ) → length q < node_pool → room p q ≡ false
-small_second p q h = rw (lt-leb node_pool (length q) h) (and-false (leb node_pool (length p)))
+pub small : (p q : List ℕ) → (length p < node_pool) ⊎ ((node_pool ≤ length p) × (length q < node_pool)) → room p q ≡ false
+small p q (inl h) = rw (lt-leb node_pool (length p) h)
+small p q (inr h) = rw (lt-leb node_pool (length q) h.1) (and-false (leb node_pool (length p)))
 
 pub both_fit : (p q : List ℕ) → node_pool ≤ length p → node_pool ≤ length q → room p q ≡ true
 both_fit p q a b = rw (le-leb node_pool (length p) a, le-leb node_pool (length q) b)

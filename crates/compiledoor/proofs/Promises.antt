@@ -1,9 +1,5 @@
 -- What compiling a text promises: sound programs with exactly the pattern's spans, and a single outcome. Assumes nothing.
-use mathlib.Core.Path.{◌≡◌, sym, ap₂, ◌∙◌}
-use mathlib.Core.Bool.{true}
-use mathlib.Core.Logic.{◌↔◌}
-use mathlib.Core.List.{List, reverse}
-use Prim.Native.Nat.{ℕ}
+use Rattle.std.proofs.Common.{◌≡◌, sym, ap, ap₂, ◌∙◌, true, ◌↔◌, Result, Ok, Err, List, reverse, ℕ}
 use Rattle.base.specs.Refusals.{number_of}
 use Rattle.base.proofs.RefusalLaws.{number_one}
 use Rattle.def_meaning.specs.Tokens.{Tokens, Spans}
@@ -14,8 +10,9 @@ use Rattle.def_reading.specs.Lists.{accepted, reading}
 use Rattle.def_reading.proofs.PieceLaws.{never}
 use Rattle.def_compiling.specs.Compile.{compiled, compile}
 use Rattle.def_compiling.proofs.CompileLaws as law
-use Rattle.compiledoor.specs.declared.CompileAnswer.{CompileAnswer}
-use Rattle.compiledoor.specs.declared.CompileAnswer.TheVariants.{Compiled, Refused}
+use Rattle.base.specs.declared.Refusal.{Refusal}
+use Rattle.base.specs.declared.Refused.{Refused}
+use Rattle.compiledoor.specs.declared.Compiled.{Compiled}
 use Rattle.compiledoor.specs.Door.{compile_said, compile_says, forward_leaves, reverse_leaves}
 use Rattle.def_reading.proofs.SpelledValues.{accepted_spelled}
 
@@ -36,12 +33,25 @@ module _ (t : List ℕ) (e : ℕ) (ts : Tokens) (f r : List ℕ) (read : reading
   reverse_exact s y = law.reverse_exact ts (accepted_spelled t e ts read) f r done s y
 
 -- an answer is known by what it says
-said_one : (a b : CompileAnswer) → compile_said a ≡ compile_said b → a ≡ b
-said_one (Compiled e f r) (Compiled d g s) h = cc
-said_one (Compiled e f r) (Refused c x) h = never (cc)
-said_one (Refused c x) (Compiled d g s) h = never (cc)
-said_one (Refused c x) (Refused d y) h = let a : number_of c ≡ number_of d = cc in let b : x ≡ y = cc in ap₂ Refused (number_one c d a) b
+abbrev answer : ℕ → ℕ → ℕ → Result Compiled Refused
+answer e f r = Ok (record { reached = e; forward = f; reverse = r })
+
+abbrev refusal : Refusal → ℕ → Result Compiled Refused
+refusal x place = Err (record { why = x; place = place })
+
+said_one : (a b : Result Compiled Refused) → compile_said a ≡ compile_said b → a ≡ b
+said_one (Ok c) (Ok d) h =
+    let e : c.reached ≡ d.reached = cc in
+    let f : c.forward ≡ d.forward = cc in
+    let r : c.reverse ≡ d.reverse = cc in
+    ap (λ (x : ℕ). answer x c.forward c.reverse) e ∙ ap₂ (answer d.reached) f r
+said_one (Ok c) (Err x) h = never (cc)
+said_one (Err x) (Ok d) h = never (cc)
+said_one (Err x) (Err y) h =
+    let n : number_of x.why ≡ number_of y.why = cc in
+    let p : x.place ≡ y.place = cc in
+    ap₂ refusal (number_one x.why y.why n) p
 
 -- the door's promise leaves one answer and one content of each pool
-pub compile_single : (t p q : List ℕ) (a b : CompileAnswer) (u v x y : List ℕ) → compile_said a ≡ compile_says t p q → compile_said b ≡ compile_says t p q → u ≡ forward_leaves t p q → v ≡ forward_leaves t p q → x ≡ reverse_leaves t p q → y ≡ reverse_leaves t p q → (a ≡ b) × (u ≡ v) × (x ≡ y)
+pub compile_single : (t p q : List ℕ) (a b : Result Compiled Refused) (u v x y : List ℕ) → compile_said a ≡ compile_says t p q → compile_said b ≡ compile_says t p q → u ≡ forward_leaves t p q → v ≡ forward_leaves t p q → x ≡ reverse_leaves t p q → y ≡ reverse_leaves t p q → (a ≡ b) × (u ≡ v) × (x ≡ y)
 compile_single t p q a b u v x y h k i j l m = (said_one a b (h ∙ sym k), i ∙ sym j, l ∙ sym m)

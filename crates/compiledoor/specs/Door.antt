@@ -1,29 +1,29 @@
 -- What the compiling door answers, and what it leaves in the two pools. Assumes nothing: these are definitions.
 -- To be believed: `CompileSaid` `compile_said`.
-use Rattle.std.specs.Prelude.{◌≡◌, Bool, cond, ◌&&◌, List, ℕ, leb, length}
+use Rattle.std.specs.Prelude.{◌≡◌, Bool, cond, ◌&&◌, Result, Ok, Err, List, ℕ, leb, length}
 use Rattle.def_meaning.specs.Limits.{node_pool}
 use Rattle.base.specs.Refusals.{number_of}
 use Rattle.base.specs.Pools.{filled, cleared}
 use Rattle.def_reading.specs.Lists.{Verdict, accepted, rejected, reading}
 use Rattle.def_compiling.specs.Compile.{Compiled, compiled, refused, compile}
-use Rattle.compiler.specs.declared.Made.{Made}
-use Rattle.compiler.specs.declared.Made.TheVariants as made
-use Rattle.compiledoor.specs.declared.CompileAnswer.{CompileAnswer}
-use Rattle.compiledoor.specs.declared.CompileAnswer.TheVariants as answer
+use Rattle.base.specs.declared.Refusal.{Refusal}
+use Rattle.base.specs.declared.Refused.{Refused}
+use Rattle.compiler.specs.declared.Sizes.{Sizes}
+use Rattle.compiledoor.specs.declared.Compiled.{Compiled as Answer}
 
 -- 01's values: the offset reached and the words of each program; or the refusal's number and its place
 pub data CompileSaid : Type 0 where
   gives : ℕ → ℕ → ℕ → CompileSaid
   refuses : ℕ → ℕ → CompileSaid
 
-abbrev pub compile_said : CompileAnswer → CompileSaid
-compile_said (answer.Compiled reached f r) = gives reached f r
-compile_said (answer.Refused x place) = refuses (number_of x) place
+abbrev pub compile_said : Result Answer Refused → CompileSaid
+compile_said (Ok c) = gives c.reached c.forward c.reverse
+compile_said (Err x) = refuses (number_of x.why) x.place
 
 -- of what was made of a text that was read up to the offset reached
-abbrev pub made_says : ℕ → Made → CompileSaid
-made_says reached (made.Programs f r) = gives reached f r
-made_says reached (made.Refused x) = refuses (number_of x) 0
+abbrev pub made_says : ℕ → Result Sizes Refusal → CompileSaid
+made_says reached (Ok s) = gives reached s.forward s.reverse
+made_says reached (Err x) = refuses (number_of x) 0
 
 -- a text's refusals have their places; 12, 14 and 13 have place 0
 unfoldable pub compiled_says : ℕ → Compiled → CompileSaid

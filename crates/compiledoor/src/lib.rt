@@ -4,69 +4,60 @@
 ghost use Rattle.std.specs.Prelude.{◌≡◌, ◌≤◌, length};
 ghost use Rattle.def_meaning.specs.Limits.{node_pool};
 ghost use Rattle.def_reading.specs.Lists.{reading};
-ghost use Rattle.compiledoor.specs.Door.{compile_said, made_says, TextFills, compile_says, forward_leaves, reverse_leaves};
+ghost use Rattle.compiledoor.specs.Door.{compile_said, TextFills, compile_says, forward_leaves, reverse_leaves};
 
-use base::{NODE_POOL, Refusal, TOKEN_POOL};
-use compiler::{Made, clear, compile_tokens};
+use base::{NODE_POOL, Refusal, Refused, TOKEN_POOL};
+use compiler::{clear, compile_tokens};
 use nodes::NodeWord;
 use readdoor::{ReadAnswer, read};
 
-// The offset reached, as in reading, and the words of each program; or a refusal and its place.
-#[derive(Drop)]
-pub enum CompileAnswer {
-    Compiled {
-        reached: usize,
-        forward: usize,
-        reverse: usize,
-    },
-    Refused(Refusal, usize),
-}
-
-// Tokens that read well are refused at place 0.
-fn answer_of(reached: usize, made: Made) -> CompileAnswer
-    ensures { compile_said result ≡ made_says reached made }
-{
-    match made {
-        Made::Programs(forward, reverse) => CompileAnswer::Compiled {
-            reached,
-            forward,
-            reverse,
-        },
-        Made::Refused(code) => CompileAnswer::Refused(code, 0),
-    }
+// The offset reached, as in reading, and the words of each program.
+#[derive(Clone, Copy, Debug, PartialEq, Eq)]
+pub struct Compiled {
+    pub reached: usize,
+    pub forward: usize,
+    pub reverse: usize,
 }
 
 // With both pools long enough. The tokens are read into 4,096 words of the stack.
-fn compile_text(text: &[u8], forward: &mut [NodeWord], reverse: &mut [NodeWord]) -> CompileAnswer
+fn compile_text(
+    text: &[u8],
+    forward: &mut [NodeWord],
+    reverse: &mut [NodeWord],
+) -> Result<Compiled, Refused>
     requires { (node_pool ≤ length forward.old) × (node_pool ≤ length reverse.old) }
     ensures { TextFills (reading text.now) (compile_said result)
         forward.old forward.new reverse.old reverse.new }
 {
     let mut tokens = [0u32; TOKEN_POOL];
-    let r = read(text, &mut tokens);
-    match r {
+    match read(text, &mut tokens) {
         ReadAnswer::Read { end, words } => {
-            let made = compile_tokens(&tokens[0..words], forward, reverse);
-            answer_of(end, made)
+            let sizes = compile_tokens(&tokens[..words], forward, reverse)?;
+            Ok(Compiled {
+                reached: end,
+                forward: sizes.forward,
+                reverse: sizes.reverse,
+            })
         }
-        ReadAnswer::Refused(code, place) => {
+        ReadAnswer::Refused(why, place) => {
             clear(forward, reverse);
-            CompileAnswer::Refused(code, place)
+            Err(Refused { why, place })
         }
     }
 }
 
 // Compiles a text into the first 512 words of each pool.
-pub fn compile(text: &[u8], forward: &mut [NodeWord], reverse: &mut [NodeWord]) -> CompileAnswer
+pub fn compile(
+    text: &[u8],
+    forward: &mut [NodeWord],
+    reverse: &mut [NodeWord],
+) -> Result<Compiled, Refused>
     ensures { (compile_said result ≡ compile_says text.now forward.old reverse.old)
         × (forward.new ≡ forward_leaves text.now forward.old reverse.old)
         × (reverse.new ≡ reverse_leaves text.now forward.old reverse.old) }
 {
-    if forward.len() < NODE_POOL {
-        return CompileAnswer::Refused(Refusal::NoRoom, 0);
-    }
-    if reverse.len() < NODE_POOL {
-        return CompileAnswer::Refused(Refusal::NoRoom, 0);
+    if forward.len() < NODE_POOL || reverse.len() < NODE_POOL {
+        return Err(Refusal::NoRoom.into());
     }
     compile_text(text, forward, reverse)
 }

@@ -1,20 +1,13 @@
 -- Words copied into a pool, and what compiling leaves there. Assumes nothing.
-use mathlib.Core.Path.{◌≡◌, refl, sym, ap, ap₂, ◌∙◌}
-use mathlib.Core.Bool.{Bool, true, false, not, ◌&&◌, and-false}
-use mathlib.Core.List.{List, [], ◌∷◌, ◌++◌, append_assoc}
-use Prim.Native.Nat.{ℕ, suc, ◌+◌, ◌-◌, ◌≤◌, ◌<◌}
-use native.Mathlib.Omega.{arith}
-use native.Mathlib.Numerals.{add-one}
-use lib.Dec.{leb}
-use lib.ListN.{length, get_or, take, drop, set}
-use lib.Seq.{length-take-le, take-suc, drop-cons, set_at, drop-drop}
-use borrow.Author.Tests.{le-leb, lt-leb}
+use Rattle.std.proofs.Common.{◌≡◌, refl, sym, ap, ap₂, ◌∙◌, Bool, true, false, not, ◌&&◌, leb, Ok, Err, List, [], ◌∷◌, ◌++◌, append_assoc, ℕ, suc, ◌+◌, ◌-◌, ◌≤◌, ◌<◌, add-one, arith, length, get_or, take, drop, set}
+use Rattle.std.proofs.Math.Seq.{length-take-le, take-suc, drop-cons, set_at, drop-drop}
+use Rattle.std.proofs.Math.Bool.{and-false}
+use Rattle.std.proofs.lemmas.Bool.{le-leb, lt-leb}
 use Rattle.def_meaning.specs.Limits.{node_limit, node_pool}
 use Rattle.base.specs.declared.Refusal.TheVariants.{TooManyNodes, BranchTooLong}
 use Rattle.base.specs.Pools.{zeroed, filled, cleared}
 use Rattle.base.proofs.PoolLaws.{zeroed_filled}
 use Rattle.def_compiling.specs.Compile.{Compiled}
-use Rattle.compiler.specs.declared.Made.TheVariants.{Programs, Refused}
 use Rattle.compiler.specs.Made.{Fills, limited}
 
 -- one word more
@@ -39,17 +32,17 @@ module _ (n m : ℕ) (f r p p' q q' : List ℕ) (long : Bool) where
   abbrev tests : Compiled
   tests = limited (not long) (leb n node_limit && leb m node_limit) f r
 
-  pub made_long : long ≡ true → p' ≡ cleared node_pool p → q' ≡ cleared node_pool q → Fills tests (Refused BranchTooLong) p p' q q'
+  pub made_long : long ≡ true → p' ≡ cleared node_pool p → q' ≡ cleared node_pool q → Fills tests (Err BranchTooLong) p p' q q'
   unfolding limited
   made_long e x y = rw e (refl, x, y)
 
-  pub made_many : long ≡ false → (leb n node_limit && leb m node_limit) ≡ false → p' ≡ cleared node_pool p → q' ≡ cleared node_pool q → Fills tests (Refused TooManyNodes) p p' q q'
+  pub made_many : long ≡ false → (leb n node_limit && leb m node_limit) ≡ false → p' ≡ cleared node_pool p → q' ≡ cleared node_pool q → Fills tests (Err TooManyNodes) p p' q q'
   unfolding limited
   made_many e g x y = rw (e, g) (refl, x, y)
 
-  pub made_both : long ≡ false → n ≤ node_limit → m ≤ node_limit → length f ≡ n → length r ≡ m → p' ≡ filled node_pool f p → q' ≡ filled node_pool r q → Fills tests (Programs n m) p p' q q'
+  pub made_both : long ≡ false → n ≤ node_limit → m ≤ node_limit → length f ≡ n → length r ≡ m → p' ≡ filled node_pool f p → q' ≡ filled node_pool r q → Fills tests (Ok (record { forward = n; reverse = m })) p p' q q'
   unfolding limited
-  made_both e a b k l x y = rw (e, le-leb n node_limit a, le-leb m node_limit b) (ap₂ Programs (sym k) (sym l), x, y)
+  made_both e a b k l x y = rw (e, le-leb n node_limit a, le-leb m node_limit b) (cc, x, y)
 
 pub first_many : (n m : ℕ) → node_limit < n → (leb n node_limit && leb m node_limit) ≡ false
 first_many n m h = rw (lt-leb n node_limit h)

@@ -1,12 +1,6 @@
 -- From what was emitted to what compiling is. Assumes nothing.
-use mathlib.Core.Path.{◌≡◌, refl, sym, ap, ap₂, ◌∙◌}
-use mathlib.Core.Bool.{Bool, true, false, not, ◌&&◌, ◌||◌}
-use mathlib.Core.List.{List, ◌++◌}
-use Prim.Native.Nat.{ℕ, ◌*◌, ◌-◌, ◌≤◌}
-use native.Mathlib.Omega.{arith}
-use lib.Dec.{leb}
-use lib.ListN.{length, take, drop}
-use lib.Seq.{take_at}
+use Rattle.std.proofs.Common.{◌≡◌, refl, sym, ap, ap₂, ◌∙◌, Bool, true, false, not, ◌&&◌, ◌||◌, leb, Err, List, ◌++◌, ℕ, ◌*◌, ◌-◌, ◌≤◌, arith, length, take, drop}
+use Rattle.std.proofs.Math.Seq.{take_at}
 use Rattle.base.specs.declared.Refusal.TheVariants.{NotSimple}
 use Rattle.base.specs.Pools.{cleared}
 use Rattle.def_meaning.specs.Limits.{node_limit, token_pool, node_pool, entry_limit}
@@ -22,7 +16,6 @@ use Rattle.def_compiling.proofs.CountLaws.{added_words}
 use Rattle.emit.specs.Lists.{tokens_program, offsets, Outlined}
 use Rattle.emit.proofs.OrderLaws.{directed, offsets_count}
 use Rattle.emit.proofs.LinkLaws.{directed_long, tokens_program_lem}
-use Rattle.compiler.specs.declared.Made.TheVariants.{Refused}
 use Rattle.compiler.specs.Made.{Fills, limited}
 
 module _ (ws : List ℕ) (ts : Tokens) (e : ws ≡ entries ts) where
@@ -86,6 +79,6 @@ module _ (ws : List ℕ) (ts : Tokens) (e : ws ≡ entries ts) where
         both false y = refl
 
 -- 12
-pub not_simple_made : (ts : Tokens) (p p' q q' : List ℕ) → simple ts ≡ false → p' ≡ cleared node_pool p → q' ≡ cleared node_pool q → Fills (compile ts) (Refused NotSimple) p p' q q'
+pub not_simple_made : (ts : Tokens) (p p' q q' : List ℕ) → simple ts ≡ false → p' ≡ cleared node_pool p → q' ≡ cleared node_pool q → Fills (compile ts) (Err NotSimple) p p' q q'
 unfolding compile
 not_simple_made ts p p' q q' e x y = rw e (refl, x, y)

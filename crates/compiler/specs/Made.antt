@@ -1,17 +1,17 @@
 -- What compiling tokens answers, and what it leaves in the two pools. Assumes nothing: these are definitions.
 -- To be believed: nothing.
-use Rattle.std.specs.Prelude.{◌≡◌, Bool, cond, List, ℕ, length}
+use Rattle.std.specs.Prelude.{◌≡◌, Bool, cond, Result, Ok, Err, List, ℕ, length}
 use Rattle.def_meaning.specs.Limits.{node_pool}
+use Rattle.base.specs.declared.Refusal.{Refusal}
 use Rattle.base.specs.declared.Refusal.TheVariants.{TooManyNodes, BranchTooLong}
 use Rattle.base.specs.Pools.{filled, cleared}
 use Rattle.def_compiling.specs.Compile.{Compiled, compiled, refused}
-use Rattle.compiler.specs.declared.Made.{Made}
-use Rattle.compiler.specs.declared.Made.TheVariants.{Programs, Refused}
+use Rattle.compiler.specs.declared.Sizes.{Sizes}
 
 -- the programs' words fill the first 512 words of their pools; a refusal zeroes those
-abbrev pub Fills : Compiled → Made → List ℕ → List ℕ → List ℕ → List ℕ → Type 0
-Fills (compiled f r) made p p' q q' = (made ≡ Programs (length f) (length r)) × (p' ≡ filled node_pool f p) × (q' ≡ filled node_pool r q)
-Fills (refused x) made p p' q q' = (made ≡ Refused x) × (p' ≡ cleared node_pool p) × (q' ≡ cleared node_pool q)
+abbrev pub Fills : Compiled → Result Sizes Refusal → List ℕ → List ℕ → List ℕ → List ℕ → Type 0
+Fills (compiled f r) made p p' q q' = (made ≡ Ok (record { forward = length f; reverse = length r })) × (p' ≡ filled node_pool f p) × (q' ≡ filled node_pool r q)
+Fills (refused x) made p p' q q' = (made ≡ Err x) × (p' ≡ cleared node_pool p) × (q' ≡ cleared node_pool q)
 
 -- once the tokens are simple: 14, then 13
 unfoldable pub limited : Bool → Bool → List ℕ → List ℕ → Compiled

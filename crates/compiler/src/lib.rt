@@ -16,21 +16,19 @@ use base::{ENTRY_LIMIT, JUMP_LIMIT, NODE_LIMIT, NODE_POOL, Refusal};
 use emit::add_tokens;
 use nodes::{NodeWord, zero_nodes};
 
-// How many words each program has, or why there is none.
-#[derive(Drop)]
-pub enum Made {
-    Programs(usize, usize),
-    Refused(Refusal),
+// How many words each program has.
+#[derive(Clone, Copy, Debug, PartialEq, Eq)]
+pub struct Sizes {
+    pub forward: usize,
+    pub reverse: usize,
 }
 
 // Whether a jump has an upper bound, within the limit.
+#[tactic(auto, unfolding(def_compiling::specs::Compile::simple_token, crate::specs::Walks::to_of))]
 fn jump_near(b: u32, c: u32) -> bool
     ensures { result ≡ simple_token (Jump 0 (to_of b c)) }
 {
-    if c == 0 {
-        return false;
-    }
-    b <= JUMP_LIMIT
+    c != 0 && b <= JUMP_LIMIT
 }
 
 // Whether an entry may stand inside a branch.
@@ -38,10 +36,7 @@ fn flat_entry(kind: u32, a: u32, b: u32, c: u32) -> bool
     ensures { result ≡ flat_token (told_by kind a b c) }
 {
     if kind == 4 {
-        if jump_near(b, c) {
-            return b <= a;
-        }
-        return false;
+        return jump_near(b, c) && b <= a;
     }
     kind != 5
 }
@@ -52,7 +47,7 @@ fn flat_entries(ws: &[u32]) -> bool
 {
     let mut rest = ws;
     while 4 <= rest.len() {
-        if flat_entry(rest[0], rest[1], rest[2], rest[3]) {} else {
+        if !flat_entry(rest[0], rest[1], rest[2], rest[3]) {
             return false;
         }
         rest = &rest[4..];
@@ -95,7 +90,7 @@ pub fn simple_tokens(ws: &[u32]) -> bool
 {
     let mut at = 0;
     while at < ws.len() {
-        if simple_at(ws, at) {} else {
+        if !simple_at(ws, at) {
             return false;
         }
         at = at + token_size(ws, at);
@@ -158,39 +153,37 @@ fn finish(
     long: bool,
     forward: &mut [NodeWord],
     reverse: &mut [NodeWord],
-) -> Made
+) -> Result<Sizes, Refusal>
     requires { (n ≤ length first.now) × (m ≤ length second.now) × (node_pool ≤ length forward.old) × (node_pool ≤ length reverse.old) }
     ensures { Fills (limited (not long) (leb n node_limit && leb m node_limit) (take n first.now) (take m second.now)) result
         forward.old forward.new reverse.old reverse.new }
 {
     if long {
         clear(forward, reverse);
-        return Made::Refused(Refusal::BranchTooLong);
+        return Err(Refusal::BranchTooLong);
     }
     if NODE_LIMIT < n {
         clear(forward, reverse);
-        return Made::Refused(Refusal::TooManyNodes);
+        return Err(Refusal::TooManyNodes);
     }
     if NODE_LIMIT < m {
         clear(forward, reverse);
-        return Made::Refused(Refusal::TooManyNodes);
+        return Err(Refusal::TooManyNodes);
     }
     fill(forward, first, n);
     fill(reverse, second, m);
-    Made::Programs(n, m)
-}
-
-fn either(a: bool, b: bool) -> bool
-    ensures { result ≡ (a || b) }
-{
-    if a {
-        return true;
-    }
-    b
+    Ok(Sizes {
+        forward: n,
+        reverse: m,
+    })
 }
 
 // Both programs of simple tokens. Their words are made on the stack, where all that entries can give fit: an entry gives a word at most.
-fn compile_simple(tokens: &[u32], forward: &mut [NodeWord], reverse: &mut [NodeWord]) -> Made
+fn compile_simple(
+    tokens: &[u32],
+    forward: &mut [NodeWord],
+    reverse: &mut [NodeWord],
+) -> Result<Sizes, Refusal>
     requires { Entered tokens.now × Simply tokens.now × (node_pool ≤ length forward.old) × (node_pool ≤ length reverse.old) }
     ensures { (ts : Tokens) → tokens.now ≡ entries ts → Spelled ts → Fills (compile ts) result
         forward.old forward.new reverse.old reverse.new }
@@ -201,19 +194,23 @@ fn compile_simple(tokens: &[u32], forward: &mut [NodeWord], reverse: &mut [NodeW
     let mut second: [NodeWord; ENTRY_LIMIT] = [0; ENTRY_LIMIT];
     let f = add_tokens(tokens, &starts[0..count], false, &mut first);
     let r = add_tokens(tokens, &starts[0..count], true, &mut second);
-    let long = either(f.long, r.long);
+    let long = f.long || r.long;
     finish(&first, f.count, &second, r.count, long, forward, reverse)
 }
 
 // The programs of tokens, forwards and from every list read backwards; 12 first, then 14, then 13.
-pub fn compile_tokens(tokens: &[u32], forward: &mut [NodeWord], reverse: &mut [NodeWord]) -> Made
+pub fn compile_tokens(
+    tokens: &[u32],
+    forward: &mut [NodeWord],
+    reverse: &mut [NodeWord],
+) -> Result<Sizes, Refusal>
     requires { Entered tokens.now × (node_pool ≤ length forward.old) × (node_pool ≤ length reverse.old) }
     ensures { (ts : Tokens) → tokens.now ≡ entries ts → Spelled ts → Fills (compile ts) result
         forward.old forward.new reverse.old reverse.new }
 {
-    if simple_tokens(tokens) {} else {
+    if !simple_tokens(tokens) {
         clear(forward, reverse);
-        return Made::Refused(Refusal::NotSimple);
+        return Err(Refusal::NotSimple);
     }
     compile_simple(tokens, forward, reverse)
 }

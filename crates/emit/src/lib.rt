@@ -14,7 +14,7 @@ ghost use Rattle.def_compiling.specs.Compile.{short_in, short_of, short};
 ghost use Rattle.emit.specs.Lists.{list_program, branches_at, FlatLists, alt_at, token_at, item_count, item_last, item_out, size_at, Stands, tokens_program, Outlined};
 
 use base::{BRANCH_LIMIT, JUMP_LIMIT};
-use nodes::{ByteTest, Field, Node, NodeWord, branch_word, field, node_word};
+use nodes::{ByteTest, Field, Node, NodeWord, branch_word, field};
 
 // What a token of one entry adds: a node's word, or a jump, which may grow the last node.
 #[derive(Drop)]
@@ -43,10 +43,10 @@ fn mask_addend(a: u32, b: u32) -> Addend
 {
     let v = (a % 16) as Field;
     if b == 0 {
-        return Addend::Word(node_word(Node::One(ByteTest::Mask(v, 0x0F))));
+        return Addend::Word(NodeWord::from(ByteTest::Mask(v, 0x0F)));
     }
     if b == 1 {
-        return Addend::Word(node_word(Node::One(ByteTest::Mask(16 * v, 0xF0))));
+        return Addend::Word(NodeWord::from(ByteTest::Mask(16 * v, 0xF0)));
     }
     Addend::Gap(1)
 }
@@ -56,19 +56,19 @@ fn not_mask_addend(a: u32, b: u32) -> Addend
 {
     let v = (a % 16) as Field;
     if b == 0 {
-        return Addend::Word(node_word(Node::One(ByteTest::NegatedMask(v, 0x0F))));
+        return Addend::Word(NodeWord::from(ByteTest::NegatedMask(v, 0x0F)));
     }
     if b == 1 {
-        return Addend::Word(node_word(Node::One(ByteTest::NegatedMask(16 * v, 0xF0))));
+        return Addend::Word(NodeWord::from(ByteTest::NegatedMask(16 * v, 0xF0)));
     }
-    Addend::Word(node_word(Node::One(ByteTest::NegatedMask(0, 0))))
+    Addend::Word(NodeWord::from(ByteTest::NegatedMask(0, 0)))
 }
 
 fn jump_addend(a: Field, b: Field) -> Addend
     ensures { result ≡ addend_of (jump_item a b) }
 {
     if a < b {
-        return Addend::Word(node_word(Node::JumpRange(a, b)));
+        return Addend::Word(NodeWord::from(Node::JumpRange(a, b)));
     }
     Addend::Gap(a)
 }
@@ -86,8 +86,8 @@ pub fn entry_addend(kind: u32, a: u32, b: u32) -> Addend
 {
     let v = byte_in(a);
     match kind {
-        0 => Addend::Word(node_word(Node::One(ByteTest::Byte(v)))),
-        1 => Addend::Word(node_word(Node::One(ByteTest::NegatedMask(v, 0xFF)))),
+        0 => Addend::Word(NodeWord::from(ByteTest::Byte(v))),
+        1 => Addend::Word(NodeWord::from(ByteTest::NegatedMask(v, 0xFF))),
         2 => mask_addend(a, b),
         3 => not_mask_addend(a, b),
         _ => jump_addend(field(a), field(b)),
@@ -99,7 +99,7 @@ fn append_jump(out: &mut [NodeWord], n: usize, len: Field) -> Tail
     requires { n < length out.old }
     ensures { (result.count ≡ n + 1) × (result.last ≡ Grows len) × (out.new ≡ set out.old n (word 3 len 0)) }
 {
-    out[n] = node_word(Node::Jump(len));
+    out[n] = NodeWord::from(Node::Jump(len));
     Tail {
         count: n + 1,
         last: Last::Grows(len),
@@ -120,7 +120,7 @@ fn add_jump(out: &mut [NodeWord], n: usize, last: Last, len: Field) -> Tail
         return append_jump(out, n, len);
     }
     let at = n - 1;
-    out[at] = node_word(Node::Jump(sum as Field));
+    out[at] = NodeWord::from(Node::Jump(sum as Field));
     Tail {
         count: n,
         last: Last::Grows(sum as Field),
@@ -234,7 +234,7 @@ fn add_alternation(tokens: &[u32], at: usize, backwards: bool, out: &mut [NodeWo
     let to = from + 4 * (tokens[at + 2] as usize);
     let b = add_lists(&tokens[from..to], lists, backwards, &mut out[1..]);
     let count = b.count;
-    out[0] = node_word(Node::Alternation(count as Field));
+    out[0] = NodeWord::from(Node::Alternation(count as Field));
     Branched {
         count: count + 1,
         long: b.long,

@@ -5,11 +5,8 @@ use Rattle.compiledoor.proofs.compile.Goals as goal
 
 pub returns-then-forward-lt-NODE_POOL : goal.returns-then-forward-lt-NODE_POOL
 returns-then-forward-lt-NODE_POOL c =
-    law.door_small c.args.text.now c.args.forward.now c.args.reverse.now (law.small_first c.args.forward.now c.args.reverse.now c.if-forward-lt-NODE_POOL.true)
-
-pub returns-then-reverse-lt-NODE_POOL : goal.returns-then-reverse-lt-NODE_POOL
-returns-then-reverse-lt-NODE_POOL c =
-    law.door_small c.args.text.now c.args.forward.now c.args.reverse.now (law.small_second c.args.forward.now c.args.reverse.now c.if-reverse-lt-NODE_POOL.true)
+    let (why, place) = c.into.ensures in
+    rw (why, place) (law.door_small c.args.text.now c.args.forward.now c.args.reverse.now (law.small c.args.forward.now c.args.reverse.now c.then-forward-lt-NODE_POOL.either))
 
 pub returns : goal.returns
 returns c =

@@ -1,8 +1,8 @@
 -- `compiler::flat_entry` meets its contract. Assumes nothing.
 use Rattle.compiler.specs.Walks.{told_by}
 use Rattle.compiler.proofs.WalkLaws as law
-use borrow.Author.Tests.{ne_eqb}
-use mathlib.Core.Path.{sym, ◌∙◌}
+use Rattle.std.proofs.Common.{sym, ◌∙◌}
+use Rattle.std.proofs.lemmas.Bool.{ne_eqb}
 use Rattle.compiler.proofs.flat_entry.Goals as goal
 
 pub returns-then-jump_near : goal.returns-then-jump_near
@@ -10,10 +10,10 @@ unfolding told_by
 returns-then-jump_near c =
     rw (c.if-kind-eq4.true, law.near_flat c.args.a c.args.b c.args.c, sym (sym c.if-jump_near.true ∙ c.jump_near.ensures))
 
-pub returns-then-kind-eq4 : goal.returns-then-kind-eq4
+pub returns-else-jump_near : goal.returns-else-jump_near
 unfolding told_by
-returns-then-kind-eq4 c =
-    rw (c.if-kind-eq4.true, law.near_flat c.args.a c.args.b c.args.c, sym (sym c.if-jump_near.false ∙ c.jump_near.ensures))
+returns-else-jump_near c =
+    rw (c.if-kind-eq4.true, law.near_flat c.args.a c.args.b c.args.c, sym (sym c.if-jump_near.false ∙ c.jump_near.ensures)) c.if-jump_near.false
 
 pub returns : goal.returns
 unfolding told_by

@@ -1,18 +1,16 @@
 -- `compiler::simple_tokens` meets its contract. Assumes nothing.
 use Rattle.compiler.proofs.WalkLaws as law
 use Rattle.emit.proofs.AltLaws as alts
-use Prim.Native.Nat.{ℕ, ◌+◌}
-use mathlib.Core.Path.{sym, ◌∙◌, subst}
-use native.Mathlib.Omega.{arith}
+use Rattle.std.proofs.Common.{ℕ, ◌+◌, sym, ◌∙◌, subst, arith}
 use Rattle.compiler.proofs.simple_tokens.Goals as goal
 
 pub simple_at-requires : goal.simple_at-requires
 simple_at-requires c =
     (law.walk_step c.args.ws.now c.loop-at.at c.requires.tokens c.loop-at-test.true (c.loop-at.invariant c.requires.tokens c.requires.entered)).fits
 
-pub returns-else-simple_at : goal.returns-else-simple_at
-returns-else-simple_at c =
-    λ ts e. sym ((law.walk_step c.args.ws.now c.loop-at.at ts c.loop-at-test.true (c.loop-at.invariant ts e)).fails (sym c.simple_at.ensures ∙ c.if-simple_at.false))
+pub returns-then-not-simple_at : goal.returns-then-not-simple_at
+returns-then-not-simple_at c =
+    λ ts e. sym ((law.walk_step c.args.ws.now c.loop-at.at ts c.loop-at-test.true (c.loop-at.invariant ts e)).fails (sym c.simple_at.ensures ∙ c.if-not-simple_at.true))
 
 pub token_size-at-requires : goal.token_size-at-requires
 token_size-at-requires c =
@@ -28,7 +26,7 @@ loop-at-smaller c =
 
 pub loop-at-preserved : goal.loop-at-preserved
 loop-at-preserved c =
-    λ ts e. subst (λ (n : ℕ). law.Walked c.args.ws.now (c.loop-at.at + n) ts) (sym c.token_size-at.ensures) ((law.walk_step c.args.ws.now c.loop-at.at ts c.loop-at-test.true (c.loop-at.invariant ts e)).passes (sym c.simple_at.ensures ∙ c.if-simple_at.true))
+    λ ts e. subst (λ (n : ℕ). law.Walked c.args.ws.now (c.loop-at.at + n) ts) (sym c.token_size-at.ensures) ((law.walk_step c.args.ws.now c.loop-at.at ts c.loop-at-test.true (c.loop-at.invariant ts e)).passes (sym c.simple_at.ensures ∙ c.if-not-simple_at.false))
 
 pub returns : goal.returns
 returns c =

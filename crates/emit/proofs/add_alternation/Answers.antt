@@ -48,5 +48,5 @@ returns c =
     let f = law.alt_fits c.args.tokens.now c.args.at c.requires.0 c.requires.1 in
     let s = law.size_five c.args.tokens.now c.args.at c.requires.1 in
     let pre = c.requires in law.alternation c.args.tokens.now c.args.at c.requires.0 c.requires.1 c.args.backwards c.args.out.now
-    c.add_lists-b.new.out c.add_lists-b.result.count c.node_word.result c.add_lists-b.result.long (omega arith) c.add_lists-b.ensures.0 c.add_lists-b.ensures.1
-    c.add_lists-b.ensures.2 c.node_word.ensures
+    c.add_lists-b.new.out c.add_lists-b.result.count c.from.result c.add_lists-b.result.long (omega arith) c.add_lists-b.ensures.0 c.add_lists-b.ensures.1
+    c.add_lists-b.ensures.2 c.from.ensures

@@ -15,4 +15,4 @@ returns-then-sum-gt-JUMP_LIMIT c =
 
 pub returns : goal.returns
 returns c =
-    let q = law.put_grown c.args.out.now c.args.n c.args.last c.args.len c.in-Grows.old c.in-Grows.is c.if-sum-gt-JUMP_LIMIT.false in (q.0, q.1, ap (λ (w : ℕ). set c.args.out.now (c.args.n - 1) w) c.node_word.ensures ∙ q.2)
+    let q = law.put_grown c.args.out.now c.args.n c.args.last c.args.len c.in-Grows.old c.in-Grows.is c.if-sum-gt-JUMP_LIMIT.false in (q.0, q.1, ap (λ (w : ℕ). set c.args.out.now (c.args.n - 1) w) c.from.ensures ∙ q.2)

@@ -9,12 +9,12 @@ use Rattle.emit.proofs.entry_addend.Goals as goal
 pub returns-in-0 : goal.returns-in-0
 unfolding addend_of entry_item
 returns-in-0 c =
-    rw (c.in-0.is, sym c.byte_in-v.ensures) (ap Word c.node_word.ensures)
+    rw (c.in-0.is, sym c.byte_in-v.ensures) (ap Word c.from.ensures)
 
 pub returns-in-1 : goal.returns-in-1
 unfolding addend_of entry_item
 returns-in-1 c =
-    rw (c.in-1.is, sym c.byte_in-v.ensures) (ap Word c.node_word-in-1.ensures)
+    rw (c.in-1.is, sym c.byte_in-v.ensures) (ap Word c.from-in-1.ensures)
 
 pub returns-in-2 : goal.returns-in-2
 unfolding entry_item

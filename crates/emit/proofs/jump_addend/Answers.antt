@@ -8,7 +8,7 @@ use Rattle.emit.proofs.jump_addend.Goals as goal
 pub returns-then-a-b : goal.returns-then-a-b
 unfolding addend_of jump_item
 returns-then-a-b c =
-    rw (lt-ltb _ _ c.if-a-b.true) (ap Word c.node_word.ensures)
+    rw (lt-ltb _ _ c.if-a-b.true) (ap Word c.from.ensures)
 
 pub returns : goal.returns
 unfolding addend_of jump_item

@@ -8,12 +8,12 @@ use Rattle.emit.proofs.mask_addend.Goals as goal
 pub returns-then-b-eq0 : goal.returns-then-b-eq0
 unfolding addend_of mask_item
 returns-then-b-eq0 c =
-    rw c.if-b-eq0.true (ap Word c.node_word.ensures)
+    rw c.if-b-eq0.true (ap Word c.from.ensures)
 
 pub returns-then-b-eq1 : goal.returns-then-b-eq1
 unfolding addend_of mask_item
 returns-then-b-eq1 c =
-    rw c.if-b-eq1.true (ap Word c.node_word-then-b-eq1.ensures)
+    rw c.if-b-eq1.true (ap Word c.from-then-b-eq1.ensures)
 
 pub returns : goal.returns
 unfolding addend_of mask_item
