@@ -3,7 +3,6 @@
 #![tactic(auto)]
 
 use base::Refusal;
-use compiledoor::CompileAnswer;
 use gatekit::Style;
 use literaldoor::LiteralsAnswer;
 use nodes::NodeWord;
@@ -45,19 +44,15 @@ fn programs<P: Print>(rt: &P, text: &[u8], hay: &[u8]) -> io::Result<()> {
     let mut reverse: [NodeWord; 512] = [0; 512];
     let r = compiledoor::compile(text, &mut forward, &mut reverse);
     match r {
-        CompileAnswer::Compiled {
-            reached: _,
-            forward: f,
-            reverse: b,
-        } => {
-            words(rt, b"forward", &forward, f)?;
-            words(rt, b"reverse", &reverse, b)?;
-            let n = gatekit::least(f, 512);
+        Ok(made) => {
+            words(rt, b"forward", &forward, made.forward)?;
+            words(rt, b"reverse", &reverse, made.reverse)?;
+            let n = gatekit::least(made.forward, 512);
             ends(rt, &forward[0..n], hay)?;
-            let m = gatekit::least(b, 512);
+            let m = gatekit::least(made.reverse, 512);
             starts(rt, &reverse[0..m], hay)
         }
-        CompileAnswer::Refused(why, place) => refused(rt, why, place),
+        Err(e) => refused(rt, e.why, e.place),
     }
 }
 

@@ -19,8 +19,9 @@ use Rattle.lines.specs.Lines.{literals_lines, cut, refused_line, literals_refuse
 use Rattle.lines.proofs.ListingLaws.{cut_flatten, programs_fit}
 use Rattle.base.specs.declared.Refusal.{Refusal}
 use Rattle.base.specs.Refusals.{number_of}
-use Rattle.compiledoor.specs.declared.CompileAnswer.{CompileAnswer}
-use Rattle.compiledoor.specs.declared.CompileAnswer.TheVariants.{Compiled as Compiled', Refused as Unmade}
+use Rattle.std.specs.Prelude.{Result, Ok, Err}
+use Rattle.base.specs.declared.Refused.{Refused}
+use Rattle.compiledoor.specs.declared.Compiled.{Compiled as Answer}
 use Rattle.literaldoor.specs.declared.LiteralsAnswer.{LiteralsAnswer}
 use Rattle.literaldoor.specs.declared.LiteralsAnswer.TheVariants.{Picked as Picked', Refused as Untaken}
 use Rattle.compiledoor.specs.Door as made
@@ -141,14 +142,14 @@ module _ (b l : List ℕ) (lb : length b ≡ lent_bytes) (ll : length l ≡ lent
   untaken_door t why place r h e = says_untaken (reading t) (number_of why) place (ap taken.literals_said (sym h) ∙ e)
 
 -- at the compiling door, for pools of the lent sizes
-pub made_door : (t f r f' r' : List ℕ) (reached n m : ℕ) (a : CompileAnswer) → length f ≡ node_pool → length r ≡ node_pool → length f' ≡ node_pool → length r' ≡ node_pool → a ≡ Compiled' reached n m → made.compile_said a ≡ made.compile_says t f r → f' ≡ made.forward_leaves t f r → r' ≡ made.reverse_leaves t f r → Made (reading t) n m f' r'
+pub made_door : (t f r f' r' : List ℕ) (c : Answer) (a : Result Answer Refused) → length f ≡ node_pool → length r ≡ node_pool → length f' ≡ node_pool → length r' ≡ node_pool → a ≡ Ok c → made.compile_said a ≡ made.compile_says t f r → f' ≡ made.forward_leaves t f r → r' ≡ made.reverse_leaves t f r → Made (reading t) c.forward c.reverse f' r'
 unfolding made.compile_says made.forward_leaves made.reverse_leaves
-made_door t f r f' r' reached n m a lf lr lf' lr' h e ef er =
-    says_made (reading t) f r f' r' reached n m lf' lr' (ap made.compile_said (sym h) ∙ (rw (lf, lr) at e)) (rw (lf, lr) at ef) (rw (lf, lr) at er)
+made_door t f r f' r' c a lf lr lf' lr' h e ef er =
+    says_made (reading t) f r f' r' c.reached c.forward c.reverse lf' lr' (ap made.compile_said (sym h) ∙ (rw (lf, lr) at e)) (rw (lf, lr) at ef) (rw (lf, lr) at er)
 
-pub refused_door : (t f r : List ℕ) (why : Refusal) (place : ℕ) (a : CompileAnswer) → length f ≡ node_pool → length r ≡ node_pool → a ≡ Unmade why place → made.compile_said a ≡ made.compile_says t f r → contents (reading t) ≡ refused (number_of why) place
+pub refused_door : (t f r : List ℕ) (x : Refused) (a : Result Answer Refused) → length f ≡ node_pool → length r ≡ node_pool → a ≡ Err x → made.compile_said a ≡ made.compile_says t f r → contents (reading t) ≡ refused (number_of x.why) x.place
 unfolding made.compile_says
-refused_door t f r why place a lf lr h e = says_refused (reading t) (number_of why) place (ap made.compile_said (sym h) ∙ (rw (lf, lr) at e))
+refused_door t f r x a lf lr h e = says_refused (reading t) (number_of x.why) x.place (ap made.compile_said (sym h) ∙ (rw (lf, lr) at e))
 
 -- the parts that are handed to the writers
 pub taken_lines : {o : Verdict} {n rank : ℕ} {b l : List ℕ} → Taken o n rank b l → literals_lines rank (cut (take (n - 0) (drop 0 l)) b) ≡ got_lines (got_of o)

@@ -9,7 +9,6 @@ ghost use Rattle.lines.specs.Listed.{listed_of};
 ghost use Rattle.lister.specs.Listings.{got_of, listing_of};
 
 use base::{LENT_BYTES, LENT_LENGTHS, NODE_POOL};
-use compiledoor::CompileAnswer;
 use lines::Listed;
 use literaldoor::LiteralsAnswer;
 use nodes::NodeWord;
@@ -42,17 +41,11 @@ fn put_listing(text: &[u8], out: &mut [u8]) -> usize
     let mut reverse: [NodeWord; NODE_POOL] = [0; NODE_POOL];
     let got = compiledoor::compile(text, &mut forward, &mut reverse);
     match got {
-        CompileAnswer::Compiled {
-            reached: _,
-            forward: n,
-            reverse: m,
-        } => {
-            let k = lines::put_programs(out, &forward[0..n], &reverse[0..m]);
+        Ok(made) => {
+            let k = lines::put_programs(out, &forward[0..made.forward], &reverse[0..made.reverse]);
             put_picked(text, out, k)
         }
-        CompileAnswer::Refused(why, place) => {
-            lines::put_refused(out, 0, why.number() as usize, place)
-        }
+        Err(refused) => { lines::put_refused(out, 0, refused.why.number() as usize, refused.place) }
     }
 }
 

@@ -4,14 +4,15 @@ use mathlib.Core.Bool.{true, false}
 use Prim.Native.Nat.{ℕ}
 use native.Mathlib.Omega.{arith}
 use lib.Dec.{eqb}
+use Rattle.std.specs.Prelude.{Result, Ok, Err}
 use Rattle.base.specs.declared.Refusal.{Refusal}
+use Rattle.base.specs.declared.Refused.{Refused}
 use Rattle.base.specs.Refusals.{number_of}
 use Rattle.base.proofs.RefusalLaws.{number_one, number_some}
 use Rattle.readdoor.specs.declared.ReadAnswer.{ReadAnswer}
 use Rattle.readdoor.specs.declared.ReadAnswer.TheVariants as read
 use Rattle.readdoor.specs.Door as readdoor
-use Rattle.compiledoor.specs.declared.CompileAnswer.{CompileAnswer}
-use Rattle.compiledoor.specs.declared.CompileAnswer.TheVariants as compile
+use Rattle.compiledoor.specs.declared.Compiled.{Compiled}
 use Rattle.compiledoor.specs.Door as compiledoor
 use Rattle.literaldoor.specs.declared.LiteralsAnswer.{LiteralsAnswer}
 use Rattle.literaldoor.specs.declared.LiteralsAnswer.TheVariants as literals
@@ -41,15 +42,21 @@ read_tells (read.Read e u) (read.Refused c x) h = some_number c (ap (λ (r : Rea
 read_tells (read.Refused c x) (read.Read f v) h = some_number c (sym (ap (λ (r : ReadResult). r.refusal) h))
 read_tells (read.Refused c x) (read.Refused d y) h = ap₂ read.Refused (number_one c d (ap (λ (r : ReadResult). r.refusal) h)) (ap (λ (r : ReadResult). r.place) h)
 
-pub compile_tells : (a b : CompileAnswer) → compile_told (compiledoor.compile_said a) ≡ compile_told (compiledoor.compile_said b) → a ≡ b
-compile_tells (compile.Compiled k e u) (compile.Compiled l f v) h =
-    let reached : k ≡ l = ap (λ (r : CompileResult). r.reached) h in
-    let forward : e ≡ f = ap (λ (r : CompileResult). r.forward) h in
-    let reverse : u ≡ v = ap (λ (r : CompileResult). r.reverse) h in
-    cc
-compile_tells (compile.Compiled k e u) (compile.Refused c x) h = some_number c (ap (λ (r : CompileResult). r.refusal) h)
-compile_tells (compile.Refused c x) (compile.Compiled l f v) h = some_number c (sym (ap (λ (r : CompileResult). r.refusal) h))
-compile_tells (compile.Refused c x) (compile.Refused d y) h = ap₂ compile.Refused (number_one c d (ap (λ (r : CompileResult). r.refusal) h)) (ap (λ (r : CompileResult). r.place) h)
+abbrev compiled : ℕ → ℕ → ℕ → Result Compiled Refused
+compiled e f r = Ok (record { reached = e; forward = f; reverse = r })
+
+abbrev refused : Refusal → ℕ → Result Compiled Refused
+refused x place = Err (record { why = x; place = place })
+
+pub compile_tells : (a b : Result Compiled Refused) → compile_told (compiledoor.compile_said a) ≡ compile_told (compiledoor.compile_said b) → a ≡ b
+compile_tells (Ok c) (Ok d) h =
+    let reached : c.reached ≡ d.reached = ap (λ (r : CompileResult). r.reached) h in
+    let forward : c.forward ≡ d.forward = ap (λ (r : CompileResult). r.forward) h in
+    let reverse : c.reverse ≡ d.reverse = ap (λ (r : CompileResult). r.reverse) h in
+    ap (λ (x : ℕ). compiled x c.forward c.reverse) reached ∙ ap₂ (compiled d.reached) forward reverse
+compile_tells (Ok c) (Err x) h = some_number x.why (ap (λ (r : CompileResult). r.refusal) h)
+compile_tells (Err x) (Ok d) h = some_number x.why (sym (ap (λ (r : CompileResult). r.refusal) h))
+compile_tells (Err x) (Err y) h = ap₂ refused (number_one x.why y.why (ap (λ (r : CompileResult). r.refusal) h)) (ap (λ (r : CompileResult). r.place) h)
 
 pub literals_tells : (a b : LiteralsAnswer) → literals_told (literaldoor.literals_said a) ≡ literals_told (literaldoor.literals_said b) → a ≡ b
 literals_tells (literals.Picked e n k) (literals.Picked f m l) h =

@@ -12,7 +12,6 @@ ghost use Rattle.readdoor.specs.Door.{read_says, read_leaves};
 ghost use Rattle.tokenmarsh.specs.Results.{read_told, compile_told, literals_told, mirror_told, check_told, tail_told};
 
 use checkdoors::Answer;
-use compiledoor::CompileAnswer;
 use literaldoor::LiteralsAnswer;
 use mirror::MirrorAnswer;
 use nodes::NodeWord;
@@ -78,20 +77,16 @@ pub extern "C" fn tm_compile(
 {
     let r = compiledoor::compile(text, forward, reverse);
     match r {
-        CompileAnswer::Compiled {
-            reached,
-            forward: f,
-            reverse: b,
-        } => CompileResult {
+        Ok(made) => CompileResult {
             refusal: 0,
             place: 0,
-            reached: reached as u64,
-            forward: f as u64,
-            reverse: b as u64,
+            reached: made.reached as u64,
+            forward: made.forward as u64,
+            reverse: made.reverse as u64,
         },
-        CompileAnswer::Refused(why, place) => CompileResult {
-            refusal: why.number(),
-            place: place as u64,
+        Err(refused) => CompileResult {
+            refusal: refused.why.number(),
+            place: refused.place as u64,
             reached: 0,
             forward: 0,
             reverse: 0,

@@ -14,44 +14,44 @@ pub slice_bounds-put_programs-end : goal.slice_bounds-put_programs-end
 slice_bounds-put_programs-end c =
     let k = c.compile-got in
     let t =
-    made_door c.args.text.now (zeros node_pool) (zeros node_pool) k.new.forward k.new.reverse _ c.in-Compiled.n c.in-Compiled.m k.result
+    made_door c.args.text.now (zeros node_pool) (zeros node_pool) k.new.forward k.new.reverse c.in-Ok.made k.result
     (length_zeros node_pool) (length_zeros node_pool)
-    (k.auto.forward ∙ length_zeros node_pool) (k.auto.reverse ∙ length_zeros node_pool) c.in-Compiled.is k.ensures.0 k.ensures.1 k.ensures.2 in
+    (k.auto.forward ∙ length_zeros node_pool) (k.auto.reverse ∙ length_zeros node_pool) c.in-Ok.is k.ensures.0 k.ensures.1 k.ensures.2 in
     omega (arith, t.forward_few)
 
-pub slice_bounds-put_programs-end-in-Compiled : goal.slice_bounds-put_programs-end-in-Compiled
-slice_bounds-put_programs-end-in-Compiled c =
+pub slice_bounds-put_programs-end-in-Ok : goal.slice_bounds-put_programs-end-in-Ok
+slice_bounds-put_programs-end-in-Ok c =
     let k = c.compile-got in
     let t =
-    made_door c.args.text.now (zeros node_pool) (zeros node_pool) k.new.forward k.new.reverse _ c.in-Compiled.n c.in-Compiled.m k.result
+    made_door c.args.text.now (zeros node_pool) (zeros node_pool) k.new.forward k.new.reverse c.in-Ok.made k.result
     (length_zeros node_pool) (length_zeros node_pool)
-    (k.auto.forward ∙ length_zeros node_pool) (k.auto.reverse ∙ length_zeros node_pool) c.in-Compiled.is k.ensures.0 k.ensures.1 k.ensures.2 in
+    (k.auto.forward ∙ length_zeros node_pool) (k.auto.reverse ∙ length_zeros node_pool) c.in-Ok.is k.ensures.0 k.ensures.1 k.ensures.2 in
     omega (arith, t.reverse_few)
 
 pub put_picked-requires : goal.put_picked-requires
 put_picked-requires c =
     let k = c.compile-got in
     let t =
-    made_door c.args.text.now (zeros node_pool) (zeros node_pool) k.new.forward k.new.reverse _ c.in-Compiled.n c.in-Compiled.m k.result
+    made_door c.args.text.now (zeros node_pool) (zeros node_pool) k.new.forward k.new.reverse c.in-Ok.made k.result
     (length_zeros node_pool) (length_zeros node_pool)
-    (k.auto.forward ∙ length_zeros node_pool) (k.auto.reverse ∙ length_zeros node_pool) c.in-Compiled.is k.ensures.0 k.ensures.1 k.ensures.2 in
+    (k.auto.forward ∙ length_zeros node_pool) (k.auto.reverse ∙ length_zeros node_pool) c.in-Ok.is k.ensures.0 k.ensures.1 k.ensures.2 in
     let s = made_sizes t in
     let l = programs_end _ _ c.put_programs-k.ensures (omega arith) (omega arith) in
     omega arith
 
-pub returns-in-Compiled : goal.returns-in-Compiled
-returns-in-Compiled c =
+pub returns-in-Ok : goal.returns-in-Ok
+returns-in-Ok c =
     let k = c.compile-got in
     let t =
-    made_door c.args.text.now (zeros node_pool) (zeros node_pool) k.new.forward k.new.reverse _ c.in-Compiled.n c.in-Compiled.m k.result
+    made_door c.args.text.now (zeros node_pool) (zeros node_pool) k.new.forward k.new.reverse c.in-Ok.made k.result
     (length_zeros node_pool) (length_zeros node_pool)
-    (k.auto.forward ∙ length_zeros node_pool) (k.auto.reverse ∙ length_zeros node_pool) c.in-Compiled.is k.ensures.0 k.ensures.1 k.ensures.2 in
+    (k.auto.forward ∙ length_zeros node_pool) (k.auto.reverse ∙ length_zeros node_pool) c.in-Ok.is k.ensures.0 k.ensures.1 k.ensures.2 in
     put_same (listing_of c.args.text.now) (put_then c.put_programs-k.ensures c.put_picked.ensures) (made_lines c.args.text.now t)
 
-pub returns-in-Refused : goal.returns-in-Refused
-returns-in-Refused c =
+pub returns-in-Err : goal.returns-in-Err
+returns-in-Err c =
     let a = c.args in
     let k = c.compile-got in
-    let r = c.in-Refused in
-    let e = refused_door a.text.now (zeros node_pool) (zeros node_pool) r.why r.place k.result (length_zeros node_pool) (length_zeros node_pool) r.is k.ensures.0 in
+    let r = c.in-Err.refused in
+    let e = refused_door a.text.now (zeros node_pool) (zeros node_pool) r k.result (length_zeros node_pool) (length_zeros node_pool) c.in-Err.is k.ensures.0 in
     put_same (listing_of a.text.now) c.put_refused.ensures (ap (λ (x : ℕ). refused_line x r.place) c.number.ensures ∙ refused_lines a.text.now (number_of r.why) r.place e)
