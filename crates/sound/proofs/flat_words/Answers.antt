@@ -1,21 +1,15 @@
--- The answer for all words is the answer for those that are left. Assumes nothing.
-use mathlib.Core.Path.{sym, ◌∙◌}
-use Rattle.sound.proofs.SoundSteps as law
+-- A branch's words are flat if each of them is. Assumes nothing.
+use Rattle.std.proofs.Common.{refl, sym, ◌∙◌, ◌&&◌, rules}
+use Rattle.std.proofs.lemmas.Iterator.{YieldsList-from_slice}
+use Rattle.std.proofs.lemmas.Iterator.Search.{all_from_yields_List}
+use Rattle.std.proofs.lemmas.List.Recursion.{same_from_clauses}
+use Rattle.std.specs.List.{list_all}
+use Rattle.def_meaning.specs.Words.{flat_words}
+use Rattle.sound.specs.Steps.{flat_word}
+use Rattle.sound.proofs.SoundSteps.{flat_none, flat_cons}
 use Rattle.sound.proofs.flat_words.Goals as goal
 
-pub returns-in_default : goal.returns-in_default
-returns-in_default c =
-    let l = c.loop-w in
-    law.flat_done l.ws.now (sym c.first_word.ensures ∙ c.in_default.is) ∙ l.invariant
-
-pub returns-then-not-flat_word : goal.returns-then-not-flat_word
-returns-then-not-flat_word c =
-    let l = c.loop-w in
-    let first = sym c.in-Word.ensures in
-    law.flat_other l.ws.now c.in-Word.w first (sym c.flat_word.ensures ∙ c.if-not-flat_word.true) ∙ l.invariant
-
-pub loop-w-preserved : goal.loop-w-preserved
-loop-w-preserved c =
-    let l = c.loop-w in
-    let first = sym c.in-Word.ensures in
-    law.flat_next l.ws.now c.in-Word.w first (sym c.flat_word.ensures ∙ c.if-not-flat_word.false) ∙ l.invariant
+pub returns : goal.returns
+returns c =
+    all_from_yields_List flat_word _ _ _ c.all.ensures.ran (YieldsList-from_slice c.args.words.now cc) (λ x b q k. search rules)
+    ∙ same_from_clauses (list_all flat_word) flat_words (λ w r. flat_word w && r) (sym flat_none) (λ _ _. refl) flat_cons c.args.words.now
