@@ -6,7 +6,6 @@ ghost use Rattle.std.specs.Prelude.{◌≤◌};
 
 use digits::Numeral;
 use gatekit::Style;
-use mirror::MirrorAnswer;
 use nodes::NodeWord;
 use std::io;
 
@@ -21,13 +20,12 @@ fn left<P: Print>(rt: &P, pool: &[NodeWord], used: usize) -> io::Result<()> {
 }
 
 fn mirrored<P: Print>(rt: &P, program: &[NodeWord], pool: &mut [NodeWord]) -> io::Result<()> {
-    let r = mirror::mirror(program, pool);
-    match r {
-        MirrorAnswer::Mirrored(n) => {
+    match mirror::mirror(program, pool) {
+        Ok(n) => {
             gatekit::tell(rt, b" ", n as u64)?;
             left(rt, pool, n)
         }
-        MirrorAnswer::Refused(why) => {
+        Err(why) => {
             gatekit::tell(rt, b" refused ", why.number() as u64)?;
             left(rt, pool, 0)
         }

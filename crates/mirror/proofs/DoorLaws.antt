@@ -1,13 +1,5 @@
 -- The cases of the mirror's door, over plain lists. Assumes nothing.
-use mathlib.Core.Path.{◌≡◌, sym, ap, ap₂, ◌∙◌}
-use mathlib.Core.Bool.{true, false}
-use mathlib.Core.List.{List, ◌++◌}
-use Prim.Native.Nat.{ℕ, ◌+◌, ◌-◌, ◌≤◌, ◌<◌}
-use native.Mathlib.Omega.{arith}
-use lib.ListN.{length, take, drop}
-use lib.Seq.{drop-drop, length-take-le}
-use borrow.Author.Tests.{lt-ltb, le-ltb}
-use borrow.Rule.Slice.PartMut.{put_mid}
+use Rattle.std.proofs.Common.{◌≡◌, sym, ap, ap₂, ◌∙◌, true, false, List, ◌++◌, ℕ, ◌+◌, ◌-◌, ◌≤◌, ◌<◌, arith, length, drop, drop-drop, lt-ltb, le-ltb}
 use Rattle.def_meaning.specs.Words.{sound, mirror_words}
 use Rattle.def_meaning.proofs.WordSpans.{mirrored_length}
 use Rattle.base.specs.Pools.{zeroed}
@@ -38,19 +30,15 @@ module _ (words pool : List ℕ) where
           let b = le-ltb 512 (length words) few in
           (rw (a, b, h), rw (a, b, h) (zeroed_cleared 512 pool))
 
-      pub lent_length : length (take (length words - 0) (drop 0 pool)) ≡ length words
-      lent_length = length-take-le (length words - 0) pool (omega arith) ∙ omega arith
-
-      pub success : sound words ≡ true → (ys : List ℕ) → ys ≡ mirror_words words → Right (mirrored (length words)) (zeroed (length words) 512 (put_mid 0 (length words - 0) pool ys))
+      pub success : sound words ≡ true → (ys : List ℕ) → ys ≡ mirror_words words → Right (mirrored (length words)) (zeroed (length words) 512 (ys ++ drop (length words) pool))
       unfolding mirror_says mirror_leaves
       success h ys y =
           let a = le-ltb (length pool) 512 room in
           let b = le-ltb 512 (length words) few in
-          let n : length (mirror_words words) ≡ length words = mirrored_length words h in
-          let z : length words - 0 ≡ length (mirror_words words) = omega arith in (
+          let n : length (mirror_words words) ≡ length words = mirrored_length words h in (
             rw (a, b, h) (ap mirrored (sym n)),
             rw (a, b, h) (
-                ap₂ (λ (k : ℕ) (t : List ℕ). zeroed k 512 t) (sym n) (ap₂ (λ (x : List ℕ) (k : ℕ). x ++ drop k pool) y z)
+                ap₂ (λ (k : ℕ) (x : List ℕ). zeroed k 512 (x ++ drop k pool)) (sym n) y
                 ∙ zeroed_filled 512 (mirror_words words) (drop (length (mirror_words words)) pool) pool (omega arith) (drop-drop (512 - length (mirror_words words)) (length (mirror_words words)) pool ∙ (let e : length (mirror_words words) + (512 - length (mirror_words words)) ≡ 512 = omega arith in ap (λ (k : ℕ). drop k pool) e))
                 ),
           )

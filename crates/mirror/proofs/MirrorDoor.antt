@@ -1,25 +1,21 @@
 -- What is known of the mirror's door, whose promise is in specs/MirrorDoor.antt. Assumes nothing.
-use mathlib.Core.Path.{◌≡◌, refl, sym, ap, ◌∙◌}
-use mathlib.Core.List.{List, [], ◌∷◌}
-use Prim.Native.Nat.{ℕ}
-use native.Mathlib.Omega.{arith}
+use Rattle.std.proofs.Common.{◌≡◌, refl, sym, ap, ◌∙◌, List, [], ◌∷◌, ℕ, Result, Ok, Err}
 use Rattle.def_meaning.specs.NodeWords.{word}
 use Rattle.def_meaning.specs.Words.{shape, shape_by, mirror_words, mirror_items}
+use Rattle.base.specs.declared.Refusal.{Refusal}
 use Rattle.base.specs.Refusals.{number_of}
 use Rattle.base.proofs.RefusalLaws.{number_one}
-use Rattle.mirror.specs.declared.MirrorAnswer.{MirrorAnswer}
-use Rattle.mirror.specs.declared.MirrorAnswer.TheVariants.{Mirrored, Refused}
 use Rattle.mirror.specs.MirrorDoor.{mirror_said, mirror_says, mirror_leaves}
 
 -- an answer is known by what it says
-said_one : (r s : MirrorAnswer) → mirror_said r ≡ mirror_said s → r ≡ s
-said_one (Mirrored n) (Mirrored m) e = let z : n ≡ m = cc in ap Mirrored z
-said_one (Mirrored n) (Refused r) e = let z : ◌≡◌ {A = ℕ} 0 1 = cc in absurd (omega arith)
-said_one (Refused r) (Mirrored n) e = let z : ◌≡◌ {A = ℕ} 0 1 = cc in absurd (omega arith)
-said_one (Refused r) (Refused s) e = let z : number_of r ≡ number_of s = cc in ap Refused (number_one r s z)
+said_one : (r s : Result ℕ Refusal) → mirror_said r ≡ mirror_said s → r ≡ s
+said_one (Ok n) (Ok m) e = let z : n ≡ m = cc in ap Ok z
+said_one (Ok n) (Err r) e = cc
+said_one (Err r) (Ok n) e = cc
+said_one (Err r) (Err s) e = let z : number_of r ≡ number_of s = cc in ap Err (number_one r s z)
 
 -- the promise leaves one outcome: one answer, and one content of the pool
-pub one_outcome : (words pool : List ℕ) (r s : MirrorAnswer) (p q : List ℕ) → (mirror_said r ≡ mirror_says words pool) × (p ≡ mirror_leaves words pool) → (mirror_said s ≡ mirror_says words pool) × (q ≡ mirror_leaves words pool) → (r ≡ s) × (p ≡ q)
+pub one_outcome : (words pool : List ℕ) (r s : Result ℕ Refusal) (p q : List ℕ) → (mirror_said r ≡ mirror_says words pool) × (p ≡ mirror_leaves words pool) → (mirror_said s ≡ mirror_says words pool) × (q ≡ mirror_leaves words pool) → (r ≡ s) × (p ≡ q)
 one_outcome words pool r s p q a b = (said_one r s (a.0 ∙ sym b.0), a.1 ∙ sym b.1)
 
 -- 61 (62 63 | 64) [0-2] and its mirror: items and contents in reverse, branches in their order

@@ -1,12 +1,11 @@
 -- What the mirror's door answers, and what it leaves in the pool. Assumes nothing: these are definitions.
 -- To be believed: `MirrorSaid` `mirror_said`.
-use Rattle.std.specs.Prelude.{cond, List, ℕ, ltb, length}
+use Rattle.std.specs.Prelude.{cond, List, ℕ, Result, Ok, Err, ltb, length}
 use Rattle.def_meaning.specs.Limits.{node_limit, node_pool}
 use Rattle.def_meaning.specs.Words.{sound, mirror_words}
+use Rattle.base.specs.declared.Refusal.{Refusal}
 use Rattle.base.specs.Refusals.{number_of}
 use Rattle.base.specs.Pools.{filled, cleared}
-use Rattle.mirror.specs.declared.MirrorAnswer.{MirrorAnswer}
-use Rattle.mirror.specs.declared.MirrorAnswer.TheVariants.{Mirrored, Refused}
 
 -- 01's answers: so many words were written; refused, by a number of its table and at a place
 pub data MirrorSaid : Type 0 where
@@ -14,9 +13,9 @@ pub data MirrorSaid : Type 0 where
   refuses : ℕ → ℕ → MirrorSaid
 
 -- what each case of the answer says: the mirror's refusals are all at place 0
-abbrev pub mirror_said : MirrorAnswer → MirrorSaid
-mirror_said (Mirrored n) = mirrored n
-mirror_said (Refused r) = refuses (number_of r) 0
+abbrev pub mirror_said : Result ℕ Refusal → MirrorSaid
+mirror_said (Ok n) = mirrored n
+mirror_said (Err r) = refuses (number_of r) 0
 
 -- 18, then 13, then 15, then the mirror
 unfoldable pub mirror_says : List ℕ → List ℕ → MirrorSaid

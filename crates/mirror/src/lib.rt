@@ -1,100 +1,74 @@
 // The mirror of a sound program: its items and each branch's contents in reverse, its branches in their order.
 #![tactic(auto)]
 
-ghost use Rattle.std.specs.Prelude.{◌≡◌, reverse, ◌≤◌, length};
-ghost use Rattle.def_meaning.specs.Limits.{node_limit};
+ghost use Rattle.std.specs.Prelude.{◌≡◌, reverse, length};
 ghost use Rattle.def_meaning.specs.Words.{Sound, SoundBranches, mirror_branches, mirror_words};
 ghost use Rattle.mirror.specs.MirrorDoor.{mirror_said, mirror_says, mirror_leaves};
 
 use base::{NODE_LIMIT, NODE_POOL, Refusal};
-use nodes::{NextWord, NodeWord, first_word, zero_nodes};
-use sound::{Inside, branch_inside, is_sound, item_inside};
-
-// The count of words that were written, or why none were.
-#[derive(Drop)]
-pub enum MirrorAnswer {
-    Mirrored(usize),
-    Refused(Refusal),
-}
+use nodes::NodeWord;
+use sound::{branch_inside, is_sound, item_inside};
 
 fn reverse_into(src: &[NodeWord], dst: &mut [NodeWord])
     requires { length dst.old ≡ length src.now }
     ensures { dst.new ≡ reverse src.now }
 {
-    let n = src.len();
-    let mut i = 0;
-    while i < n {
-        let to = n - 1 - i;
-        dst[to] = src[i];
-        i += 1;
-    }
+    dst.copy_from_slice(src);
+    dst.reverse();
 }
 
 // Branches go to their own places, from the front on.
 fn mirror_branches(alts: &[NodeWord], out: &mut [NodeWord])
-    requires { SoundBranches alts.now × (length out.old ≡ length alts.now) × (length alts.now ≤ node_limit) }
+    requires { SoundBranches alts.now × (length out.old ≡ length alts.now) }
     ensures { out.new ≡ mirror_branches (length alts.now) alts.now }
 {
     let n = alts.len();
     let mut bs = alts;
-    loop {
-        let NextWord::Word(w) = first_word(bs) else {
-            return;
-        };
-        let Inside::Words(k) = branch_inside(w) else {
-            return;
-        };
-        let whole = 1 + k as usize;
-        let left = bs.len();
-        let to = n - left;
-        out[to] = w;
-        let start = to + 1;
-        let end = to + whole;
-        reverse_into(&bs[1..whole], &mut out[start..end]);
-        bs = &bs[whole..];
+    while let Some((w, rest)) = bs.split_first() {
+        let k = branch_inside(*w).unwrap();
+        let (contents, after) = rest.split_at(usize::from(k));
+        let to = n - bs.len();
+        let end = n - after.len();
+        out[to] = *w;
+        reverse_into(contents, &mut out[to + 1..end]);
+        bs = after;
     }
 }
 
 // Items go to the opposite places, from the back on.
 fn mirror_words(words: &[NodeWord], out: &mut [NodeWord])
-    requires { Sound words.now × (length out.old ≡ length words.now) × (length words.now ≤ node_limit) }
+    requires { Sound words.now × (length out.old ≡ length words.now) }
     ensures { out.new ≡ mirror_words words.now }
 {
     let mut ns = words;
-    loop {
-        let NextWord::Word(w) = first_word(ns) else {
-            return;
-        };
-        let Inside::Words(k) = item_inside(w) else {
-            return;
-        };
-        let whole = 1 + k as usize;
-        let left = ns.len();
-        let to = left - whole;
-        out[to] = w;
-        let start = to + 1;
-        mirror_branches(&ns[1..whole], &mut out[start..left]);
-        ns = &ns[whole..];
+    while let Some((w, rest)) = ns.split_first() {
+        let k = item_inside(*w).unwrap();
+        let (alts, after) = rest.split_at(usize::from(k));
+        let to = after.len();
+        let end = ns.len();
+        out[to] = *w;
+        mirror_branches(alts, &mut out[to + 1..end]);
+        ns = after;
     }
 }
 
-// The door.
-pub fn mirror(words: &[NodeWord], pool: &mut [NodeWord]) -> MirrorAnswer
+// The door: the count of words that were written, or why none were.
+pub fn mirror(words: &[NodeWord], pool: &mut [NodeWord]) -> Result<usize, Refusal>
     ensures { (mirror_said result ≡ mirror_says words.now pool.old) × (pool.new ≡ mirror_leaves words.now pool.old) }
 {
     if pool.len() < NODE_POOL {
-        return MirrorAnswer::Refused(Refusal::NoRoom);
-    }
-    if NODE_LIMIT < words.len() {
-        zero_nodes(pool, 0, NODE_POOL);
-        return MirrorAnswer::Refused(Refusal::TooManyNodes);
-    }
-    if !is_sound(words) {
-        zero_nodes(pool, 0, NODE_POOL);
-        return MirrorAnswer::Refused(Refusal::Unsound);
+        return Err(Refusal::NoRoom);
     }
     let n = words.len();
-    mirror_words(words, &mut pool[0..n]);
-    zero_nodes(pool, n, NODE_POOL);
-    MirrorAnswer::Mirrored(n)
+    if NODE_LIMIT < n {
+        pool[..NODE_POOL].fill(0);
+        return Err(Refusal::TooManyNodes);
+    }
+    if !is_sound(words) {
+        pool[..NODE_POOL].fill(0);
+        return Err(Refusal::Unsound);
+    }
+    mirror_words(words, &mut pool[..n]);
+    pool[n..NODE_POOL].fill(0);
+    Ok(n)
 }

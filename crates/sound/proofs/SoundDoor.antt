@@ -1,9 +1,5 @@
 -- What is known of the soundness test's door, whose promise is that its answer is `sound words`. Assumes nothing.
-use mathlib.Core.Path.{◌≡◌, refl, sym, ◌∙◌}
-use mathlib.Core.Bool.{Bool, true, not, ◌&&◌}
-use mathlib.Core.List.{List, [], ◌∷◌}
-use Prim.Native.Nat.{ℕ, ◌^◌}
-use lib.ListN.{replicate}
+use Rattle.std.proofs.Common.{◌≡◌, refl, sym, ◌∙◌, Bool, true, not, ◌&&◌, List, [], ◌∷◌, ℕ, ◌^◌, replicate}
 use Rattle.def_meaning.specs.NodeWords.{word}
 use Rattle.def_meaning.specs.Words.{sound, sound_words, sound_branches, flat_words, is_flat, proper, proper_by, shape, shape_by}
 

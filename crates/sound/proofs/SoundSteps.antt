@@ -1,9 +1,7 @@
 -- The soundness test, a word at a time: the answer for some words is the answer for what is left. Assumes nothing.
-use Rattle.std.proofs.Common.{◌≡◌, refl, sym, ap, ◌∙◌, Bool, true, false, cond, ◌&&◌, List, [], ◌∷◌, ℕ, ◌<◌, Option, None, Some, leb, length, take, drop, arith}
-use mathlib.Core.Bool.{and-false}
-use mathlib.Core.Logic.{◌⊎◌, inl, inr}
-use native.Mathlib.Nat.{le_refl}
-use borrow.Author.Tests.{le-leb, lt-leb}
+use Rattle.std.proofs.Common.{◌≡◌, refl, sym, ap, ◌∙◌, Bool, true, false, cond, ◌&&◌, List, [], ◌∷◌, ℕ, ◌<◌, Option, None, Some, leb, length, take, drop, arith, ◌⊎◌, inl, inr, le_refl, le-leb}
+use Rattle.std.proofs.Math.Bool.{and-false}
+use borrow.Author.Tests.{lt-leb}
 use Rattle.std.specs.List.{IsSplitAt}
 use Rattle.def_meaning.specs.Programs.{Item}
 use Rattle.def_meaning.specs.Words.{Shape, item, opens, mark, wrong, shape, proper, is_flat, flat_words, sound_branches, sound_words}

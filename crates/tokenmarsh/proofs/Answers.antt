@@ -1,4 +1,5 @@
 -- A struct tells which answer it stands for: a refusal's number is not 0. Assumes nothing.
+use Rattle.std.proofs.Common.{Result, Ok, Err}
 use mathlib.Core.Path.{◌≡◌, refl, sym, ap, ap₂, ◌∙◌}
 use mathlib.Core.Bool.{true, false}
 use Prim.Native.Nat.{ℕ}
@@ -17,8 +18,6 @@ use Rattle.compiledoor.specs.Door as compiledoor
 use Rattle.literaldoor.specs.declared.LiteralsAnswer.{LiteralsAnswer}
 use Rattle.literaldoor.specs.declared.LiteralsAnswer.TheVariants as literals
 use Rattle.literaldoor.specs.Door as literaldoor
-use Rattle.mirror.specs.declared.MirrorAnswer.{MirrorAnswer}
-use Rattle.mirror.specs.declared.MirrorAnswer.TheVariants as mirror
 use Rattle.mirror.specs.MirrorDoor as mirrordoor
 use Rattle.checkdoors.specs.declared.Answer.{Answer}
 use Rattle.checkdoors.specs.declared.Answer.TheVariants as check
@@ -68,11 +67,11 @@ literals_tells (literals.Picked e n k) (literals.Refused c x) h = some_number c 
 literals_tells (literals.Refused c x) (literals.Picked f m l) h = some_number c (sym (ap (λ (r : LiteralsResult). r.refusal) h))
 literals_tells (literals.Refused c x) (literals.Refused d y) h = ap₂ literals.Refused (number_one c d (ap (λ (r : LiteralsResult). r.refusal) h)) (ap (λ (r : LiteralsResult). r.place) h)
 
-pub mirror_tells : (a b : MirrorAnswer) → mirror_told (mirrordoor.mirror_said a) ≡ mirror_told (mirrordoor.mirror_said b) → a ≡ b
-mirror_tells (mirror.Mirrored n) (mirror.Mirrored m) h = ap mirror.Mirrored (ap (λ (r : MirrorResult). r.words) h)
-mirror_tells (mirror.Mirrored n) (mirror.Refused c) h = some_number c (ap (λ (r : MirrorResult). r.refusal) h)
-mirror_tells (mirror.Refused c) (mirror.Mirrored m) h = some_number c (sym (ap (λ (r : MirrorResult). r.refusal) h))
-mirror_tells (mirror.Refused c) (mirror.Refused d) h = ap mirror.Refused (number_one c d (ap (λ (r : MirrorResult). r.refusal) h))
+pub mirror_tells : (a b : Result ℕ Refusal) → mirror_told (mirrordoor.mirror_said a) ≡ mirror_told (mirrordoor.mirror_said b) → a ≡ b
+mirror_tells (Ok n) (Ok m) h = ap Ok (ap (λ (r : MirrorResult). r.words) h)
+mirror_tells (Ok n) (Err c) h = some_number c (ap (λ (r : MirrorResult). r.refusal) h)
+mirror_tells (Err c) (Ok m) h = some_number c (sym (ap (λ (r : MirrorResult). r.refusal) h))
+mirror_tells (Err c) (Err d) h = ap Err (number_one c d (ap (λ (r : MirrorResult). r.refusal) h))
 
 pub check_tells : (a b : Answer) → check_told (doors.check_said a) ≡ check_told (doors.check_said b) → a ≡ b
 check_tells (check.At n) (check.At m) h = ap check.At (ap (λ (r : CheckResult). r.offset) h)

@@ -13,7 +13,6 @@ ghost use Rattle.tokenmarsh.specs.Results.{read_told, compile_told, literals_tol
 
 use checkdoors::Answer;
 use literaldoor::LiteralsAnswer;
-use mirror::MirrorAnswer;
 use nodes::NodeWord;
 use readdoor::ReadAnswer;
 
@@ -151,13 +150,12 @@ pub extern "C" fn tm_sound(program: &[NodeWord]) -> u32
 pub extern "C" fn tm_mirror(program: &[NodeWord], pool: &mut [NodeWord]) -> MirrorResult
     ensures { (result ≡ mirror_told (mirror_says program.now pool.old)) × (pool.new ≡ mirror_leaves program.now pool.old) }
 {
-    let r = mirror::mirror(program, pool);
-    match r {
-        MirrorAnswer::Mirrored(n) => MirrorResult {
+    match mirror::mirror(program, pool) {
+        Ok(n) => MirrorResult {
             refusal: 0,
             words: n as u64,
         },
-        MirrorAnswer::Refused(why) => MirrorResult {
+        Err(why) => MirrorResult {
             refusal: why.number(),
             words: 0,
         },

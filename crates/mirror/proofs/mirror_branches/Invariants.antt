@@ -1,5 +1,5 @@
 -- What is written in front and the mirror of what is left are the mirror of all. Assumes nothing.
-use lib.ListN.{length}
+use Rattle.std.proofs.Common.{length}
 use Rattle.mirror.proofs.MirrorTurns as law
 use Rattle.mirror.proofs.mirror_branches.Given as goal
 

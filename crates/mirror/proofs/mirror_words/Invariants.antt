@@ -1,5 +1,5 @@
 -- The mirror of what is left and what is written behind are the mirror of all. Assumes nothing.
-use lib.ListN.{length}
+use Rattle.std.proofs.Common.{length}
 use Rattle.mirror.proofs.MirrorTurns as law
 use Rattle.mirror.proofs.mirror_words.Given as goal
 
