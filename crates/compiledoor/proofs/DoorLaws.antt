@@ -12,8 +12,7 @@ use Rattle.def_meaning.specs.Values.{Spelled}
 use Rattle.def_meaning.specs.Entries.{entries}
 use Rattle.def_reading.specs.Lists.{accepted, rejected, reading}
 use Rattle.def_reading.proofs.SpelledValues.{accepted_spelled}
-use Rattle.readdoor.specs.declared.ReadAnswer.{ReadAnswer}
-use Rattle.readdoor.specs.declared.ReadAnswer.TheVariants as reads
+use Rattle.readdoor.specs.declared.Reading.{Reading}
 use Rattle.readdoor.specs.Door as read
 use Rattle.readdoor.proofs.Got as into
 use Rattle.def_compiling.specs.Compile.{Compiled, compiled, refused, compile}
@@ -32,13 +31,13 @@ pub record Got (t q : List ℕ) (e u : ℕ) : Type 0 where
   pub fits : u ≤ token_pool
   pub whole : Entered (take u q)
 
-module _ (t p q : List ℕ) (r : ReadAnswer) (a : read.read_said r ≡ read.read_says t p) (b : q ≡ read.read_leaves t p) (l : token_pool ≤ length p) where
-  pub got : (e u : ℕ) → r ≡ reads.Read e u → Got t q e u
-  got e u f =
-      let g = into.got t p q r a b l e u f in
-      let s : Spelled g.tokens = accepted_spelled t e g.tokens g.verdict in
-      let z : u - 0 ≡ u = omega arith in
-      let w : take u q ≡ entries g.tokens = rw z at g.words in
+module _ (t p q : List ℕ) (r : Result Reading Refused) (a : read.read_said r ≡ read.read_says t p) (b : q ≡ read.read_leaves t p) (l : token_pool ≤ length p) where
+  pub got : (x : Reading) → r ≡ Ok x → Got t q x.end x.words
+  got x f =
+      let g = into.got t p q r a b l x f in
+      let s : Spelled g.tokens = accepted_spelled t x.end g.tokens g.verdict in
+      let z : x.words - 0 ≡ x.words = omega arith in
+      let w : take x.words q ≡ entries g.tokens = rw z at g.words in
       record {
         tokens = g.tokens;
         verdict = g.verdict;
@@ -48,8 +47,8 @@ module _ (t p q : List ℕ) (r : ReadAnswer) (a : read.read_said r ≡ read.read
         whole = record { tokens = g.tokens; entered = w; spelled = s; short = omega (arith, ap length w, g.few) };
       }
 
-  pub got_refused : (c : Refusal) (y : ℕ) → r ≡ reads.Refused c y → reading t ≡ rejected c y
-  got_refused c y f = into.got_refused t p q r a b l c y f
+  pub got_refused : (z : Refused) → r ≡ Err z → reading t ≡ rejected z.why z.place
+  got_refused z f = into.got_refused t p q r a b l z f
 
 -- what `?` makes of a refusal of tokens
 pub said_at_none : (e : ℕ) (m : Result Sizes Refusal) (r : Result Compiled' Refused) (x : Refusal) → m ≡ Err x → IsErrAnd r (λ y. (y.why ≡ x) × (y.place ≡ 0)) → compile_said r ≡ made_says e m

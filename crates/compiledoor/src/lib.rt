@@ -9,7 +9,7 @@ ghost use Rattle.compiledoor.specs.Door.{compile_said, TextFills, compile_says, 
 use base::{NODE_POOL, Refusal, Refused, TOKEN_POOL};
 use compiler::{clear, compile_tokens};
 use nodes::NodeWord;
-use readdoor::{ReadAnswer, read};
+use readdoor::read;
 
 // The offset reached, as in reading, and the words of each program.
 #[derive(Clone, Copy, Debug, PartialEq, Eq)]
@@ -31,17 +31,17 @@ fn compile_text(
 {
     let mut tokens = [0u32; TOKEN_POOL];
     match read(text, &mut tokens) {
-        ReadAnswer::Read { end, words } => {
-            let sizes = compile_tokens(&tokens[..words], forward, reverse)?;
+        Ok(got) => {
+            let sizes = compile_tokens(&tokens[..got.words], forward, reverse)?;
             Ok(Compiled {
-                reached: end,
+                reached: got.end,
                 forward: sizes.forward,
                 reverse: sizes.reverse,
             })
         }
-        ReadAnswer::Refused(why, place) => {
+        Err(refused) => {
             clear(forward, reverse);
-            Err(Refused { why, place })
+            Err(refused)
         }
     }
 }

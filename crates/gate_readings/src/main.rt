@@ -3,7 +3,6 @@
 
 use digits::Numeral;
 use gatekit::Style;
-use readdoor::ReadAnswer;
 use std::io;
 
 fn left<P: Print>(rt: &P, pool: &[u32], used: usize) -> io::Result<()> {
@@ -14,17 +13,17 @@ fn left<P: Print>(rt: &P, pool: &[u32], used: usize) -> io::Result<()> {
 fn one<P: Print>(rt: &P, text: &[u8], pool: &mut [u32]) -> io::Result<()> {
     let r = readdoor::read(text, pool);
     match r {
-        ReadAnswer::Read { end, words } => {
-            gatekit::tell(rt, b"read ", end as u64)?;
-            gatekit::tell(rt, b" words ", words as u64)?;
-            left(rt, pool, words)?;
-            if words <= 64 {
-                gatekit::tokens(rt, pool, words, Style::Entries)?;
+        Ok(read) => {
+            gatekit::tell(rt, b"read ", read.end as u64)?;
+            gatekit::tell(rt, b" words ", read.words as u64)?;
+            left(rt, pool, read.words)?;
+            if read.words <= 64 {
+                gatekit::tokens(rt, pool, read.words, Style::Entries)?;
             }
             Ok(())
         }
-        ReadAnswer::Refused(code, place) => {
-            gatekit::refused(rt, code, place)?;
+        Err(refused) => {
+            gatekit::refused(rt, refused.why, refused.place)?;
             left(rt, pool, 0)
         }
     }

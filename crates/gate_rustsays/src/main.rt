@@ -6,7 +6,6 @@ use base::Refusal;
 use gatekit::Style;
 use literaldoor::LiteralsAnswer;
 use nodes::NodeWord;
-use readdoor::ReadAnswer;
 use std::io;
 
 // A name, and the first n words of a pool.
@@ -97,15 +96,15 @@ fn answers<P: Print>(rt: &P, text: &[u8], hay: &[u8]) -> io::Result<()> {
     let mut tokens = [0u32; 4096];
     let r = readdoor::read(text, &mut tokens);
     match r {
-        ReadAnswer::Read { end, words: used } => {
-            gatekit::tell(rt, b"reached ", end as u64)?;
+        Ok(read) => {
+            gatekit::tell(rt, b"reached ", read.end as u64)?;
             rt.write_all(b"\ntokens")?;
-            gatekit::tokens(rt, &tokens, used, Style::Decimal)?;
+            gatekit::tokens(rt, &tokens, read.words, Style::Decimal)?;
             rt.write_all(b"\n")?;
             programs(rt, text, hay)?;
             picked(rt, text)
         }
-        ReadAnswer::Refused(why, place) => refused(rt, why, place),
+        Err(no) => refused(rt, no.why, no.place),
     }
 }
 

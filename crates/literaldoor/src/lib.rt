@@ -17,7 +17,6 @@ ghost use Rattle.literaldoor.specs.Door.{literals_said, literals_says, bytes_lef
 use base::{Refusal, TOKEN_POOL};
 use generator::Wrote;
 use picks::Winner;
-use readdoor::ReadAnswer;
 
 // The offset reached, as in reading, how many literals and their rank; or a refusal and its place.
 #[derive(Drop)]
@@ -95,7 +94,7 @@ pub fn literals(text: &[u8], bytes: &mut [u8], lengths: &mut [u16]) -> LiteralsA
     let mut tokens = [0u32; TOKEN_POOL];
     let r = readdoor::read(text, &mut tokens);
     match r {
-        ReadAnswer::Read { end, words } => pick_tokens(&tokens[0..words], end, bytes, lengths),
-        ReadAnswer::Refused(code, place) => LiteralsAnswer::Refused(code, place),
+        Ok(read) => pick_tokens(&tokens[0..read.words], read.end, bytes, lengths),
+        Err(refused) => LiteralsAnswer::Refused(refused.why, refused.place),
     }
 }

@@ -7,59 +7,61 @@ ghost use Rattle.def_meaning.specs.Limits.{token_pool};
 ghost use Rattle.def_reading.specs.Lists.{reading};
 ghost use Rattle.readdoor.specs.Door.{read_said, read_says, read_leaves, TextSays};
 
-use base::{Refusal, TEXT_LIMIT, TOKEN_POOL};
+use base::{Refusal, Refused, TEXT_LIMIT, TOKEN_POOL};
 use reader::ListGot;
 
-// The offset reached and the words used, or a refusal and its place.
-#[derive(Drop)]
-pub enum ReadAnswer {
-    Read { end: usize, words: usize },
-    Refused(Refusal, usize),
+// The offset reached, and the words used.
+#[derive(Clone, Copy, Debug, PartialEq, Eq)]
+pub struct Reading {
+    pub end: usize,
+    pub words: usize,
 }
 
 // Into a pool of just the words that are lent.
-fn read_text(text: &[u8], pool: &mut [u32]) -> ReadAnswer
+fn read_text(text: &[u8], pool: &mut [u32]) -> Result<Reading, Refused>
     requires { length pool.old ≡ token_pool }
     ensures { TextSays (reading text.now) result pool.old pool.new }
 {
     if TEXT_LIMIT < text.len() {
-        return ReadAnswer::Refused(Refusal::TextTooLong, 0);
+        return Err(Refusal::TextTooLong.into());
     }
     if digits::peek(text, 0) != b'{' {
-        return ReadAnswer::Refused(Refusal::Unexpected, 0);
+        return Err(Refusal::Unexpected.into());
     }
     let at = digits::skip_blanks(text, 1);
     let got = reader::read_list(text, at, 1, 0, pool, 0);
     match got {
         ListGot::Read(stop, words, _, _) => {
             if digits::peek(text, stop) != b'}' {
-                return ReadAnswer::Refused(Refusal::Unexpected, stop);
+                return Err(Refused {
+                    why: Refusal::Unexpected,
+                    place: stop,
+                });
             }
             let end = digits::skip_blanks(text, stop + 1);
-            ReadAnswer::Read { end, words }
+            Ok(Reading { end, words })
         }
-        ListGot::Absent => ReadAnswer::Refused(Refusal::Unexpected, at),
-        ListGot::Refused(code, place) => ReadAnswer::Refused(code, place),
+        ListGot::Absent => Err(Refused {
+            why: Refusal::Unexpected,
+            place: at,
+        }),
+        ListGot::Refused(why, place) => Err(Refused { why, place }),
     }
 }
 
-// Reads a text's tokens into the first 4,096 words of the pool.
-pub fn read(text: &[u8], pool: &mut [u32]) -> ReadAnswer
+// Reads a text's tokens into the first 4,096 words of the pool, and zeroes those that are not used.
+pub fn read(text: &[u8], pool: &mut [u32]) -> Result<Reading, Refused>
     ensures { (read_said result ≡ read_says text.now pool.old)
         × (pool.new ≡ read_leaves text.now pool.old) }
 {
     if pool.len() < TOKEN_POOL {
-        return ReadAnswer::Refused(Refusal::NoRoom, 0);
+        return Err(Refusal::NoRoom.into());
     }
     let r = read_text(text, &mut pool[0..TOKEN_POOL]);
-    match r {
-        ReadAnswer::Read { end, words } => {
-            base::zero_words(pool, words, TOKEN_POOL);
-            ReadAnswer::Read { end, words }
-        }
-        ReadAnswer::Refused(code, place) => {
-            base::zero_words(pool, 0, TOKEN_POOL);
-            ReadAnswer::Refused(code, place)
-        }
-    }
+    let used = match r {
+        Ok(read) => read.words,
+        Err(_) => 0,
+    };
+    pool[used..TOKEN_POOL].fill(0);
+    r
 }

@@ -10,8 +10,9 @@ use Rattle.base.specs.declared.Refusal.{Refusal}
 use Rattle.base.specs.declared.Refused.{Refused}
 use Rattle.base.specs.Refusals.{number_of}
 use Rattle.base.proofs.RefusalLaws.{number_one, number_some}
-use Rattle.readdoor.specs.declared.ReadAnswer.{ReadAnswer}
-use Rattle.readdoor.specs.declared.ReadAnswer.TheVariants as read
+use Rattle.std.specs.Prelude.{Result, Ok, Err}
+use Rattle.base.specs.declared.Refused.{Refused}
+use Rattle.readdoor.specs.declared.Reading.{Reading}
 use Rattle.readdoor.specs.Door as readdoor
 use Rattle.compiledoor.specs.declared.Compiled.{Compiled}
 use Rattle.compiledoor.specs.Door as compiledoor
@@ -35,11 +36,11 @@ some_number {A} why e = absurd (apart (ap (λ (n : ℕ). eqb n 0) e ∙ number_s
     apart : true ≡ false → ⊥
     apart h = let z : ◌≡◌ {A = ℕ} 0 1 = cc in omega arith
 
-pub read_tells : (a b : ReadAnswer) → read_told (readdoor.read_said a) ≡ read_told (readdoor.read_said b) → a ≡ b
-read_tells (read.Read e u) (read.Read f v) h = ap₂ read.Read (ap (λ (r : ReadResult). r.reached) h) (ap (λ (r : ReadResult). r.words) h)
-read_tells (read.Read e u) (read.Refused c x) h = some_number c (ap (λ (r : ReadResult). r.refusal) h)
-read_tells (read.Refused c x) (read.Read f v) h = some_number c (sym (ap (λ (r : ReadResult). r.refusal) h))
-read_tells (read.Refused c x) (read.Refused d y) h = ap₂ read.Refused (number_one c d (ap (λ (r : ReadResult). r.refusal) h)) (ap (λ (r : ReadResult). r.place) h)
+pub read_tells : (a b : Result Reading Refused) → read_told (readdoor.read_said a) ≡ read_told (readdoor.read_said b) → a ≡ b
+read_tells (Ok x) (Ok y) h = ap₂ readdoor.reads (ap (λ (r : ReadResult). r.reached) h) (ap (λ (r : ReadResult). r.words) h)
+read_tells (Ok x) (Err z) h = some_number z.why (ap (λ (r : ReadResult). r.refusal) h)
+read_tells (Err z) (Ok y) h = some_number z.why (sym (ap (λ (r : ReadResult). r.refusal) h))
+read_tells (Err z) (Err w) h = ap₂ readdoor.refused (number_one z.why w.why (ap (λ (r : ReadResult). r.refusal) h)) (ap (λ (r : ReadResult). r.place) h)
 
 abbrev compiled : ℕ → ℕ → ℕ → Result Compiled Refused
 compiled e f r = Ok (record { reached = e; forward = f; reverse = r })

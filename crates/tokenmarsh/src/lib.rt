@@ -14,7 +14,6 @@ ghost use Rattle.tokenmarsh.specs.Results.{read_told, compile_told, literals_tol
 use checkdoors::Answer;
 use literaldoor::LiteralsAnswer;
 use nodes::NodeWord;
-use readdoor::ReadAnswer;
 
 // major * 65536 + minor * 256 + patch, of 0.4.0: a caller compares it with its header's TM_VERSION, since structs, words and refusals may differ between versions.
 #[unsafe(no_mangle)]
@@ -39,15 +38,15 @@ pub extern "C" fn tm_read(text: &[u8], pool: &mut [u32]) -> ReadResult
 {
     let r = readdoor::read(text, pool);
     match r {
-        ReadAnswer::Read { end, words } => ReadResult {
+        Ok(read) => ReadResult {
             refusal: 0,
             place: 0,
-            reached: end as u64,
-            words: words as u64,
+            reached: read.end as u64,
+            words: read.words as u64,
         },
-        ReadAnswer::Refused(why, place) => ReadResult {
-            refusal: why.number(),
-            place: place as u64,
+        Err(refused) => ReadResult {
+            refusal: refused.why.number(),
+            place: refused.place as u64,
             reached: 0,
             words: 0,
         },
