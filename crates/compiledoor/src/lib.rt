@@ -1,13 +1,12 @@
 // The door by which any bytes are compiled as a pattern: its programs, forwards and in reverse.
 #![tactic(auto)]
 
-ghost use Rattle.std.specs.Prelude.{◌≡◌, ◌≤◌, length};
-ghost use Rattle.def_meaning.specs.Limits.{node_pool};
+ghost use Rattle.std.specs.Prelude.{◌≡◌};
 ghost use Rattle.def_reading.specs.Lists.{reading};
 ghost use Rattle.compiledoor.specs.Door.{compile_said, TextFills, compile_says, forward_leaves, reverse_leaves};
 
 use base::{NODE_POOL, Refusal, Refused, TOKEN_POOL};
-use compiler::{clear, compile_tokens};
+use compiler::compile_tokens;
 use nodes::NodeWord;
 use readdoor::read;
 
@@ -19,31 +18,25 @@ pub struct Compiled {
     pub reverse: usize,
 }
 
-// With both pools long enough. The tokens are read into 4,096 words of the stack.
+// Into pools of just the words that are lent. The tokens are read into 4,096 words of the stack.
 fn compile_text(
     text: &[u8],
-    forward: &mut [NodeWord],
-    reverse: &mut [NodeWord],
+    forward: &mut [NodeWord; NODE_POOL],
+    reverse: &mut [NodeWord; NODE_POOL],
 ) -> Result<Compiled, Refused>
-    requires { (node_pool ≤ length forward.old) × (node_pool ≤ length reverse.old) }
     ensures { TextFills (reading text.now) (compile_said result)
         forward.old forward.new reverse.old reverse.new }
 {
-    let mut tokens = [0u32; TOKEN_POOL];
-    match read(text, &mut tokens) {
-        Ok(got) => {
-            let sizes = compile_tokens(&tokens[..got.words], forward, reverse)?;
-            Ok(Compiled {
-                reached: got.end,
-                forward: sizes.forward,
-                reverse: sizes.reverse,
-            })
-        }
-        Err(refused) => {
-            clear(forward, reverse);
-            Err(refused)
-        }
-    }
+    *forward = [0; NODE_POOL];
+    *reverse = [0; NODE_POOL];
+    let mut tokens = [0; TOKEN_POOL];
+    let got = read(text, &mut tokens)?;
+    let sizes = compile_tokens(&tokens[..got.words], forward, reverse)?;
+    Ok(Compiled {
+        reached: got.end,
+        forward: sizes.forward,
+        reverse: sizes.reverse,
+    })
 }
 
 // Compiles a text into the first 512 words of each pool.
@@ -56,8 +49,11 @@ pub fn compile(
         × (forward.new ≡ forward_leaves text.now forward.old reverse.old)
         × (reverse.new ≡ reverse_leaves text.now forward.old reverse.old) }
 {
-    if forward.len() < NODE_POOL || reverse.len() < NODE_POOL {
+    let Some(forward) = forward.first_chunk_mut() else {
         return Err(Refusal::NoRoom.into());
-    }
+    };
+    let Some(reverse) = reverse.first_chunk_mut() else {
+        return Err(Refusal::NoRoom.into());
+    };
     compile_text(text, forward, reverse)
 }

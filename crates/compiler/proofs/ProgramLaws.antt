@@ -1,9 +1,10 @@
 -- From what was emitted to what compiling is. Assumes nothing.
-use Rattle.std.proofs.Common.{◌≡◌, refl, sym, ap, ap₂, ◌∙◌, Bool, true, false, not, ◌&&◌, ◌||◌, leb, Err, List, ◌++◌, ℕ, ◌*◌, ◌-◌, ◌≤◌, arith, length, take, drop}
+use Rattle.std.proofs.Common.{◌≡◌, refl, sym, ap, ap₂, ◌∙◌, Bool, true, false, not, ◌&&◌, ◌||◌, leb, Result, Ok, Err, ◌⊎◌, inl, inr, List, ◌++◌, ℕ, ◌*◌, ◌≤◌, ◌<◌, arith, length, take, drop}
 use Rattle.std.proofs.Math.Seq.{take_at}
-use Rattle.base.specs.declared.Refusal.TheVariants.{NotSimple}
-use Rattle.base.specs.Pools.{cleared}
-use Rattle.def_meaning.specs.Limits.{node_limit, token_pool, node_pool, entry_limit}
+use Rattle.std.proofs.lemmas.Bool.{le-leb, lt-leb}
+use Rattle.base.specs.declared.Refusal.{Refusal}
+use Rattle.base.specs.declared.Refusal.TheVariants.{NotSimple, TooManyNodes, BranchTooLong}
+use Rattle.def_meaning.specs.Limits.{node_limit, token_pool, entry_limit}
 use Rattle.def_meaning.specs.Tokens.{Tokens}
 use Rattle.def_meaning.specs.Values.{Spelled}
 use Rattle.def_meaning.specs.Entries.{token_count, entries}
@@ -16,7 +17,11 @@ use Rattle.def_compiling.proofs.CountLaws.{added_words}
 use Rattle.emit.specs.Lists.{tokens_program, offsets, Outlined}
 use Rattle.emit.proofs.OrderLaws.{directed, offsets_count}
 use Rattle.emit.proofs.LinkLaws.{directed_long, tokens_program_lem}
-use Rattle.compiler.specs.Made.{Fills, limited}
+use Rattle.compiler.specs.declared.Sizes.{Sizes}
+use Rattle.compiler.specs.Made.{Makes, limited}
+
+abbrev sizes : ℕ → ℕ → Result Sizes Refusal
+sizes n m = Ok (record { forward = n; reverse = m })
 
 module _ (ws : List ℕ) (ts : Tokens) (e : ws ≡ entries ts) where
   pub count_fits : length ws ≤ token_pool → (count : ℕ) → count ≡ token_count ts → count ≤ entry_limit
@@ -24,15 +29,14 @@ module _ (ws : List ℕ) (ts : Tokens) (e : ws ≡ entries ts) where
 
   module _ (s : Spelled ts) (y : simple ts ≡ true) (count : ℕ) (sts o : List ℕ) (c : count ≡ token_count ts) (g : sts ≡ offsets 0 ts ++ drop count o) where
     abbrev starts : List ℕ
-    starts = take (count - 0) (drop 0 sts)
+    starts = take count sts
 
-    pub outlined : Outlined ws (take (count - 0) (drop 0 sts))
+    pub outlined : Outlined ws (take count sts)
     outlined =
-        let z : count - 0 ≡ count = omega arith in
         record {
           tokens = ts;
           entered = e;
-          started = ap₂ take z g ∙ take_at (offsets 0 ts) (drop count o) count (offsets_count 0 ts ∙ sym c);
+          started = ap (take count) g ∙ take_at (offsets 0 ts) (drop count o) count (offsets_count 0 ts ∙ sym c);
           spelled = s;
           simply = y;
         }
@@ -57,28 +61,43 @@ module _ (ws : List ℕ) (ts : Tokens) (e : ws ≡ entries ts) where
     unfolding compile limited few forward_words reverse_words
     compile_is = rw y
 
-    -- what was emitted, tested and copied
-    pub emitted : (first second o₁ o₂ : List ℕ) (n m : ℕ) (lf lr long : Bool) → n ≡ nodes (tokens_program false ws starts) → m ≡ nodes (tokens_program true ws starts)
-        → lf ≡ not (short (tokens_program false ws starts)) → lr ≡ not (short (tokens_program true ws starts)) → long ≡ (lf || lr) → first ≡ words_of (tokens_program false ws starts) ++ drop n o₁
-        → second ≡ words_of (tokens_program true ws starts) ++ drop m o₂ → limited (not long) (leb n node_limit && leb m node_limit) (take n first) (take m second) ≡ compile ts
-    emitted first second o₁ o₂ n m lf lr long en em ef er el e₁ e₂ =
-        let F = tokens_program false ws starts in
-        let R = tokens_program true ws starts in
-        let a : not long ≡ (short F && short R) = ap not (el ∙ ap₂ ◌||◌ ef er) ∙ both (short F) (short R) in
-        let b : (leb n node_limit && leb m node_limit) ≡ (leb (nodes F) node_limit && leb (nodes R) node_limit) = ap₂ (λ (x : ℕ) (y : ℕ). leb x node_limit && leb y node_limit) en em in
-        let f : take n first ≡ words_of F = ap (take n) e₁ ∙ take_at (words_of F) (drop n o₁) n (sym en) in
-        let r : take m second ≡ words_of R = ap (take m) e₂ ∙ take_at (words_of R) (drop m o₂) m (sym em) in
-        ap₂ (λ (x : Bool) (y : Bool). limited x y (take n first) (take m second)) a b
-        ∙ ap₂ (limited (short F && short R) (leb (nodes F) node_limit && leb (nodes R) node_limit)) f r
-        ∙ ap₂ (λ (x : Prog) (y : Prog). limited (short x && short y) (leb (nodes x) node_limit && leb (nodes y) node_limit) (words_of x) (words_of y)) forward_is reverse_is
-        ∙ sym compile_is
-      where
-        both : (x y : Bool) → not (not x || not y) ≡ (x && y)
-        both true true = refl
-        both true false = refl
-        both false y = refl
+    -- what was emitted
+    module _ (first second o₁ o₂ : List ℕ) (n m : ℕ) (lf lr : Bool) (en : n ≡ nodes (tokens_program false ws starts)) (em : m ≡ nodes (tokens_program true ws starts)) (ef : lf ≡ not (short (tokens_program false ws starts)))
+        (er : lr ≡ not (short (tokens_program true ws starts))) (e₁ : first ≡ words_of (tokens_program false ws starts) ++ drop n o₁) (e₂ : second ≡ words_of (tokens_program true ws starts) ++ drop m o₂) where
+      abbrev forward : List ℕ
+      forward = words_of (tokens_program false ws starts)
+
+      abbrev reverse : List ℕ
+      reverse = words_of (tokens_program true ws starts)
+
+      tested : compile ts ≡ limited (not (lf || lr)) (leb n node_limit && leb m node_limit) forward reverse
+      tested =
+          compile_is
+          ∙ ap₂ (λ (x : Prog) (y : Prog). limited (short x && short y) (leb (nodes x) node_limit && leb (nodes y) node_limit) (words_of x) (words_of y)) (sym forward_is) (sym reverse_is)
+          ∙ ap₂ (λ (x : Bool) (y : Bool). limited x y forward reverse) (sym (both _ _) ∙ ap not (ap₂ ◌||◌ (sym ef) (sym er))) (ap₂ (λ (x : ℕ) (y : ℕ). leb x node_limit && leb y node_limit) (sym en) (sym em))
+        where
+          both : (x y : Bool) → not (not x || not y) ≡ (x && y)
+          both true true = refl
+          both true false = refl
+          both false y = refl
+
+      pub made_long : (lf ≡ true) ⊎ ((lf ≡ false) × (lr ≡ true)) → Makes (compile ts) (Err BranchTooLong) first second
+      unfolding limited
+      made_long (inl h) = rw (tested, h) refl
+      made_long (inr (h, g)) = rw (tested, h, g) refl
+
+      pub made_many : lf ≡ false → lr ≡ false → (node_limit < n) ⊎ ((n ≤ node_limit) × (node_limit < m)) → Makes (compile ts) (Err TooManyNodes) first second
+      unfolding limited
+      made_many h g (inl l) = rw (tested, h, g, lt-leb n node_limit l) refl
+      made_many h g (inr (k, l)) = rw (tested, h, g, le-leb n node_limit k, lt-leb m node_limit l) refl
+
+      pub made_both : lf ≡ false → lr ≡ false → n ≤ node_limit → m ≤ node_limit → Makes (compile ts) (Ok (record { forward = n; reverse = m })) first second
+      unfolding limited
+      made_both h g k l =
+          rw (tested, h, g, le-leb n node_limit k, le-leb m node_limit l)
+          (ap₂ sizes en em, ap (take (length forward)) e₁ ∙ take_at forward (drop n o₁) (length forward) refl, ap (take (length reverse)) e₂ ∙ take_at reverse (drop m o₂) (length reverse) refl)
 
 -- 12
-pub not_simple_made : (ts : Tokens) (p p' q q' : List ℕ) → simple ts ≡ false → p' ≡ cleared node_pool p → q' ≡ cleared node_pool q → Fills (compile ts) (Err NotSimple) p p' q q'
+pub not_simple_made : (ts : Tokens) (a b : List ℕ) → simple ts ≡ false → Makes (compile ts) (Err NotSimple) a b
 unfolding compile
-not_simple_made ts p p' q q' e x y = rw e (refl, x, y)
+not_simple_made ts a b e = rw e refl

@@ -1,14 +1,11 @@
 -- Walks over token entries. Assumes nothing.
-use mathlib.Core.Path.{◌≡◌, refl, sym, ap, ap₂, ◌∙◌}
-use mathlib.Core.Bool.{Bool, true, false, cond, not, ◌&&◌, and_assoc}
-use mathlib.Core.Option.{none, some}
-use mathlib.Core.List.{List, [], ◌∷◌, ◌++◌, append-nil, append_assoc}
-use Prim.Native.Nat.{ℕ, suc, ◌+◌, ◌-◌, ◌*◌, ◌≤◌, ◌<◌}
-use native.Mathlib.Omega.{arith}
-use native.Mathlib.Numerals.{add-one}
-use lib.Dec.{eqb, leb}
-use lib.ListN.{length, get_or, take, drop, set, length-append, length-drop}
-use lib.Seq.{drop-drop, drop_at, drop-cons, set_at, get_or-drop, take_all}
+use Rattle.std.proofs.Common.{◌≡◌, refl, sym, ap, ap₂, ◌∙◌, Bool, true, false, cond, not, ◌&&◌, List, [], ◌∷◌, ◌++◌, append-nil, append_assoc, ℕ, zero, suc, ◌+◌, ◌*◌, ◌/◌, ◌≤◌, ◌<◌, add-one, arith, eqb, leb, length, get_or, drop, set}
+use Rattle.std.proofs.Math.Option.{none, some}
+use Rattle.std.proofs.Math.Bool.{and_assoc}
+use Rattle.std.proofs.Math.ListN.{length-append, length-drop}
+use Rattle.std.proofs.Math.Seq.{drop-drop, drop_at, drop-cons, set_at, get_or-drop}
+use Rattle.std.specs.List.{list_all}
+use Rattle.std.specs.Simd.{first_chunks}
 use Rattle.def_meaning.specs.Tokens.{Token, Tokens, Lists, Byte, NotByte, MaskedByte, NotMaskedByte, Jump, Alternatives, nothing, ◌then◌, neither, ◌or◌}
 use Rattle.def_meaning.specs.Entries.{token_count, entries_of, entries, list_entries}
 use Rattle.def_meaning.proofs.TokenLaws.{some_entry}
@@ -20,23 +17,21 @@ use Rattle.emit.proofs.LinkLaws.{fields, alt_fields, alt_inside, starts_size}
 use Rattle.compiler.specs.Walks.{to_of, told_by, flat_entries, simple_at}
 
 -- entries four words at a time
-pub flat_step : (ws : List ℕ) → 4 ≤ length ws → flat_entries ws ≡ (flat_token (told_by (get_or ws 0 0) (get_or ws 1 0) (get_or ws 2 0) (get_or ws 3 0)) && flat_entries (take (length ws - 4) (drop 4 ws)))
-unfolding flat_entries
-flat_step [] h = absurd (omega arith)
-flat_step (k ∷ []) h = absurd (omega arith)
-flat_step (k ∷ (a ∷ [])) h = absurd (omega arith)
-flat_step (k ∷ (a ∷ (b ∷ []))) h = absurd (omega arith)
-flat_step (k ∷ (a ∷ (b ∷ (c ∷ ws)))) h =
-    let e : suc (suc (suc (suc (length ws)))) - 4 ≡ length ws = omega arith in
-    ap (λ (l : List ℕ). flat_token (told_by k a b c) && flat_entries l) (sym (ap (λ (n : ℕ). take n ws) e ∙ take_all (length ws) ws (omega arith)))
+abbrev pub flat_chunk : List ℕ → Bool
+flat_chunk e = flat_token (told_by (get_or e 0 0) (get_or e 1 0) (get_or e 2 0) (get_or e 3 0))
 
-pub flat_end : (ws : List ℕ) → length ws < 4 → flat_entries ws ≡ true
+pub flat_chunks : (n : ℕ) (ws : List ℕ) → n ≡ length ws / 4 → list_all flat_chunk (first_chunks 4 n ws) ≡ flat_entries ws
 unfolding flat_entries
-flat_end [] h = refl
-flat_end (k ∷ []) h = refl
-flat_end (k ∷ (a ∷ [])) h = refl
-flat_end (k ∷ (a ∷ (b ∷ []))) h = refl
-flat_end (k ∷ (a ∷ (b ∷ (c ∷ ws)))) h = absurd (omega arith)
+flat_chunks zero [] h = refl
+flat_chunks zero (k ∷ []) h = refl
+flat_chunks zero (k ∷ (a ∷ [])) h = refl
+flat_chunks zero (k ∷ (a ∷ (b ∷ []))) h = refl
+flat_chunks zero (k ∷ (a ∷ (b ∷ (c ∷ ws)))) h = absurd (omega arith)
+flat_chunks (suc n) [] h = absurd (omega arith)
+flat_chunks (suc n) (k ∷ []) h = absurd (omega arith)
+flat_chunks (suc n) (k ∷ (a ∷ [])) h = absurd (omega arith)
+flat_chunks (suc n) (k ∷ (a ∷ (b ∷ []))) h = absurd (omega arith)
+flat_chunks (suc n) (k ∷ (a ∷ (b ∷ (c ∷ ws)))) h = ap (λ (x : Bool). flat_token (told_by k a b c) && x) (flat_chunks n ws (omega arith))
 
 -- what an entry of one kind asks
 pub near_flat : (a b c : ℕ) → flat_token (Jump a (to_of b c)) ≡ (simple_token (Jump 0 (to_of b c)) && leb b a)

@@ -1,6 +1,6 @@
 -- What compiling tokens answers, and what it leaves in the two pools. Assumes nothing: these are definitions.
 -- To be believed: nothing.
-use Rattle.std.specs.Prelude.{◌≡◌, Bool, cond, Result, Ok, Err, List, ℕ, length}
+use Rattle.std.specs.Prelude.{◌≡◌, Bool, cond, Result, Ok, Err, List, ℕ, length, take}
 use Rattle.def_meaning.specs.Limits.{node_pool}
 use Rattle.base.specs.declared.Refusal.{Refusal}
 use Rattle.base.specs.declared.Refusal.TheVariants.{TooManyNodes, BranchTooLong}
@@ -12,6 +12,11 @@ use Rattle.compiler.specs.declared.Sizes.{Sizes}
 abbrev pub Fills : Compiled → Result Sizes Refusal → List ℕ → List ℕ → List ℕ → List ℕ → Type 0
 Fills (compiled f r) made p p' q q' = (made ≡ Ok (record { forward = length f; reverse = length r })) × (p' ≡ filled node_pool f p) × (q' ≡ filled node_pool r q)
 Fills (refused x) made p p' q q' = (made ≡ Err x) × (p' ≡ cleared node_pool p) × (q' ≡ cleared node_pool q)
+
+-- the same before the words are in their pools: they stand at the front of two buffers
+abbrev pub Makes : Compiled → Result Sizes Refusal → List ℕ → List ℕ → Type 0
+Makes (compiled f r) made a b = (made ≡ Ok (record { forward = length f; reverse = length r })) × (take (length f) a ≡ f) × (take (length r) b ≡ r)
+Makes (refused x) made a b = made ≡ Err x
 
 -- once the tokens are simple: 14, then 13
 unfoldable pub limited : Bool → Bool → List ℕ → List ℕ → Compiled

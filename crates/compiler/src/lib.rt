@@ -1,20 +1,19 @@
 // From token entries to the words of both programs, or to refusal 12, 14 or 13.
 #![tactic(auto)]
 
-ghost use Rattle.std.specs.Prelude.{◌≡◌, not, ◌&&◌, ◌||◌, ◌++◌, leb, ◌+◌, ◌*◌, ◌≤◌, length, take, drop};
-ghost use Rattle.def_meaning.specs.Limits.{node_limit, node_pool};
+ghost use Rattle.std.specs.Prelude.{◌≡◌, ◌++◌, ◌+◌, ◌*◌, ◌≤◌, length, drop, IfOk};
+ghost use Rattle.def_meaning.specs.Limits.{node_limit};
 ghost use Rattle.def_meaning.specs.Tokens.{Tokens, Jump};
 ghost use Rattle.def_meaning.specs.Entries.{token_count, entries};
 ghost use Rattle.def_meaning.specs.Values.{Spelled};
 ghost use Rattle.def_compiling.specs.Compile.{flat_token, simple_token, simple, compile};
 ghost use Rattle.emit.specs.Lists.{size_at, offsets};
-ghost use Rattle.base.specs.Pools.{filled, cleared};
-ghost use Rattle.compiler.specs.Made.{Fills, limited};
-ghost use Rattle.compiler.specs.Walks.{to_of, told_by, flat_entries, simple_at, Entered, Simply};
+ghost use Rattle.compiler.specs.Made.{Fills, Makes};
+ghost use Rattle.compiler.specs.Walks.{to_of, told_by, flat_entries, simple_at, Entered};
 
 use base::{ENTRY_LIMIT, JUMP_LIMIT, NODE_LIMIT, NODE_POOL, Refusal};
 use emit::add_tokens;
-use nodes::{NodeWord, zero_nodes};
+use nodes::NodeWord;
 
 // How many words each program has.
 #[derive(Clone, Copy, Debug, PartialEq, Eq)]
@@ -45,14 +44,10 @@ fn flat_entry(kind: u32, a: u32, b: u32, c: u32) -> bool
 fn flat_entries(ws: &[u32]) -> bool
     ensures { result ≡ flat_entries ws.now }
 {
-    let mut rest = ws;
-    while 4 <= rest.len() {
-        if !flat_entry(rest[0], rest[1], rest[2], rest[3]) {
-            return false;
-        }
-        rest = &rest[4..];
-    }
-    true
+    let (entries, _) = ws.as_chunks::<4>();
+    entries
+        .iter()
+        .all(|&[kind, a, b, c]| flat_entry(kind, a, b, c))
 }
 
 // The words of the token at a place.
@@ -114,103 +109,53 @@ pub fn find_starts(ws: &[u32], starts: &mut [u16]) -> usize
     n
 }
 
-// The first n of the words to the front of the pool.
-fn copy_words(pool: &mut [NodeWord], words: &[NodeWord], n: usize)
-    requires { (n ≤ length words.now) × (n ≤ length pool.old) }
-    ensures { pool.new ≡ take n words.now ++ drop n pool.old }
-{
-    let mut i = 0;
-    while i < n {
-        pool[i] = words[i];
-        i += 1;
-    }
-}
-
-// A program's words in its pool, and zeros in the rest of the 512.
-fn fill(pool: &mut [NodeWord], words: &[NodeWord], n: usize)
-    requires { (n ≤ length words.now) × (n ≤ node_pool) × (node_pool ≤ length pool.old) }
-    ensures { pool.new ≡ filled node_pool (take n words.now) pool.old }
-{
-    copy_words(pool, words, n);
-    zero_nodes(pool, n, NODE_POOL);
-}
-
-// Zeros in the first 512 words of both pools.
-pub fn clear(forward: &mut [NodeWord], reverse: &mut [NodeWord])
-    requires { (node_pool ≤ length forward.old) × (node_pool ≤ length reverse.old) }
-    ensures { (forward.new ≡ cleared node_pool forward.old) × (reverse.new ≡ cleared node_pool reverse.old) }
-{
-    zero_nodes(forward, 0, NODE_POOL);
-    zero_nodes(reverse, 0, NODE_POOL);
-}
-
-// 14, then 13, or both programs: n words of the one, m of the other, and whether a branch is above its limit.
-fn finish(
-    first: &[NodeWord],
-    n: usize,
-    second: &[NodeWord],
-    m: usize,
-    long: bool,
-    forward: &mut [NodeWord],
-    reverse: &mut [NodeWord],
+// Both programs of tokens, each at the front of its buffer; or 12, then 14, then 13.
+fn make(
+    tokens: &[u32],
+    first: &mut [NodeWord; ENTRY_LIMIT],
+    second: &mut [NodeWord; ENTRY_LIMIT],
 ) -> Result<Sizes, Refusal>
-    requires { (n ≤ length first.now) × (m ≤ length second.now) × (node_pool ≤ length forward.old) × (node_pool ≤ length reverse.old) }
-    ensures { Fills (limited (not long) (leb n node_limit && leb m node_limit) (take n first.now) (take m second.now)) result
-        forward.old forward.new reverse.old reverse.new }
+    requires { Entered tokens.now }
+    ensures made { (ts : Tokens) → tokens.now ≡ entries ts → Spelled ts → Makes (compile ts) result first.new second.new }
+    ensures few { IfOk result (λ s. (s.forward ≤ node_limit) × (s.reverse ≤ node_limit)) }
 {
-    if long {
-        clear(forward, reverse);
+    if !simple_tokens(tokens) {
+        return Err(Refusal::NotSimple);
+    }
+    let mut places = [0; ENTRY_LIMIT];
+    let count = find_starts(tokens, &mut places);
+    let starts = &places[..count];
+    let forward = add_tokens(tokens, starts, false, first);
+    let reverse = add_tokens(tokens, starts, true, second);
+    if forward.long || reverse.long {
         return Err(Refusal::BranchTooLong);
     }
-    if NODE_LIMIT < n {
-        clear(forward, reverse);
+    if NODE_LIMIT < forward.count || NODE_LIMIT < reverse.count {
         return Err(Refusal::TooManyNodes);
     }
-    if NODE_LIMIT < m {
-        clear(forward, reverse);
-        return Err(Refusal::TooManyNodes);
-    }
-    fill(forward, first, n);
-    fill(reverse, second, m);
     Ok(Sizes {
-        forward: n,
-        reverse: m,
+        forward: forward.count,
+        reverse: reverse.count,
     })
 }
 
-// Both programs of simple tokens. Their words are made on the stack, where all that entries can give fit: an entry gives a word at most.
-fn compile_simple(
-    tokens: &[u32],
-    forward: &mut [NodeWord],
-    reverse: &mut [NodeWord],
-) -> Result<Sizes, Refusal>
-    requires { Entered tokens.now × Simply tokens.now × (node_pool ≤ length forward.old) × (node_pool ≤ length reverse.old) }
-    ensures { (ts : Tokens) → tokens.now ≡ entries ts → Spelled ts → Fills (compile ts) result
-        forward.old forward.new reverse.old reverse.new }
-{
-    let mut starts = [0u16; ENTRY_LIMIT];
-    let count = find_starts(tokens, &mut starts);
-    let mut first: [NodeWord; ENTRY_LIMIT] = [0; ENTRY_LIMIT];
-    let mut second: [NodeWord; ENTRY_LIMIT] = [0; ENTRY_LIMIT];
-    let f = add_tokens(tokens, &starts[0..count], false, &mut first);
-    let r = add_tokens(tokens, &starts[0..count], true, &mut second);
-    let long = f.long || r.long;
-    finish(&first, f.count, &second, r.count, long, forward, reverse)
-}
-
-// The programs of tokens, forwards and from every list read backwards; 12 first, then 14, then 13.
+// The programs of tokens, forwards and from every list read backwards. Their words are made on the stack, where all that entries can give fit: an entry
+// gives a word at most. They stand at the front of the pools, with zeros behind; a refusal leaves zeros alone.
 pub fn compile_tokens(
     tokens: &[u32],
-    forward: &mut [NodeWord],
-    reverse: &mut [NodeWord],
+    forward: &mut [NodeWord; NODE_POOL],
+    reverse: &mut [NodeWord; NODE_POOL],
 ) -> Result<Sizes, Refusal>
-    requires { Entered tokens.now × (node_pool ≤ length forward.old) × (node_pool ≤ length reverse.old) }
+    requires { Entered tokens.now }
     ensures { (ts : Tokens) → tokens.now ≡ entries ts → Spelled ts → Fills (compile ts) result
         forward.old forward.new reverse.old reverse.new }
 {
-    if !simple_tokens(tokens) {
-        clear(forward, reverse);
-        return Err(Refusal::NotSimple);
-    }
-    compile_simple(tokens, forward, reverse)
+    *forward = [0; NODE_POOL];
+    *reverse = [0; NODE_POOL];
+    let mut first = [0; ENTRY_LIMIT];
+    let mut second = [0; ENTRY_LIMIT];
+    let sizes = make(tokens, &mut first, &mut second)?;
+    forward[..sizes.forward].copy_from_slice(&first[..sizes.forward]);
+    reverse[..sizes.reverse].copy_from_slice(&second[..sizes.reverse]);
+    Ok(sizes)
 }

@@ -1,19 +1,16 @@
--- `compiledoor::compile` meets its contract. Assumes nothing.
-use Rattle.compiledoor.proofs.DoorLaws as law
-use Rattle.compiledoor.specs.Door.{compile_said}
+use Rattle.std.proofs.Common.{rules, ◌≡◌, ℕ, ◌+◌, ◌-◌, ◌*◌, ◌<◌, ◌≤◌, length, ◌/◌, ◌%◌, Bool, true, false, nat_eq, nat_lt, List, [], ◌∷◌, ◌++◌, slice_index_or, slice_set, bit_and, bit_or, Fits, w8, w32, w64, Bor, MutBor}
+use Rattle.def_reading.specs.Lists.{reading}
+use Rattle.compiledoor.specs.Door.{compile_said, TextFills, compile_says, forward_leaves, reverse_leaves}
 use Rattle.compiledoor.proofs.compile.Goals as goal
 
-pub returns-then-forward-lt-NODE_POOL : goal.returns-then-forward-lt-NODE_POOL
-returns-then-forward-lt-NODE_POOL c =
-    let (why, place) = c.into.ensures in
-    rw (why, place) (law.door_small c.args.text.now c.args.forward.now c.args.reverse.now (law.small c.args.forward.now c.args.reverse.now c.then-forward-lt-NODE_POOL.either))
+-- src/lib.rt:59:9
+pub returns-in_default : goal.returns-in_default
+returns-in_default c = ?
 
+-- src/lib.rt:62:9
+pub returns-in_default-first_chunk_mut : goal.returns-in_default-first_chunk_mut
+returns-in_default-first_chunk_mut c = ?
+
+-- src/lib.rt:49:1
 pub returns : goal.returns
-returns c =
-    law.door_text c.args.text.now (compile_said c.compile_text.result)
-    c.args.forward.now c.compile_text.new.forward
-    c.args.reverse.now c.compile_text.new.reverse
-    (law.both_fit c.args.forward.now
-    c.args.reverse.now
-    c.if-forward-lt-NODE_POOL.false c.if-reverse-lt-NODE_POOL.false)
-    c.compile_text.ensures
+returns c = ?
