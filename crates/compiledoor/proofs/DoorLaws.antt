@@ -1,16 +1,17 @@
 -- From what was read to what the door says. Assumes nothing.
-use Rattle.std.proofs.Common.{◌≡◌, refl, ap, ◌∙◌, true, false, ◌⊎◌, inl, inr, Result, Ok, Err, IsErrAnd, List, ℕ, ◌-◌, ◌≤◌, ◌<◌, arith, leb, length, take}
+use Rattle.std.proofs.Common.{◌≡◌, refl, sym, ap, ◌∙◌, false, Result, Ok, Err, IsErrAnd, List, [], ◌++◌, append-nil, append_assoc, ℕ, ◌-◌, ◌≤◌, ◌<◌, arith, leb, length, take, drop, replicate}
+use Rattle.std.proofs.Math.ListN.{length-take, length-replicate, take-append-drop}
+use Rattle.std.proofs.lemmas.List.{drop_all}
 use Rattle.std.proofs.Math.Bool.{and-false}
 use Rattle.std.proofs.lemmas.Bool.{le-leb, lt-leb}
 use Rattle.base.specs.declared.Refusal.{Refusal}
 use Rattle.base.specs.declared.Refused.{Refused}
-use Rattle.base.specs.Refusals.{number_of}
-use Rattle.base.specs.Pools.{cleared}
+use Rattle.base.specs.Pools.{filled, cleared}
 use Rattle.def_meaning.specs.Limits.{token_pool, node_pool}
 use Rattle.def_meaning.specs.Tokens.{Tokens}
 use Rattle.def_meaning.specs.Values.{Spelled}
 use Rattle.def_meaning.specs.Entries.{entries}
-use Rattle.def_reading.specs.Lists.{accepted, rejected, reading}
+use Rattle.def_reading.specs.Lists.{Verdict, accepted, rejected, reading}
 use Rattle.def_reading.proofs.SpelledValues.{accepted_spelled}
 use Rattle.readdoor.specs.declared.Reading.{Reading}
 use Rattle.readdoor.specs.Door as read
@@ -50,42 +51,93 @@ module _ (t p q : List ℕ) (r : Result Reading Refused) (a : read.read_said r �
   pub got_refused : (z : Refused) → r ≡ Err z → reading t ≡ rejected z.why z.place
   got_refused z f = into.got_refused t p q r a b l z f
 
--- what `?` makes of a refusal of tokens
+-- pools of just the words that are lent, which are zeroed first
+abbrev zeros : List ℕ
+zeros = replicate node_pool 0
+
+none_beyond : (p : List ℕ) → length p ≡ node_pool → drop node_pool zeros ≡ drop node_pool p
+none_beyond p l = drop_all node_pool zeros (omega (arith, length-replicate {A = ℕ} node_pool 0)) ∙ sym (drop_all node_pool p (omega arith))
+
+cleared_again : (p : List ℕ) → length p ≡ node_pool → zeros ≡ cleared node_pool p
+unfolding cleared
+cleared_again p l = sym (append-nil zeros) ∙ ap (λ (x : List ℕ). zeros ++ x) (sym (drop_all node_pool p (omega arith)))
+
+filled_again : (f p : List ℕ) → length p ≡ node_pool → filled node_pool f zeros ≡ filled node_pool f p
+unfolding filled
+filled_again f p l = ap (λ (x : List ℕ). f ++ (replicate (node_pool - length f) 0 ++ x)) (none_beyond p l)
+
+module _ (t p p' q q' : List ℕ) (l : length p ≡ node_pool) (m : length q ≡ node_pool) where
+  -- the pools, when tokens were compiled into zeros
+  made_text : (e : ℕ) (c : Compiled) (made : Result Sizes Refusal) → Fills c made zeros p' zeros q' → (made_says e made ≡ compiled_says e c) × (p' ≡ compiled_forward c p) × (q' ≡ compiled_reverse c q)
+  unfolding compiled_says compiled_forward compiled_reverse
+  made_text e (compiled f r) made (h, x, y) = (ap (made_says e) h, x ∙ filled_again f p l, y ∙ filled_again r q m)
+  made_text e (refused z) made (h, x, y) =
+      (ap (made_says e) h, x ∙ sym (cleared_again zeros (length-replicate {A = ℕ} node_pool 0)) ∙ cleared_again p l, y ∙ sym (cleared_again zeros (length-replicate {A = ℕ} node_pool 0)) ∙ cleared_again q m)
+
+  pub text_compiled : (e : ℕ) (ts : Tokens) (made : Result Sizes Refusal) (s : CompileSaid) → reading t ≡ accepted e ts → s ≡ made_says e made → Fills (compile ts) made zeros p' zeros q' → TextFills (reading t) s p p' q q'
+  unfolding verdict_says verdict_forward verdict_reverse
+  text_compiled e ts made s g f h =
+      let k = made_text e (compile ts) made h in
+      rw g (f ∙ k.0, k.1, k.2)
+
+-- what `?` makes of a refusal of tokens, and of a text's
 pub said_at_none : (e : ℕ) (m : Result Sizes Refusal) (r : Result Compiled' Refused) (x : Refusal) → m ≡ Err x → IsErrAnd r (λ y. (y.why ≡ x) × (y.place ≡ 0)) → compile_said r ≡ made_says e m
 said_at_none e m (Ok y) x f h = absurd h
 said_at_none e m (Err y) x f h = rw (f, h.0, h.1)
 
--- compiled
-made_text : (e : ℕ) (c : Compiled) (m : Result Sizes Refusal) (p p' q q' : List ℕ) → Fills c m p p' q q' → (made_says e m ≡ compiled_says e c) × (p' ≡ compiled_forward c p) × (q' ≡ compiled_reverse c q)
-unfolding compiled_says compiled_forward compiled_reverse
-made_text e (compiled f r) m p p' q q' (h, x, y) = (ap (made_says e) h, x, y)
-made_text e (refused z) m p p' q q' (h, x, y) = (ap (made_says e) h, x, y)
-
-pub text_compiled : (t : List ℕ) (e : ℕ) (ts : Tokens) (m : Result Sizes Refusal) (s : CompileSaid) (p p' q q' : List ℕ) → reading t ≡ accepted e ts → s ≡ made_says e m → Fills (compile ts) m p p' q q' → TextFills (reading t) s p p' q q'
+pub text_refused : (t p q : List ℕ) (z : Refused) (r : Result Compiled' Refused) → length p ≡ node_pool → length q ≡ node_pool → reading t ≡ rejected z.why z.place → IsErrAnd r (λ y. y ≡ z) → TextFills (reading t) (compile_said r) p zeros q zeros
 unfolding verdict_says verdict_forward verdict_reverse
-text_compiled t e ts m s p p' q q' g f h =
-    let k = made_text e (compile ts) m p p' q q' h in
-    rw g (f ∙ k.0, k.1, k.2)
+text_refused t p q z (Ok y) l m g h = absurd h
+text_refused t p q z (Err y) l m g h = rw (g, h) (refl, cleared_again p l, cleared_again q m)
 
-pub text_refused : (t : List ℕ) (c : Refusal) (y : ℕ) (p p' q q' : List ℕ) → reading t ≡ rejected c y → p' ≡ cleared node_pool p → q' ≡ cleared node_pool q → TextFills (reading t) (refuses (number_of c) y) p p' q q'
-unfolding verdict_says verdict_forward verdict_reverse
-text_refused t c y p p' q q' g a b = rw g (refl, a, b)
+-- the door, which lends the words in front
+module _ (p : List ℕ) where
+  cut : drop node_pool (take node_pool p) ≡ []
+  cut = drop_all node_pool (take node_pool p) (omega (arith, length-take node_pool p))
 
--- the door
+  cleared_beyond : cleared node_pool (take node_pool p) ++ drop node_pool p ≡ cleared node_pool p
+  unfolding cleared
+  cleared_beyond = ap (λ (x : List ℕ). (zeros ++ x) ++ drop node_pool p) cut ∙ ap (λ (x : List ℕ). x ++ drop node_pool p) (append-nil zeros)
+
+  filled_beyond : (f : List ℕ) → filled node_pool f (take node_pool p) ++ drop node_pool p ≡ filled node_pool f p
+  unfolding filled
+  filled_beyond f =
+      let r : List ℕ = replicate (node_pool - length f) 0 in
+      ap (λ (x : List ℕ). (f ++ (r ++ x)) ++ drop node_pool p) cut
+      ∙ append_assoc f (r ++ []) (drop node_pool p)
+      ∙ ap (λ (x : List ℕ). f ++ (x ++ drop node_pool p)) (append-nil r)
+
+  compiled_beyond : (c : Compiled) → (compiled_forward c (take node_pool p) ++ drop node_pool p ≡ compiled_forward c p) × (compiled_reverse c (take node_pool p) ++ drop node_pool p ≡ compiled_reverse c p)
+  unfolding compiled_forward compiled_reverse
+  compiled_beyond (compiled f r) = (filled_beyond f, filled_beyond r)
+  compiled_beyond (refused z) = (cleared_beyond, cleared_beyond)
+
+  pub verdict_beyond : (x : Verdict) → (verdict_forward x (take node_pool p) ++ drop node_pool p ≡ verdict_forward x p) × (verdict_reverse x (take node_pool p) ++ drop node_pool p ≡ verdict_reverse x p)
+  unfolding verdict_forward verdict_reverse
+  verdict_beyond (accepted e ts) = compiled_beyond (compile ts)
+  verdict_beyond (rejected z y) = (cleared_beyond, cleared_beyond)
+
 abbrev pub Door : List ℕ → CompileSaid → List ℕ → List ℕ → List ℕ → List ℕ → Type 0
 Door t s p p' q q' = (s ≡ compile_says t p q) × (p' ≡ forward_leaves t p q) × (q' ≡ reverse_leaves t p q)
 
-pub door_small : (t p q : List ℕ) → room p q ≡ false → Door t (refuses 18 0) p p q q
-unfolding compile_says forward_leaves reverse_leaves
-door_small t p q e = rw e (refl, refl, refl)
+module _ (t p q : List ℕ) where
+  door_small : room p q ≡ false → Door t (refuses 18 0) p p q q
+  unfolding compile_says forward_leaves reverse_leaves
+  door_small e = rw e (refl, refl, refl)
 
-pub door_text : (t : List ℕ) (s : CompileSaid) (p p' q q' : List ℕ) → room p q ≡ true → TextFills (reading t) s p p' q q' → Door t s p p' q q'
-unfolding compile_says forward_leaves reverse_leaves
-door_text t s p p' q q' e h = rw e h
+  pub small_forward : length p < node_pool → Door t (refuses 18 0) p p q q
+  small_forward h = door_small (rw (lt-leb node_pool (length p) h))
 
-pub small : (p q : List ℕ) → (length p < node_pool) ⊎ ((node_pool ≤ length p) × (length q < node_pool)) → room p q ≡ false
-small p q (inl h) = rw (lt-leb node_pool (length p) h)
-small p q (inr h) = rw (lt-leb node_pool (length q) h.1) (and-false (leb node_pool (length p)))
+  pub small_reverse : (lent : List ℕ) → lent ≡ take node_pool p → length q < node_pool → Door t (refuses 18 0) p (lent ++ drop node_pool p) q q
+  small_reverse lent e h =
+      let d = door_small (rw (lt-leb node_pool (length q) h) (and-false (leb node_pool (length p)))) in
+      (d.0, ap (λ (x : List ℕ). x ++ drop node_pool p) e ∙ take-append-drop node_pool p ∙ d.1, d.2)
 
-pub both_fit : (p q : List ℕ) → node_pool ≤ length p → node_pool ≤ length q → room p q ≡ true
-both_fit p q a b = rw (le-leb node_pool (length p) a, le-leb node_pool (length q) b)
+  pub both_fit : node_pool ≤ length p → node_pool ≤ length q → (s : CompileSaid) (p₀ p' q₀ q' : List ℕ) → p₀ ≡ take node_pool p → q₀ ≡ take node_pool q → TextFills (reading t) s p₀ p' q₀ q' → Door t s p (p' ++ drop node_pool p) q (q' ++ drop node_pool q)
+  unfolding compile_says forward_leaves reverse_leaves
+  both_fit h g s p₀ p' q₀ q' e f (k, x, y) =
+      rw (le-leb node_pool (length p) h, le-leb node_pool (length q) g) (
+        k,
+        ap (λ (z : List ℕ). z ++ drop node_pool p) (x ∙ ap (verdict_forward (reading t)) e) ∙ (verdict_beyond p (reading t)).0,
+        ap (λ (z : List ℕ). z ++ drop node_pool q) (y ∙ ap (verdict_reverse (reading t)) f) ∙ (verdict_beyond q (reading t)).1,
+      )

@@ -1,16 +1,22 @@
-use Rattle.std.proofs.Common.{rules, ◌≡◌, ℕ, ◌+◌, ◌-◌, ◌*◌, ◌<◌, ◌≤◌, length, ◌/◌, ◌%◌, Bool, true, false, nat_eq, nat_lt, List, [], ◌∷◌, ◌++◌, slice_index_or, slice_set, bit_and, bit_or, Fits, w8, w32, w64, Bor, MutBor}
-use Rattle.def_reading.specs.Lists.{reading}
-use Rattle.compiledoor.specs.Door.{compile_said, TextFills, compile_says, forward_leaves, reverse_leaves}
+-- `compiledoor::compile` meets its contract. Assumes nothing.
+use Rattle.compiledoor.proofs.DoorLaws as law
+use Rattle.compiledoor.specs.Door.{compile_said}
 use Rattle.compiledoor.proofs.compile.Goals as goal
 
--- src/lib.rt:59:9
 pub returns-in_default : goal.returns-in_default
-returns-in_default c = ?
+returns-in_default c =
+    let (why, place) = c.into.ensures in
+    rw (why, place) (law.small_forward c.args.text.now c.args.forward.now c.args.reverse.now c.in_default.ensures.cases)
 
--- src/lib.rt:62:9
 pub returns-in_default-first_chunk_mut : goal.returns-in_default-first_chunk_mut
-returns-in_default-first_chunk_mut c = ?
+returns-in_default-first_chunk_mut c =
+    let (why, place) = c.into-in_default-first_chunk_mut.ensures in
+    rw (why, place)
+    (law.small_reverse c.args.text.now c.args.forward.now c.args.reverse.now c.in-Some.forward.now c.in-Some.ensures.cases.same c.in_default-first_chunk_mut.ensures.cases)
 
--- src/lib.rt:49:1
 pub returns : goal.returns
-returns c = ?
+returns c =
+    let f = c.in-Some.ensures.cases in
+    let r = c.in-Some-first_chunk_mut.ensures.cases in
+    law.both_fit c.args.text.now c.args.forward.now c.args.reverse.now f.enough r.enough (compile_said c.compile_text.result) c.in-Some.forward.now c.compile_text.new.forward
+    c.in-Some-first_chunk_mut.reverse.now c.compile_text.new.reverse f.same r.same c.compile_text.ensures
