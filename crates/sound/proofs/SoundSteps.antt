@@ -1,12 +1,12 @@
 -- The soundness test, a word at a time: the answer for some words is the answer for what is left. Assumes nothing.
-use Rattle.std.proofs.Common.{◌≡◌, refl, sym, ap, ◌∙◌, Bool, true, false, cond, ◌&&◌, List, [], ◌∷◌, ℕ, ◌<◌, Option, None, Some, leb, length, take, drop, arith, ◌⊎◌, inl, inr, le_refl, le-leb}
+use Rattle.std.proofs.Common.{◌≡◌, refl, sym, ap, ◌∙◌, Bool, true, false, cond, ◌&&◌, List, [], ◌∷◌, ℕ, ◌-◌, ◌≤◌, ◌<◌, Option, None, Some, leb, length, take, drop, slice_range, arith, ◌⊎◌, inl, inr, le_refl, le-leb}
 use Rattle.std.proofs.Math.Bool.{and-false}
 use borrow.Author.Tests.{lt-leb}
-use Rattle.std.specs.List.{IsSplitAt}
 use Rattle.def_meaning.specs.Programs.{Item}
 use Rattle.def_meaning.specs.Words.{Shape, item, opens, mark, wrong, shape, proper, is_flat, flat_words, sound_branches, sound_words}
 use Rattle.def_meaning.proofs.WordLaws.{take_le, drop_le}
 use Rattle.def_meaning.proofs.SoundLaws.{sb_fuel, sw_fuel}
+use Rattle.def_meaning.proofs.PartLaws.{from, to_end}
 use Rattle.sound.specs.Steps.{in_item, in_branch, item_inside, branch_inside, flat_shape, flat_word, Steps}
 
 -- the tests with the fuel that is enough
@@ -37,12 +37,15 @@ module _ {test part : List ℕ → Bool} {inside : ℕ → Option ℕ} (s : Step
       pub turn_long : length ws < n → false ≡ test L
       turn_long l = sym (told ∙ rw (lt-leb n (length ws) l))
 
-      module _ {own after : List ℕ} (split : IsSplitAt ws n own after) where
-        pub turn_part : false ≡ part own → false ≡ test L
-        turn_part g = sym (told ∙ rw (le-leb n (length ws) split.0, ← split.1, ← g))
+      module _ {own : List ℕ} (l : n ≤ length ws) (cut : own ≡ slice_range ws 0 n) where
+        seen : take n ws ≡ own
+        seen = let z : n ≡ n - 0 = omega arith in ap (λ (m : ℕ). take m ws) z ∙ sym cut
 
-        pub turn_next : true ≡ part own → test after ≡ test L
-        turn_next g = sym (told ∙ rw (le-leb n (length ws) split.0, ← split.1, ← g, ← split.2))
+        pub turn_part : false ≡ part own → false ≡ test L
+        turn_part g = sym (told ∙ rw (le-leb n (length ws) l, seen, ← g))
+
+        pub turn_next : true ≡ part own → test (from n ws) ≡ test L
+        turn_next g = sym (told ∙ rw (le-leb n (length ws) l, seen, ← g) (ap test (sym (to_end n ws))))
 
 -- items: one that is a single word has no words inside, and no branches fill them
 module _ (w : ℕ) (ws : List ℕ) where
