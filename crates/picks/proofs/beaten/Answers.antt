@@ -1,11 +1,10 @@
 -- `picks::beaten` meets its contract. Assumes nothing.
+use Rattle.std.proofs.Common.{sym, ◌∙◌, arith, ◌≤◌}
+use borrow.Author.Tests.{leb-true}
 use Rattle.picks.proofs.WinnerLaws as winner
 use Rattle.picks.proofs.beaten.Goals as goal
 
-pub returns-in-Taken : goal.returns-in-Taken
-returns-in-Taken c =
-    winner.taken_beats c.args.best _ _ _ c.args.rank c.in-Taken.is
-
-pub returns-in-TooMany : goal.returns-in-TooMany
-returns-in-TooMany c =
-    λ e. winner.full_beats c.args.best c.args.rank c.in-TooMany.is
+pub returns-in-Some : goal.returns-in-Some
+returns-in-Some c =
+    λ l n h run s. (let o : c.args.rank ≤ c.in-Some.b.rank = leb-true c.args.rank c.in-Some.b.rank l in
+    rw c.in-Some.is (sym (winner.skip_kept _ s) ∙ winner.lower_kept c.in-Some.b run s n (omega arith)))

@@ -1,19 +1,15 @@
 -- `picks::challenge` meets its contract. Assumes nothing.
+use Rattle.std.proofs.Common.{ap, sym}
+use Rattle.def_picking.specs.Candidates.{against, chosen}
 use Rattle.picks.proofs.WinnerLaws as winner
 use Rattle.picks.proofs.challenge.Goals as goal
 
-pub returns-then-highest-rank : goal.returns-then-highest-rank
-returns-then-highest-rank c =
-    winner.higher_taken _ c.args.from c.args.to c.args.rank _ _ _ c.in-Taken.is c.if-highest-rank.true
+pub returns-in-None : goal.returns-in-None
+unfolding against
+returns-in-None c = λ run s w. rw c.in-None.is (ap (chosen c.args.new.rank) (sym w))
 
-pub returns-in-Nothing : goal.returns-in-Nothing
-returns-in-Nothing c =
-    winner.first_taken _ c.args.from c.args.to c.args.rank c.in-Nothing.is
+pub returns-in-Some : goal.returns-in-Some
+returns-in-Some c = λ run s w. rw c.in-Some.is (winner.lower_kept c.in-Some.b run s c.args.new.rank c.if-new-b.true)
 
-pub returns-else-highest-rank : goal.returns-else-highest-rank
-returns-else-highest-rank c =
-    winner.earlier_kept _ c.args.from c.args.to c.args.rank _ _ _ c.in-Taken.is c.if-highest-rank.false
-
-pub returns-in-TooMany : goal.returns-in-TooMany
-returns-in-TooMany c =
-    winner.full_kept _ c.args.from c.args.to c.args.rank c.in-TooMany.is
+pub returns-in-Some-2 : goal.returns-in-Some-2
+returns-in-Some-2 c = λ run s w. rw (c.in-Some.is, ← w) (winner.higher_taken c.in-Some.b run s c.args.new.rank c.if-new-b.false)

@@ -1,12 +1,7 @@
 -- `picks::ranked_against` meets its contract. Assumes nothing.
-use Rattle.picks.specs.declared.Winner.TheVariants.{TooMany}
+use Rattle.picks.specs.Ranks.{pick_says}
 use Rattle.picks.proofs.WinnerLaws as winner
 use Rattle.picks.proofs.ranked_against.Goals as goal
 
-pub returns-in-Skipped : goal.returns-in-Skipped
-returns-in-Skipped c =
-    winner.by_rank c.args.best c.args.best c.args.from c.args.to _ _ c.in-Skipped.is (winner.skip_kept c.args.best c.args.from c.args.to)
-
-pub returns-in-TooMany : goal.returns-in-TooMany
-returns-in-TooMany c =
-    winner.by_rank TooMany c.args.best c.args.from c.args.to _ _ c.in-TooMany.is (winner.excess_full c.args.best c.args.from c.args.to)
+pub returns-in-None : goal.returns-in-None
+returns-in-None c = λ run s w. rw c.in-None.is (winner.skip_kept (pick_says run c.args.best) s)
