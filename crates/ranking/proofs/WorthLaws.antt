@@ -1,31 +1,27 @@
 -- Where scoring may stop. Assumes nothing.
-use mathlib.Core.Path.{◌≡◌, sym, ap, ◌∙◌}
-use Prim.Native.Nat.{ℕ, ◌-◌, ◌≤◌}
-use native.Mathlib.Omega.{arith}
-use lib.ListN.{drop}
+use Rattle.std.proofs.Common.{◌≡◌, sym, ap, ◌∙◌, ℕ, ◌-◌, ◌≤◌, arith, drop, Option, Some, None, Ok}
 use Rattle.def_meaning.specs.Tokens.{Tokens}
 use Rattle.atoms.specs.Score.{literal_score}
 use Rattle.def_picking.specs.Literals.{literals}
 use Rattle.def_picking.specs.Candidates.{lowest, least, ranked}
-use Rattle.picks.specs.declared.Winner.{Winner}
-use Rattle.picks.specs.declared.Rank.TheVariants.{Of, Skipped}
+use Rattle.picks.specs.declared.Pick.{Pick}
 use Rattle.picks.specs.Ranks.{Settles, Beaten}
 use Rattle.ranking.proofs.RankLaws.{lowest_le}
 use Rattle.picks.proofs.WinnerLaws.{settled}
 
-module _ (ts : Tokens) (penalty : ℕ) (b : Winner) where
+module _ (ts : Tokens) (penalty : ℕ) (b : Option Pick) where
   -- all literals are scored
-  pub worth_all : (x y : ℕ) → least literal_score (literals ts) ≡ x → y ≡ x - penalty → Settles b (Of y) (ranked (least literal_score (literals ts) - penalty))
-  worth_all x y e f = settled b (Of y) (ranked (least literal_score (literals ts) - penalty)) (ap ranked (f ∙ ap (λ (n : ℕ). n - penalty) (sym e)))
+  pub worth_all : (x y : ℕ) → least literal_score (literals ts) ≡ x → y ≡ x - penalty → Settles b (Ok (Some y)) (ranked (least literal_score (literals ts) - penalty))
+  worth_all x y e f = settled b (Ok (Some y)) (ranked (least literal_score (literals ts) - penalty)) (ap ranked (f ∙ ap (λ (n : ℕ). n - penalty) (sym e)))
 
   module _ (k x y : ℕ) (so_far : least literal_score (literals ts) ≡ lowest literal_score (drop k (literals ts)) x) (most : y ≡ x - penalty) where
     at_most : least literal_score (literals ts) - penalty ≤ y
     at_most = let h = lowest_le literal_score (drop k (literals ts)) x in omega arith
 
     -- a rank of 0 cannot fall
-    pub worth_none : y ≡ 0 → Settles b (Of 0) (ranked (least literal_score (literals ts) - penalty))
-    worth_none z = settled b (Of 0) (ranked (least literal_score (literals ts) - penalty)) (ap ranked (let h = at_most in omega arith))
+    pub worth_none : y ≡ 0 → Settles b (Ok (Some 0)) (ranked (least literal_score (literals ts) - penalty))
+    worth_none z = settled b (Ok (Some 0)) (ranked (least literal_score (literals ts) - penalty)) (ap ranked (let h = at_most in omega arith))
 
     -- nor can one that changes nothing rise
-    pub worth_beaten : Beaten b y → Settles b Skipped (ranked (least literal_score (literals ts) - penalty))
+    pub worth_beaten : Beaten b y → Settles b (Ok None) (ranked (least literal_score (literals ts) - penalty))
     worth_beaten h = h (least literal_score (literals ts) - penalty) at_most

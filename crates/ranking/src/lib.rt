@@ -2,7 +2,7 @@
 // The rank of a slice of token entries, by the scores of its literals.
 #![tactic(auto)]
 
-ghost use Rattle.std.specs.Prelude.{◌≡◌, ◌≤◌, ◌<◌, ◌-◌, min, length};
+ghost use Rattle.std.specs.Prelude.{◌≡◌, ◌≤◌, ◌<◌, ◌-◌, length, Ok};
 ghost use Rattle.def_meaning.specs.Limits.{literal_limit, token_pool};
 ghost use Rattle.atoms.specs.Score.{literal_score};
 ghost use Rattle.def_picking.specs.Literals.{literals};
@@ -12,7 +12,7 @@ ghost use Rattle.entries.specs.Words.{tokens_in};
 ghost use Rattle.picks.specs.Ranks.{Settles};
 
 use base::{COMBINATION_LIMIT, ENTRY_LIMIT, LITERAL_LIMIT};
-use picks::{Rank, Winner};
+use picks::{Pick, TooMany};
 
 // A literal has at most as many bytes as there are entries.
 pub fn score_at(ws: &[u32], k: usize) -> u32
@@ -20,72 +20,54 @@ pub fn score_at(ws: &[u32], k: usize) -> u32
     ensures { result ≡ literal_score (literal_at (tokens_in ws.now) k) }
 {
     let mut scratch = [0u8; ENTRY_LIMIT];
-    let n = spelling::write_literal(ws, k, &mut scratch[0..ENTRY_LIMIT]);
-    atoms::literal_score(&scratch[0..n])
-}
-
-fn smaller(a: u32, b: u32) -> u32
-    ensures { result ≡ min a b }
-{
-    if a < b { a } else { b }
+    let n = spelling::write_literal(ws, k, &mut scratch);
+    atoms::literal_score(&scratch[..n])
 }
 
 fn penalty_of(n: usize) -> u32
     ensures { result ≡ penalty n }
 {
-    if 100 <= n {
-        return 40;
+    match n {
+        100.. => 40,
+        17.. => 20,
+        2.. => 10,
+        _ => 0,
     }
-    if 16 < n {
-        return 20;
-    }
-    if 1 < n { 10 } else { 0 }
-}
-
-fn less(a: u32, b: u32) -> u32
-    ensures { result ≡ a - b }
-{
-    if a < b { 0 } else { a - b }
 }
 
 // What the literals are worth to the best so far. Scoring more of them can only lower the rank, so it stops where that changes nothing.
-fn worth(ws: &[u32], n: usize, penalty: u32, best: Winner) -> Rank
+fn worth(ws: &[u32], n: usize, penalty: u32, best: Option<Pick>) -> Option<u32>
     requires { (length ws.now ≤ token_pool) × (n ≡ count (tokens_in ws.now)) × (n ≤ literal_limit) }
-    ensures { Settles best result (ranked (least literal_score (literals (tokens_in ws.now)) - penalty)) }
+    ensures { Settles best (Ok result) (ranked (least literal_score (literals (tokens_in ws.now)) - penalty)) }
 {
     if n == 0 {
-        return Rank::Of(0);
+        return Some(0);
     }
     let mut least = score_at(ws, 0);
-    let mut k = 1;
-    while k < n {
-        let most = less(least, penalty);
+    for k in 1..n {
+        let most = least.saturating_sub(penalty);
         if most == 0 {
-            return Rank::Of(0);
+            return Some(0);
         }
         if picks::beaten(best, most) {
-            return Rank::Skipped;
+            return None;
         }
-        let s = score_at(ws, k);
-        least = smaller(least, s);
-        k += 1;
+        least = least.min(score_at(ws, k));
     }
-    Rank::Of(less(least, penalty))
+    Some(least.saturating_sub(penalty))
 }
 
-// A slice's rank, or one that changes the best so far as little.
-pub fn rank_of(ws: &[u32], best: Winner) -> Rank
+// A slice's rank, or one that changes the best so far as little; none where the slice is skipped.
+pub fn rank_of(ws: &[u32], best: Option<Pick>) -> Result<Option<u32>, TooMany>
     requires { length ws.now ≤ token_pool }
     ensures { Settles best result (rank (tokens_in ws.now)) }
 {
     let t = tallies::tally_tokens(ws);
-    let n = t.literals;
-    let c = t.combinations;
-    if COMBINATION_LIMIT < c {
-        return Rank::Skipped;
+    if COMBINATION_LIMIT < t.combinations {
+        return Ok(None);
     }
-    if LITERAL_LIMIT < n {
-        return Rank::TooMany;
+    if LITERAL_LIMIT < t.literals {
+        return Err(TooMany);
     }
-    worth(ws, n, penalty_of(c), best)
+    Ok(worth(ws, t.literals, penalty_of(t.combinations), best))
 }

@@ -1,19 +1,16 @@
 -- `ranking::penalty_of` meets its contract. Assumes nothing.
+use Rattle.std.proofs.Common.{arith}
 use Rattle.ranking.proofs.RankLaws as law
 use Rattle.ranking.proofs.penalty_of.Goals as goal
 
-pub returns-then-n-ge100 : goal.returns-then-n-ge100
-returns-then-n-ge100 c =
-    law.penalty_40 _ c.if-n-ge100.true
+pub returns-in-100-to-max : goal.returns-in-100-to-max
+returns-in-100-to-max c = law.penalty_40 _ (omega arith)
 
-pub returns-then-n-gt16 : goal.returns-then-n-gt16
-returns-then-n-gt16 c =
-    law.penalty_20 _ c.if-n-ge100.false c.if-n-gt16.true
+pub returns-in-17-to-max : goal.returns-in-17-to-max
+returns-in-17-to-max c = law.penalty_20 _ (omega arith) (omega arith)
 
-pub returns-then-n-gt1 : goal.returns-then-n-gt1
-returns-then-n-gt1 c =
-    law.penalty_10 _ c.if-n-ge100.false c.if-n-gt16.false c.if-n-gt1.true
+pub returns-in-2-to-max : goal.returns-in-2-to-max
+returns-in-2-to-max c = law.penalty_10 _ (omega arith) (omega arith) (omega arith)
 
-pub returns-else-n-gt1 : goal.returns-else-n-gt1
-returns-else-n-gt1 c =
-    law.penalty_0 _ c.if-n-ge100.false c.if-n-gt16.false c.if-n-gt1.false
+pub returns-in_default : goal.returns-in_default
+returns-in_default c = law.penalty_0 _ (omega arith) (omega arith) (omega arith)
