@@ -1,23 +1,19 @@
 -- The loop over the slices with one first part. Assumes nothing.
-use mathlib.Core.Path.{◌≡◌, sym, ap, ap₂, ◌∙◌, subst}
-use mathlib.Core.List.{List, ◌∷◌}
-use Prim.Native.Nat.{ℕ, ◌+◌, ◌-◌, ◌≤◌, ◌<◌}
-use native.Mathlib.Omega.{arith}
-use lib.Dec.{eqb}
-use lib.ListN.{length, get_or, take, drop, length-drop}
+use Rattle.std.proofs.Common.{◌≡◌, sym, ap, ap₂, ◌∙◌, subst, List, ◌∷◌, ℕ, ◌+◌, ◌-◌, ◌≤◌, ◌<◌, arith, eqb, length, get_or, take, drop, length-drop, Option, Ok, Err}
 use Rattle.def_meaning.specs.Limits.{token_pool}
 use Rattle.def_meaning.specs.Tokens.{Tokens, ◌⊕◌}
 use Rattle.def_meaning.proofs.PartLaws.{to_end, length_from}
 use Rattle.def_picking.specs.Literals.{length_in}
 use Rattle.def_picking.specs.Runs.{parts, slice, longer}
-use Rattle.def_picking.specs.Candidates.{Candidate, rank, widened, best}
+use Rattle.def_picking.specs.Candidates.{Candidate, rank, widened, best, too_many_literals}
 use Rattle.entries.specs.Words.{tokens_in}
-use Rattle.picks.specs.declared.Winner.{Winner}
-use Rattle.picks.specs.declared.Rank.{Rank}
-use Rattle.picks.specs.Ranks.{rank_says, winner_says, Settles}
+use Rattle.picks.specs.declared.Pick.{Pick}
+use Rattle.picks.specs.declared.TooMany.{TooMany}
+use Rattle.picks.specs.Ranks.{value_says, pick_says, Settles}
 use Rattle.runs.specs.Whole.{Whole, byte_end, part_end, Placed}
 use Rattle.runs.proofs.PartLaws.{Part, first_part}
-use Rattle.picks.proofs.WinnerLaws.{Stands}
+use Rattle.picks.proofs.WinnerLaws.{Stands, against_excess}
+use Rattle.def_picking.proofs.RefusalLaws.{best_full}
 use Rattle.literals.proofs.SliceLaws.{next_literal, further, turn, further_more, Next, next_of, widened_words, grown_words, grown_whole, later_words}
 
 -- the tokens of the words from a to b
@@ -67,7 +63,7 @@ module _ (run : List ℕ) (prior at : ℕ) (p : Placed run prior at) where
       tail_is : {a b : Tokens} {s t : List Tokens} → (a ∷ s) ≡ (b ∷ t) → s ≡ t
       tail_is e = cc
 
-module _ (run : List ℕ) (prior at to len : ℕ) (c : Candidate) (top : Winner) (p : Placed run prior at) (g : Going run prior at to len c (winner_says run top)) where
+module _ (run : List ℕ) (prior at to len : ℕ) (c : Candidate) (top : Option Pick) (p : Placed run prior at) (g : Going run prior at to len c (pick_says run top)) where
   after : Next (drop to run)
   after = next_of (drop to run) g.rest_whole
 
@@ -82,9 +78,9 @@ module _ (run : List ℕ) (prior at to len : ℕ) (c : Candidate) (top : Winner)
       omega arith
 
   -- one slice is weighed, and what comes next is known
-  pub weighed : (now : Winner) (next : ℕ) (r : Rank) → next ≡ byte_end (take (length run - to) (drop to run)) → Settles top r (rank (words run at to))
-      → Stands now top prior (to + next) (rank_says r) → (own : Tokens) (ps : List Tokens) → parts (tokens_in (drop at run)) ≡ own ∷ ps
-      → best c (longer ps (words run prior at) own 0) ≡ best (winner_says run now) (further (parts (tokens_in (drop to run))) (words run prior at) (words run at to) len)
+  pub weighed : (now : Option Pick) (next : ℕ) (r : Option ℕ) → next ≡ byte_end (take (length run - to) (drop to run)) → Settles top (Ok r) (rank (words run at to))
+      → Stands now top prior (to + next) (value_says r) → (own : Tokens) (ps : List Tokens) → parts (tokens_in (drop at run)) ≡ own ∷ ps
+      → best c (longer ps (words run prior at) own 0) ≡ best (pick_says run now) (further (parts (tokens_in (drop to run))) (words run prior at) (words run at to) len)
   unfolding widened
   weighed now next r e f s own ps k =
       let n : next ≡ byte_end (drop to run) = e ∙ ap byte_end (to_end to run) in
@@ -94,9 +90,19 @@ module _ (run : List ℕ) (prior at to len : ℕ) (c : Candidate) (top : Winner)
       let wide : widened (slice (words run prior at) (words run at to) (next_literal (parts (tokens_in (drop to run))))) ≡ tokens_in (take (to + next - prior) (drop prior run)) =
       ap (λ (x : Tokens). words run prior at ⊕ (words run at to ⊕ x)) is ∙ sym (widened_words run prior at to p.behind at_le p.before_whole g.own_whole next ww) in
       g.same own ps k
-      ∙ turn (winner_says run top) (winner_says run now) (parts (tokens_in (drop to run))) (words run prior at) (words run at to) len
+      ∙ turn (pick_says run top) (pick_says run now) (parts (tokens_in (drop to run))) (words run prior at) (words run at to) len
       (s run (slice (words run prior at) (words run at to) (next_literal (parts (tokens_in (drop to run))))) wide
       ∙ f run (slice (words run prior at) (words run at to) (next_literal (parts (tokens_in (drop to run))))))
+
+  -- one slice has too many literals, whatever comes next
+  pub overfull : (e : TooMany) → Settles top (Err e) (rank (words run at to)) → (own : Tokens) (ps : List Tokens) → parts (tokens_in (drop at run)) ≡ own ∷ ps
+      → too_many_literals ≡ best c (longer ps (words run prior at) own 0)
+  overfull e f own ps k =
+      let s = slice (words run prior at) (words run at to) (next_literal (parts (tokens_in (drop to run)))) in
+      sym (g.same own ps k
+      ∙ turn (pick_says run top) too_many_literals (parts (tokens_in (drop to run))) (words run prior at) (words run at to) len
+      (sym (against_excess (pick_says run top) s) ∙ f run s)
+      ∙ best_full (further (parts (tokens_in (drop to run))) (words run prior at) (words run at to) len))
 
   pub rest_there : 4 ≤ length run - to → 4 ≤ length (take (length run - to) (drop to run))
   rest_there h = let e = length_from to run in omega arith
@@ -114,10 +120,10 @@ module _ (run : List ℕ) (prior at to len : ℕ) (c : Candidate) (top : Winner)
       (omega arith, omega arith)
 
   -- the next longer slice
-  pub going_on : (now : Winner) (n m e : ℕ) → n ≡ part_end (take (length run - to) (drop to run)) → 4 ≤ length run - to → len < 4 → e ≡ to + n → m ≡ length_in (tokens_in (take (e - to) (drop to run))) → m ≤ length (take (e - to) (drop to run))
+  pub going_on : (now : Option Pick) (n m e : ℕ) → n ≡ part_end (take (length run - to) (drop to run)) → 4 ≤ length run - to → len < 4 → e ≡ to + n → m ≡ length_in (tokens_in (take (e - to) (drop to run))) → m ≤ length (take (e - to) (drop to run))
       → ((own : Tokens) (ps : List Tokens) → parts (tokens_in (drop at run)) ≡ own ∷ ps
-      → best c (longer ps (words run prior at) own 0) ≡ best (winner_says run now) (further (parts (tokens_in (drop to run))) (words run prior at) (words run at to) len))
-      → Going run prior at e (len + m) c (winner_says run now)
+      → best c (longer ps (words run prior at) own 0) ≡ best (pick_says run now) (further (parts (tokens_in (drop to run))) (words run prior at) (words run at to) len))
+      → Going run prior at e (len + m) c (pick_says run now)
   going_on now n m e n-is h l e-is m-is m-le s =
       let f : n ≡ part_end (drop to run) = n-is ∙ ap part_end (to_end to run) in
       let q = to_part h in
@@ -140,7 +146,7 @@ module _ (run : List ℕ) (prior at to len : ℕ) (c : Candidate) (top : Winner)
         rest_whole = subst Whole dr q.rest_whole;
         same = λ own ps k.
             (s own ps k
-            ∙ ap (best (winner_says run now))
+            ∙ ap (best (pick_says run now))
             (further_more (drop to run) (part_end (drop to run)) (eqb (get_or (drop to run) 0 0) 0) (words run prior at) (words run at to) len l q
             ∙ ap₂ (λ (y : Tokens) (z : ℕ). longer (parts (tokens_in (drop (part_end (drop to run)) (drop to run)))) (words run prior at) y z) (sym ow) (sym le)
             ∙ ap (λ (y : List ℕ). longer (parts (tokens_in y)) (words run prior at) (words run at e) (len + m)) dr));

@@ -1,13 +1,8 @@
 -- All slices of a run, and the literal part that wins alone. Assumes nothing.
-use mathlib.Core.Path.{◌≡◌, refl, sym, ap, ap₂, ◌∙◌, subst}
-use mathlib.Core.Bool.{Bool, true, false, cond, ◌&&◌}
-use mathlib.Core.Option.{Option, none, some}
-use mathlib.Core.List.{List, [], ◌∷◌, ◌++◌}
-use Prim.Native.Nat.{ℕ, ◌+◌, ◌-◌, ◌*◌, ◌≤◌, ◌<◌}
-use native.Mathlib.Omega.{arith}
+use Rattle.std.proofs.Common.{◌≡◌, refl, sym, ap, ap₂, ◌∙◌, subst, Bool, true, false, cond, ◌&&◌, List, [], ◌∷◌, ◌++◌, ℕ, ◌+◌, ◌-◌, ◌*◌, ◌≤◌, ◌<◌, arith, eqb, leb, length, get_or, take, drop, length-drop}
+use Rattle.std.proofs.Common as Std
+use Rattle.std.proofs.Math.Option.{Option, none, some}
 use native.Mathlib.Nat.{one-mul, mod-one}
-use lib.Dec.{eqb, leb}
-use lib.ListN.{length, get_or, take, drop, length-drop}
 use borrow.Author.Tests.{eq-eqb, ne_eqb, le-leb, lt-leb}
 use Rattle.def_meaning.specs.Limits.{literal_limit, token_pool}
 use Rattle.def_meaning.specs.Tokens.{Tokens, Byte, NotByte, MaskedByte, NotMaskedByte, Jump, Alternatives, nothing, ◌then◌}
@@ -21,9 +16,8 @@ use Rattle.def_picking.specs.Candidates.{Candidate, unranked, chosen, too_many_l
 use Rattle.def_picking.proofs.RefusalLaws.{best_full}
 use Rattle.entries.specs.Words.{tokens_in}
 use Rattle.entries.proofs.StepLaws.{tokens_end}
-use Rattle.picks.specs.declared.Winner.{Winner}
-use Rattle.picks.specs.declared.Winner.TheVariants.{Nothing, Taken, TooMany}
-use Rattle.picks.specs.Ranks.{winner_says}
+use Rattle.picks.specs.declared.Pick.{Pick}
+use Rattle.picks.specs.Ranks.{pick_says}
 use Rattle.runs.specs.Whole.{Whole, none as empty, part_end, Placed}
 use Rattle.runs.proofs.PartLaws.{Part, first_part}
 use Rattle.literals.proofs.SliceLaws.{later_words}
@@ -38,12 +32,12 @@ no_tokens : (run : List ℕ) (a : ℕ) → words run a a ≡ nothing
 no_tokens run a = let e : a - a ≡ 0 = omega arith in ap (λ (x : ℕ). tokens_in (take x (drop a run))) e ∙ tokens_end (take 0 (drop a run)) (omega arith)
 
 -- the slices of the first parts up to `at` have been weighed
-pub record Weighed (run : List ℕ) (prior at : ℕ) (top : Winner) : Type 0 where
+pub record Weighed (run : List ℕ) (prior at : ℕ) (top : Std.Option Pick) : Type 0 where
   pub behind : prior ≤ at
   pub inside : at ≤ length run
   pub before_whole : Whole (take (at - prior) (drop prior run))
   pub rest_whole : Whole (drop at run)
-  pub same : best unranked (slices (parts (tokens_in run)) nothing) ≡ best (winner_says run top) (slices (parts (tokens_in (drop at run))) (words run prior at))
+  pub same : best unranked (slices (parts (tokens_in run)) nothing) ≡ best (pick_says run top) (slices (parts (tokens_in (drop at run))) (words run prior at))
 
 -- where an entry is left of a run, so it is of its part from there on, and the first part of that is told
 pub rest_long : (run : List ℕ) (at : ℕ) → 4 ≤ length run - at → 4 ≤ length (take (length run - at) (drop at run))
@@ -53,7 +47,7 @@ part_there : (run : List ℕ) (at : ℕ) → Whole (drop at run) → 4 ≤ lengt
 part_there run at w h = first_part (drop at run) w (let d = length-drop at run in omega arith)
 
 module _ (run : List ℕ) (few : length run ≤ token_pool) where
-  pub weighed_start : Whole run → Weighed run 0 0 Nothing
+  pub weighed_start : Whole run → Weighed run 0 0 Std.None
   weighed_start w =
       record {
         behind = (omega arith);
@@ -63,15 +57,22 @@ module _ (run : List ℕ) (few : length run ≤ token_pool) where
         same = sym (ap (λ (x : Tokens). best unranked (slices (parts (tokens_in run)) x)) (no_tokens run 0));
       }
 
-  module _ (prior at : ℕ) (top : Winner) (g : Weighed run prior at top) where
-    pub weighed_done : length run - at < 4 → winner_says run top ≡ best unranked (slices (parts (tokens_in run)) nothing)
+  module _ (prior at : ℕ) (top : Std.Option Pick) (g : Weighed run prior at top) where
+    pub weighed_done : length run - at < 4 → pick_says run top ≡ best unranked (slices (parts (tokens_in run)) nothing)
     unfolding parts slices best
     weighed_done h =
         let e = tokens_end (drop at run) (let d = length-drop at run in omega arith) in
-        sym (g.same ∙ ap (λ (x : Tokens). best (winner_says run top) (slices (parts x) (words run prior at))) e)
+        sym (g.same ∙ ap (λ (x : Tokens). best (pick_says run top) (slices (parts x) (words run prior at))) e)
 
-    pub weighed_full : ((run : List ℕ) → winner_says run top ≡ too_many_literals) → too_many_literals ≡ best unranked (slices (parts (tokens_in run)) nothing)
-    weighed_full e = sym (g.same ∙ ap (λ (c : Candidate). best c (slices (parts (tokens_in (drop at run))) (words run prior at))) (e run) ∙ best_full (slices (parts (tokens_in (drop at run))) (words run prior at)))
+    pub weighed_full : ((own : Tokens) (ps : List Tokens) → parts (tokens_in (drop at run)) ≡ own ∷ ps → too_many_literals ≡ best (pick_says run top) (longer ps (words run prior at) own 0))
+        → 4 ≤ length run - at → too_many_literals ≡ best unranked (slices (parts (tokens_in run)) nothing)
+    unfolding slices
+    weighed_full w h =
+        let q = part_there run at g.rest_whole h in
+        sym (g.same ∙ ap (λ (y : List Tokens). best (pick_says run top) (slices y (words run prior at))) q.part_is
+        ∙ best_append (longer (parts (tokens_in (drop (part_end (drop at run)) (drop at run)))) (words run prior at) (tokens_in (take (part_end (drop at run)) (drop at run))) 0) _ (pick_says run top)
+        ∙ ap (λ (y : Candidate). best y (slices (parts (tokens_in (drop (part_end (drop at run)) (drop at run)))) (literal_only (tokens_in (take (part_end (drop at run)) (drop at run)))))) (sym (w _ _ q.part_is))
+        ∙ best_full (slices (parts (tokens_in (drop (part_end (drop at run)) (drop at run)))) (literal_only (tokens_in (take (part_end (drop at run)) (drop at run))))))
 
     pub placed : 4 ≤ length run - at → Placed run prior at
     placed h = record { few = few; behind = g.behind; here = (omega arith); before_whole = g.before_whole; rest_whole = g.rest_whole }
@@ -86,8 +87,8 @@ module _ (run : List ℕ) (few : length run ≤ token_pool) where
         (omega arith, omega arith)
 
     -- the next first part; s is where a literal part begins, or where it would end
-    pub weighed_on : (h : 4 ≤ length run - at) (n e s : ℕ) (now : Winner) → n ≡ part_end (take (length run - at) (drop at run)) → e ≡ at + n → s ≡ cond (eqb (get_or run at 0) 0) at e
-        → ((own : Tokens) (ps : List Tokens) → parts (tokens_in (drop at run)) ≡ own ∷ ps → winner_says run now ≡ best (winner_says run top) (longer ps (words run prior at) own 0))
+    pub weighed_on : (h : 4 ≤ length run - at) (n e s : ℕ) (now : Std.Option Pick) → n ≡ part_end (take (length run - at) (drop at run)) → e ≡ at + n → s ≡ cond (eqb (get_or run at 0) 0) at e
+        → ((own : Tokens) (ps : List Tokens) → parts (tokens_in (drop at run)) ≡ own ∷ ps → pick_says run now ≡ best (pick_says run top) (longer ps (words run prior at) own 0))
         → Weighed run s e now
     unfolding slices literal_only
     weighed_on h n e s now n-is e-is s-is w =
@@ -113,10 +114,10 @@ module _ (run : List ℕ) (few : length run ≤ token_pool) where
               before_whole = start_whole b s-b wh;
               rest_whole = subst Whole dr q.rest_whole;
               same =
-                  g.same ∙ ap (λ (y : List Tokens). best (winner_says run top) (slices y (words run prior at))) q.part_is
-                  ∙ best_append (longer (parts (tokens_in (drop (part_end (drop at run)) (drop at run)))) (words run prior at) (tokens_in (take (part_end (drop at run)) (drop at run))) 0) _ (winner_says run top)
+                  g.same ∙ ap (λ (y : List Tokens). best (pick_says run top) (slices y (words run prior at))) q.part_is
+                  ∙ best_append (longer (parts (tokens_in (drop (part_end (drop at run)) (drop at run)))) (words run prior at) (tokens_in (take (part_end (drop at run)) (drop at run))) 0) _ (pick_says run top)
                   ∙ ap (λ (y : Candidate). best y (slices (parts (tokens_in (drop (part_end (drop at run)) (drop at run)))) (literal_only (tokens_in (take (part_end (drop at run)) (drop at run)))))) (sym (w _ _ q.part_is))
-                  ∙ ap₂ (λ (y : List ℕ) (z : Tokens). best (winner_says run now) (slices (parts (tokens_in y)) z)) dr (ap literal_only own ∙ start_is b s-b lit);
+                  ∙ ap₂ (λ (y : List ℕ) (z : Tokens). best (pick_says run now) (slices (parts (tokens_in y)) z)) dr (ap literal_only own ∙ start_is b s-b lit);
             }
           where
             start_le : (b : Bool) → s ≡ cond b at e → s ≤ e
@@ -263,27 +264,22 @@ module _ (run : List ℕ) (few : length run ≤ token_pool) where
 
 -- ---- what wins in a run
 
-pub run_alone : (run : List ℕ) (s : Winner) → winner_says run s ≡ alone_or (strong (parts (tokens_in run))) unranked → (s ≡ Nothing → ⊥) → winner_says run s ≡ in_run (tokens_in run)
-unfolding in_run alone_or
-run_alone run s e f = e ∙ go s e f (strong (parts (tokens_in run))) refl
-  where
-    go : (x : Winner) → winner_says run x ≡ alone_or (strong (parts (tokens_in run))) unranked → (x ≡ Nothing → ⊥) → (o : Option Tokens) → strong (parts (tokens_in run)) ≡ o
-        → alone_or (strong (parts (tokens_in run))) unranked ≡ alone_or (strong (parts (tokens_in run))) (best unranked (slices (parts (tokens_in run)) nothing))
-    go x d n (some p) q = rw q
-    go Nothing d n none q = absurd (n refl)
-    go (Taken a b m) d n none q = absurd (let r : chosen m (tokens_in (take (b - a) (drop a run))) ≡ unranked = d ∙ ap (λ (o : Option Tokens). alone_or o unranked) q in let z : ◌≡◌ {A = ℕ} 0 1 = cc in omega arith)
-    go TooMany d n none q = absurd (let r : too_many_literals ≡ unranked = d ∙ ap (λ (o : Option Tokens). alone_or o unranked) q in let z : ◌≡◌ {A = ℕ} 0 1 = cc in omega arith)
+module _ (run : List ℕ) (s : Std.Option Pick) (h : pick_says run s ≡ alone_or (strong (parts (tokens_in run))) unranked) where
+  pub run_slice : s ≡ Std.None → best unranked (slices (parts (tokens_in run)) nothing) ≡ in_run (tokens_in run)
+  unfolding in_run alone_or
+  run_slice f = go (strong (parts (tokens_in run))) refl
+    where
+      go : (o : Option Tokens) → strong (parts (tokens_in run)) ≡ o → best unranked (slices (parts (tokens_in run)) nothing) ≡ alone_or (strong (parts (tokens_in run))) (best unranked (slices (parts (tokens_in run)) nothing))
+      go none q = rw q
+      go (some p) q = absurd (let r : unranked ≡ chosen (literal_score (bytes_of p)) p = sym (ap (pick_says run) f) ∙ h ∙ ap (λ (o : Option Tokens). alone_or o unranked) q in let z : ◌≡◌ {A = ℕ} 0 1 = cc in omega arith)
 
-pub run_slice : (run : List ℕ) (s t : Winner) → winner_says run s ≡ alone_or (strong (parts (tokens_in run))) unranked → s ≡ Nothing → winner_says run t ≡ best unranked (slices (parts (tokens_in run)) nothing) → winner_says run t ≡ in_run (tokens_in run)
-unfolding in_run alone_or
-run_slice run s t e f g = g ∙ go (strong (parts (tokens_in run))) refl
-  where
-    go : (o : Option Tokens) → strong (parts (tokens_in run)) ≡ o → best unranked (slices (parts (tokens_in run)) nothing) ≡ alone_or (strong (parts (tokens_in run))) (best unranked (slices (parts (tokens_in run)) nothing))
-    go none q = rw q
-    go (some p) q = absurd (let r : unranked ≡ chosen (literal_score (bytes_of p)) p = sym (ap (winner_says run) f) ∙ e ∙ ap (λ (o : Option Tokens). alone_or o unranked) q in let z : ◌≡◌ {A = ℕ} 0 1 = cc in omega arith)
+  pub run_alone : (p : Pick) → s ≡ Std.Some p → pick_says run (Std.Some p) ≡ in_run (tokens_in run)
+  unfolding in_run alone_or
+  run_alone p e = d ∙ go (strong (parts (tokens_in run))) refl
+    where
+      d : pick_says run (Std.Some p) ≡ alone_or (strong (parts (tokens_in run))) unranked
+      d = sym (ap (pick_says run) e) ∙ h
 
-pub run_taken : (run : List ℕ) (s : Winner) (a b m : ℕ) → s ≡ Taken a b m → winner_says run s ≡ alone_or (strong (parts (tokens_in run))) unranked → winner_says run (Taken a b m) ≡ in_run (tokens_in run)
-run_taken run s a b m e h = run_alone run (Taken a b m) (sym (ap (winner_says run) e) ∙ h) (λ f. (let z : ◌≡◌ {A = ℕ} 0 1 = cc in omega arith))
-
-pub run_full : (run : List ℕ) (s : Winner) → s ≡ TooMany → winner_says run s ≡ alone_or (strong (parts (tokens_in run))) unranked → winner_says run TooMany ≡ in_run (tokens_in run)
-run_full run s e h = run_alone run TooMany (sym (ap (winner_says run) e) ∙ h) (λ f. (let z : ◌≡◌ {A = ℕ} 0 1 = cc in omega arith))
+      go : (o : Option Tokens) → strong (parts (tokens_in run)) ≡ o → alone_or (strong (parts (tokens_in run))) unranked ≡ alone_or (strong (parts (tokens_in run))) (best unranked (slices (parts (tokens_in run)) nothing))
+      go (some t) q = rw q
+      go none q = absurd (let r : chosen p.rank (tokens_in (take (p.to - p.from) (drop p.from run))) ≡ unranked = d ∙ ap (λ (o : Option Tokens). alone_or o unranked) q in let z : ◌≡◌ {A = ℕ} 0 1 = cc in omega arith)

@@ -8,87 +8,80 @@ ghost use Rattle.def_meaning.specs.Tokens.{Tokens, nothing};
 ghost use Rattle.def_picking.specs.Runs.{parts, longer, slices};
 ghost use Rattle.def_picking.specs.Candidates.{best as bestOf, unranked, strong, alone_or, in_run};
 ghost use Rattle.entries.specs.Words.{tokens_in};
-ghost use Rattle.picks.specs.Ranks.{winner_says};
+ghost use Rattle.picks.specs.Ranks.{pick_says, winner_says};
 ghost use Rattle.runs.specs.Whole.{Placed, Whole};
 
-use picks::Winner;
+use picks::{Pick, TooMany};
 
-// A slice and the longer ones with the same first part, which begins at `at`.
-fn longer_slices(run: &[u32], prior: usize, at: usize, best: Winner) -> Winner
+// A slice and the longer ones with the same first part, which begins at `at`. Parts differ in width, so no iterator of the library walks them.
+fn longer_slices(
+    run: &[u32],
+    prior: usize,
+    at: usize,
+    best: Option<Pick>,
+) -> Result<Option<Pick>, TooMany>
     requires { Placed run.now prior at }
-    ensures { (own : Tokens) (ps : List Tokens) → parts (tokens_in (drop at run.now)) ≡ own ∷ ps → winner_says run.now result ≡ bestOf (winner_says run.now best) (longer ps (tokens_in (take (at - prior) (drop prior run.now))) own 0) }
+    ensures { (own : Tokens) (ps : List Tokens) → parts (tokens_in (drop at run.now)) ≡ own ∷ ps → winner_says run.now result ≡ bestOf (pick_says run.now best) (longer ps (tokens_in (take (at - prior) (drop prior run.now))) own 0) }
 {
-    let first = runs::part_words(&run[at..]);
-    let mut to = at + first;
+    let mut to = at + runs::part_words(&run[at..]);
     let mut len = 0;
     let mut top = best;
     loop {
-        let rank = ranking::rank_of(&run[at..to], top);
+        let rank = ranking::rank_of(&run[at..to], top)?;
         let next = runs::byte_words(&run[to..]);
         top = picks::ranked_against(top, prior, to + next, rank);
-        if 4 <= len {
-            return top;
+        if 4 <= len || run.len() - to < 4 {
+            return Ok(top);
         }
-        if run.len() - to < 4 {
-            return top;
-        }
-        let n = runs::part_words(&run[to..]);
-        let e = to + n;
+        let e = to + runs::part_words(&run[to..]);
         len += tallies::length_of(&run[to..e]);
         to = e;
     }
 }
 
-// The first highest slice of a run, with the literal parts on either side.
-fn best_slice(run: &[u32]) -> Winner
+// The first highest slice of a run, with the literal parts on either side. Parts are walked by width, as above.
+fn best_slice(run: &[u32]) -> Result<Option<Pick>, TooMany>
     requires { (length run.now ≤ token_pool) × Whole run.now }
     ensures { winner_says run.now result ≡ bestOf unranked (slices (parts (tokens_in run.now)) nothing) }
 {
     let mut prior = 0;
     let mut at = 0;
-    let mut top = Winner::Nothing;
+    let mut top = None;
     while 4 <= run.len() - at {
-        if picks::is_full(top) {
-            return Winner::TooMany;
-        }
-        top = longer_slices(run, prior, at, top);
-        let n = runs::part_words(&run[at..]);
-        let e = at + n;
+        top = longer_slices(run, prior, at, top)?;
+        let e = at + runs::part_words(&run[at..]);
         prior = runs::literal_start(run[at], at, e);
         at = e;
     }
-    top
+    Ok(top)
 }
 
-// The first literal part that scores at least 80.
-fn strong_part(run: &[u32]) -> Winner
+// The first literal part that scores at least 80. Parts are walked by width, as above.
+fn strong_part(run: &[u32]) -> Option<Pick>
     requires { (length run.now ≤ token_pool) × Whole run.now }
-    ensures { winner_says run.now result ≡ alone_or (strong (parts (tokens_in run.now))) unranked }
+    ensures { pick_says run.now result ≡ alone_or (strong (parts (tokens_in run.now))) unranked }
 {
     let mut at = 0;
     while 4 <= run.len() - at {
-        let n = runs::part_words(&run[at..]);
-        let e = at + n;
+        let to = at + runs::part_words(&run[at..]);
         if run[at] == 0 {
-            let s = ranking::score_at(&run[at..e], 0);
-            if 80 <= s {
-                return Winner::Taken(at, e, s);
+            let rank = ranking::score_at(&run[at..to], 0);
+            if 80 <= rank {
+                return Some(Pick { from: at, to, rank });
             }
         }
-        at = e;
+        at = to;
     }
-    Winner::Nothing
+    None
 }
 
 // What is chosen in a run: such a part alone, or else the best slice.
-pub fn in_run(run: &[u32]) -> Winner
+pub fn in_run(run: &[u32]) -> Result<Option<Pick>, TooMany>
     requires { (length run.now ≤ token_pool) × Whole run.now }
     ensures { winner_says run.now result ≡ in_run (tokens_in run.now) }
 {
-    let s = strong_part(run);
-    match s {
-        Winner::Nothing => best_slice(run),
-        Winner::Taken(from, to, rank) => Winner::Taken(from, to, rank),
-        Winner::TooMany => Winner::TooMany,
+    match strong_part(run) {
+        Some(alone) => Ok(Some(alone)),
+        None => best_slice(run),
     }
 }

@@ -1,12 +1,13 @@
 -- A slice against the best so far. Assumes nothing.
-use Rattle.std.proofs.Common.{◌≡◌, refl, ap, ◌∙◌, List, ℕ, ◌-◌, ◌≤◌, ◌<◌, take, drop, Option, Some, Result}
+use Rattle.std.proofs.Common.{◌≡◌, refl, ap, ◌∙◌, List, ℕ, ◌-◌, ◌≤◌, ◌<◌, take, drop, Option, Some, Result, Ok, Err}
+use Rattle.std.specs.Result.{IsErr}
 use borrow.Author.Tests.{lt-ltb, le-ltb}
 use Rattle.def_picking.specs.Runs.{Slice}
-use Rattle.def_picking.specs.Candidates.{Ranked, ranked, skipped, Candidate, chosen, unranked, too_many_literals, widened, against}
+use Rattle.def_picking.specs.Candidates.{Ranked, ranked, skipped, excessive, Candidate, chosen, unranked, too_many_literals, widened, against}
 use Rattle.entries.specs.Words.{tokens_in}
 use Rattle.picks.specs.declared.Pick.{Pick}
 use Rattle.picks.specs.declared.TooMany.{TooMany}
-use Rattle.picks.specs.Ranks.{rank_says, pick_says, Settles}
+use Rattle.picks.specs.Ranks.{rank_says, pick_says, winner_says, Settles}
 
 -- what a pick becomes against one slice more
 abbrev pub Stands : Option Pick → Option Pick → ℕ → ℕ → Ranked → Type 0
@@ -20,6 +21,11 @@ settled b r k e run s = ap (against (pick_says run b) s) e
 pub settled_on : (b : Option Pick) (r : Result (Option ℕ) TooMany) (k j : Ranked) → Settles b r k → k ≡ j → Settles b r j
 settled_on b r k j h e run s = h run s ∙ ap (against (pick_says run b) s) e
 
+-- too many literals are handed up as such
+pub failed_says : (run : List ℕ) (w : Result (Option Pick) TooMany) → IsErr w → winner_says run w ≡ too_many_literals
+failed_says run (Ok w) e = cc
+failed_says run (Err t) e = refl
+
 -- ---- one slice
 
 pub skip_kept : (c : Candidate) (s : Slice) → c ≡ against c s skipped
@@ -27,6 +33,12 @@ unfolding against
 skip_kept unranked s = refl
 skip_kept (chosen m ts) s = refl
 skip_kept too_many_literals s = refl
+
+pub against_excess : (c : Candidate) (s : Slice) → against c s excessive ≡ too_many_literals
+unfolding against
+against_excess unranked s = refl
+against_excess (chosen m ts) s = refl
+against_excess too_many_literals s = refl
 
 module _ (p : Pick) where
   pub lower_kept : (run : List ℕ) (s : Slice) (n : ℕ) → n ≤ p.rank → pick_says run (Some p) ≡ against (pick_says run (Some p)) s (ranked n)

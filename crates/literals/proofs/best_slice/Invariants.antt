@@ -1,7 +1,6 @@
 -- `literals::best_slice` meets its contract. Assumes nothing.
 use Rattle.literals.proofs.RunLaws.{Weighed}
-use lib.ListN.{length}
-use Prim.Native.Nat.{◌-◌}
+use Rattle.std.proofs.Common.{length, ◌-◌}
 use Rattle.literals.proofs.best_slice.Given as goal
 
 abbrev pub invariant-loop-at : goal.invariant-loop-at

@@ -1,59 +1,60 @@
 -- `literals::longer_slices` meets its contract. Assumes nothing.
-use lib.ListN.{drop, length-drop}
-use Rattle.picks.specs.Ranks.{winner_says}
+use Rattle.picks.specs.Ranks.{pick_says}
 use Rattle.literals.proofs.SliceLaws as slices
+use Rattle.picks.proofs.WinnerLaws as winner
 use Rattle.literals.proofs.LongerLaws as law
-use mathlib.Core.Path.{refl, sym, ◌∙◌}
-use Prim.Native.Nat.{◌+◌}
-use native.Mathlib.Omega.{arith}
+use Rattle.std.proofs.Common.{refl, sym, ◌∙◌, ◌+◌, drop, length-drop, arith}
 use Rattle.literals.proofs.longer_slices.Goals as goal
+use Rattle.literals.proofs.longer_slices.Goals.{then-len-ge4-via-then-len-ge4, then-len-ge4-via-else-len-ge4+then-run-to-lt4}
 
 pub overflow_add-to : goal.overflow_add-to
 overflow_add-to c =
-    omega (arith, (law.going_start c.args.run.now c.args.prior c.args.at c.requires c.part_words-first.result (winner_says c.args.run.now c.args.best) c.part_words-first.ensures).inside)
+    omega (arith, (law.going_start c.args.run.now c.args.prior c.args.at c.requires c.part_words.result (pick_says c.args.run.now c.args.best) c.part_words.ensures).inside)
 
-pub loop-len-init : goal.loop-len-init
-loop-len-init c =
-    law.going_start c.args.run.now c.args.prior c.args.at c.requires c.part_words-first.result (winner_says c.args.run.now c.args.best) c.part_words-first.ensures
+pub loop-rank-init : goal.loop-rank-init
+loop-rank-init c =
+    law.going_start c.args.run.now c.args.prior c.args.at c.requires c.part_words.result (pick_says c.args.run.now c.args.best) c.part_words.ensures
+
+pub returns-in_err-rank : goal.returns-in_err-rank
+returns-in_err-rank c =
+    λ own ps k. winner.failed_says c.args.run.now _ c.from_residual.ensures.0
+    ∙ law.overfull c.args.run.now c.args.prior c.args.at c.loop-rank.to c.loop-rank.len (pick_says c.args.run.now c.args.best) c.loop-rank.top c.requires c.loop-rank.invariant c.in_err-rank.field-0.0 c.in_err-rank.ensures own ps k
 
 pub returns-then-len-ge4 : goal.returns-then-len-ge4
 returns-then-len-ge4 c =
-    λ own ps k. sym
-    ((law.weighed c.args.run.now c.args.prior c.args.at c.loop-len.to c.loop-len.len (winner_says c.args.run.now c.args.best)
-    c.loop-len.top c.requires c.loop-len.invariant c.ranked_against-top.result c.byte_words-next.result c.rank_of-rank.result c.byte_words-next.ensures.0 c.rank_of-rank.ensures
-    c.ranked_against-top.ensures) own ps k ∙ slices.further_long _ _ _ _ _ c.if-len-ge4.true)
-
-pub returns-then-run-to-lt4 : goal.returns-then-run-to-lt4
-returns-then-run-to-lt4 c =
-    λ own ps k. sym
-    ((law.weighed c.args.run.now c.args.prior c.args.at c.loop-len.to c.loop-len.len (winner_says c.args.run.now c.args.best)
-    c.loop-len.top c.requires c.loop-len.invariant c.ranked_against-top.result c.byte_words-next.result c.rank_of-rank.result c.byte_words-next.ensures.0 c.rank_of-rank.ensures
-    c.ranked_against-top.ensures) own ps k
-    ∙ slices.further_none _ (drop c.loop-len.to c.args.run.now) _ _ _ (omega (arith, length-drop c.loop-len.to c.args.run.now, c.if-run-to-lt4.true)))
+    λ own ps k. (elim c.then-len-ge4.branch [
+      | then-len-ge4-via-then-len-ge4 w ↦ sym ((law.weighed c.args.run.now c.args.prior c.args.at c.loop-rank.to c.loop-rank.len (pick_says c.args.run.now c.args.best)
+          c.loop-rank.top c.requires c.loop-rank.invariant c.ranked_against-top.result c.byte_words-next.result c.in_ok-rank.rank c.byte_words-next.ensures.0 c.in_ok-rank.ensures
+          c.ranked_against-top.ensures) own ps k ∙ slices.further_long _ _ _ _ _ w.if-len-ge4.true)
+      | then-len-ge4-via-else-len-ge4+then-run-to-lt4 w ↦ sym ((law.weighed c.args.run.now c.args.prior c.args.at c.loop-rank.to c.loop-rank.len (pick_says c.args.run.now c.args.best)
+          c.loop-rank.top c.requires c.loop-rank.invariant c.ranked_against-top.result c.byte_words-next.result c.in_ok-rank.rank c.byte_words-next.ensures.0 c.in_ok-rank.ensures
+          c.ranked_against-top.ensures) own ps k
+          ∙ slices.further_none _ (drop c.loop-rank.to c.args.run.now) _ _ _ (omega (arith, length-drop c.loop-rank.to c.args.run.now, w.if-run-to-lt4.true)))
+    ])
 
 pub overflow_add-e : goal.overflow_add-e
 overflow_add-e c =
-    omega (arith, (law.part_inside c.args.run.now c.args.prior c.args.at c.loop-len.to c.loop-len.len (winner_says c.args.run.now c.args.best) c.loop-len.top c.requires c.loop-len.invariant c.part_words-n.result c.part_words-n.ensures c.if-run-to-lt4.false).0)
+    omega (arith, (law.part_inside c.args.run.now c.args.prior c.args.at c.loop-rank.to c.loop-rank.len (pick_says c.args.run.now c.args.best) c.loop-rank.top c.requires c.loop-rank.invariant c.part_words-in-loop-rank.result c.part_words-in-loop-rank.ensures c.if-run-to-lt4.false).0)
 
 pub slice_bounds-length_of-end : goal.slice_bounds-length_of-end
 slice_bounds-length_of-end c =
-    (law.part_inside c.args.run.now c.args.prior c.args.at c.loop-len.to c.loop-len.len (winner_says c.args.run.now c.args.best) c.loop-len.top c.requires c.loop-len.invariant c.part_words-n.result c.part_words-n.ensures c.if-run-to-lt4.false).0
+    (law.part_inside c.args.run.now c.args.prior c.args.at c.loop-rank.to c.loop-rank.len (pick_says c.args.run.now c.args.best) c.loop-rank.top c.requires c.loop-rank.invariant c.part_words-in-loop-rank.result c.part_words-in-loop-rank.ensures c.if-run-to-lt4.false).0
 
-pub loop-len-smaller : goal.loop-len-smaller
-loop-len-smaller c =
+pub loop-rank-smaller : goal.loop-rank-smaller
+loop-rank-smaller c =
     omega (
       arith,
-      (law.part_inside c.args.run.now c.args.prior c.args.at c.loop-len.to c.loop-len.len (winner_says c.args.run.now c.args.best)
-          c.loop-len.top c.requires c.loop-len.invariant c.part_words-n.result c.part_words-n.ensures c.if-run-to-lt4.false).0,
+      (law.part_inside c.args.run.now c.args.prior c.args.at c.loop-rank.to c.loop-rank.len (pick_says c.args.run.now c.args.best)
+          c.loop-rank.top c.requires c.loop-rank.invariant c.part_words-in-loop-rank.result c.part_words-in-loop-rank.ensures c.if-run-to-lt4.false).0,
       (law.part_inside c.args.run.now c.args.prior
-          c.args.at c.loop-len.to c.loop-len.len (winner_says c.args.run.now c.args.best) c.loop-len.top c.requires c.loop-len.invariant c.part_words-n.result
-          c.part_words-n.ensures c.if-run-to-lt4.false).1,
+          c.args.at c.loop-rank.to c.loop-rank.len (pick_says c.args.run.now c.args.best) c.loop-rank.top c.requires c.loop-rank.invariant c.part_words-in-loop-rank.result
+          c.part_words-in-loop-rank.ensures c.if-run-to-lt4.false).1,
     )
 
-pub loop-len-preserved : goal.loop-len-preserved
-loop-len-preserved c =
-    law.going_on c.args.run.now c.args.prior c.args.at c.loop-len.to c.loop-len.len (winner_says c.args.run.now c.args.best) c.loop-len.top
-    c.requires c.loop-len.invariant c.ranked_against-top.result c.part_words-n.result c.length_of-len.result (c.loop-len.to + c.part_words-n.result) c.part_words-n.ensures c.if-run-to-lt4.false
+pub loop-rank-preserved : goal.loop-rank-preserved
+loop-rank-preserved c =
+    law.going_on c.args.run.now c.args.prior c.args.at c.loop-rank.to c.loop-rank.len (pick_says c.args.run.now c.args.best) c.loop-rank.top
+    c.requires c.loop-rank.invariant c.ranked_against-top.result c.part_words-in-loop-rank.result c.length_of-len.result (c.loop-rank.to + c.part_words-in-loop-rank.result) c.part_words-in-loop-rank.ensures c.if-run-to-lt4.false
     c.if-len-ge4.false refl c.length_of-len.ensures.0 c.length_of-len.ensures.1
-    (law.weighed c.args.run.now c.args.prior c.args.at c.loop-len.to c.loop-len.len (winner_says c.args.run.now c.args.best) c.loop-len.top
-    c.requires c.loop-len.invariant c.ranked_against-top.result c.byte_words-next.result c.rank_of-rank.result c.byte_words-next.ensures.0 c.rank_of-rank.ensures c.ranked_against-top.ensures)
+    (law.weighed c.args.run.now c.args.prior c.args.at c.loop-rank.to c.loop-rank.len (pick_says c.args.run.now c.args.best) c.loop-rank.top
+    c.requires c.loop-rank.invariant c.ranked_against-top.result c.byte_words-next.result c.in_ok-rank.rank c.byte_words-next.ensures.0 c.in_ok-rank.ensures c.ranked_against-top.ensures)

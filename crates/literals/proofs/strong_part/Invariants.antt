@@ -1,7 +1,6 @@
 -- `literals::strong_part` meets its contract. Assumes nothing.
 use Rattle.literals.proofs.RunLaws.{Passed}
-use lib.ListN.{length}
-use Prim.Native.Nat.{◌-◌}
+use Rattle.std.proofs.Common.{length, ◌-◌}
 use Rattle.literals.proofs.strong_part.Given as goal
 
 abbrev pub invariant-loop-at : goal.invariant-loop-at
