@@ -1,20 +1,16 @@
 -- The runs of a pattern, one after another, and the first segment last. Assumes nothing.
-use mathlib.Core.Path.{◌≡◌, refl, sym, ap, ap₂, ◌∙◌, subst}
-use mathlib.Core.List.{List, [], ◌∷◌, ◌++◌}
-use Prim.Native.Nat.{ℕ, ◌+◌, ◌-◌, ◌≤◌, ◌<◌}
-use native.Mathlib.Omega.{arith}
-use lib.ListN.{length, take, drop, length-drop}
+use Rattle.std.proofs.Common.{◌≡◌, refl, sym, ap, ap₂, ◌∙◌, subst, List, [], ◌∷◌, ◌++◌, ℕ, ◌+◌, ◌-◌, ◌≤◌, ◌<◌, arith, length, take, drop, length-drop, Option, None}
 use lib.Seq.{drop-drop}
 use Rattle.def_meaning.specs.Limits.{token_pool}
 use Rattle.def_meaning.specs.Tokens.{Tokens, nothing, ◌then◌}
 use Rattle.def_meaning.proofs.PartLaws.{to_end}
 use Rattle.def_picking.specs.Runs.{segments, filled_ones, first_last, runs}
-use Rattle.def_picking.specs.Candidates.{Candidate, unranked, in_run, between, among_runs, in_pattern}
+use Rattle.def_picking.specs.Candidates.{Candidate, unranked, too_many_literals, in_run, between, among_runs, in_pattern}
+use Rattle.def_picking.proofs.RefusalLaws.{among_full}
 use Rattle.entries.specs.Words.{width, tokens_in}
 use Rattle.entries.proofs.StepLaws.{tokens_end, tokens_step, width_le, width_long}
-use Rattle.picks.specs.declared.Winner.{Winner}
-use Rattle.picks.specs.declared.Winner.TheVariants.{Nothing}
-use Rattle.picks.specs.Ranks.{winner_says}
+use Rattle.picks.specs.declared.Pick.{Pick}
+use Rattle.picks.specs.Ranks.{pick_says}
 use Rattle.runs.specs.Whole.{Whole, run_end, afterward}
 use Rattle.runs.proofs.WholeLaws.{whole_first}
 use Rattle.runs.proofs.SegmentLaws.{Segment, first_segment}
@@ -84,24 +80,24 @@ module _ (us : List ℕ) (w : Whole us) (long : 4 ≤ length us) where
       ∙ among_first c (tokens_in (take (run_end (drop (width us) us)) (drop (width us) us))) (afterward (tokens_in (drop (run_end (drop (width us) us)) (drop (width us) us)))))
 
 -- the runs up to `at` are asked, and `top` is the winner among them
-pub record Asked (ws : List ℕ) (first at : ℕ) (top : Winner) : Type 0 where
+pub record Asked (ws : List ℕ) (first at : ℕ) (top : Option Pick) : Type 0 where
   pub here : at ≤ length ws
   pub rest_whole : Whole (drop at ws)
   pub rest_told : AllTold (afterward (tokens_in (drop at ws)))
   pub kept : Kept ws top
-  pub same : among_runs unranked (later_runs (drop first ws)) ≡ among_runs (winner_says ws top) (later_runs (drop at ws))
+  pub same : among_runs unranked (later_runs (drop first ws)) ≡ among_runs (pick_says ws top) (later_runs (drop at ws))
 
-pub asked_none : (ws : List ℕ) (first : ℕ) → first ≤ length ws → Whole (drop first ws) → AllTold (afterward (tokens_in (drop first ws))) → Asked ws first first Nothing
+pub asked_none : (ws : List ℕ) (first : ℕ) → first ≤ length ws → Whole (drop first ws) → AllTold (afterward (tokens_in (drop first ws))) → Asked ws first first None
 asked_none ws first h w g = record { here = h; rest_whole = w; rest_told = g; kept = tt; same = refl }
 
-pub asked_all : (ws : List ℕ) (first at : ℕ) (top : Winner) → Asked ws first at top → length ws - at < 4
-    → (winner_says ws top ≡ among_runs unranked (later_runs (drop first ws))) × Kept ws top
+pub asked_all : (ws : List ℕ) (first at : ℕ) (top : Option Pick) → Asked ws first at top → length ws - at < 4
+    → (pick_says ws top ≡ among_runs unranked (later_runs (drop first ws))) × Kept ws top
 unfolding afterward filled_ones among_runs
 asked_all ws first at top a h =
     let l = length-drop at ws in
-    (sym (a.same ∙ ap (λ (ts : Tokens). among_runs (winner_says ws top) (filled_ones (afterward ts))) (tokens_end (drop at ws) (omega arith))), a.kept)
+    (sym (a.same ∙ ap (λ (ts : Tokens). among_runs (pick_says ws top) (filled_ones (afterward ts))) (tokens_end (drop at ws) (omega arith))), a.kept)
 
-module _ (ws : List ℕ) (first at from : ℕ) (top : Winner) (a : Asked ws first at top) (few : length ws ≤ token_pool) (long : 4 ≤ length ws - at)
+module _ (ws : List ℕ) (first at from : ℕ) (top : Option Pick) (a : Asked ws first at top) (few : length ws ≤ token_pool) (long : 4 ≤ length ws - at)
     (f : from ≡ at + width (take (length ws - at) (drop at ws))) where
   there : 4 ≤ length (drop at ws)
   there = rw (length-drop at ws) long
@@ -155,7 +151,15 @@ module _ (ws : List ℕ) (first at from : ℕ) (top : Winner) (a : Asked ws firs
           told = subst (λ (l : List ℕ). Told (tokens_in l)) (sym words_are) both_told.0;
         }
 
-    pub asked_more : (next : Winner) → winner_says ws next ≡ among_runs (winner_says ws top) (filled_ones (tokens_in (take (to - from) (drop from ws)) ∷ [])) → Kept ws next
+    pub asked_full : too_many_literals ≡ among_runs (pick_says ws top) (filled_ones (tokens_in (take (to - from) (drop from ws)) ∷ [])) → too_many_literals ≡ among_runs unranked (later_runs (drop first ws))
+    asked_full h =
+        sym (a.same ∙ after_token (drop at ws) a.rest_whole there n (run_is ∙ ap run_end (sym after_is)) (pick_says ws top)
+        ∙ ap (λ (c : Candidate). among_runs c (later_runs (drop n (drop (width (drop at ws)) (drop at ws)))))
+        (ap (λ (l : List ℕ). among_runs (pick_says ws top) (filled_ones (tokens_in (take n l) ∷ []))) after_is
+        ∙ ap (λ (l : List ℕ). among_runs (pick_says ws top) (filled_ones (tokens_in l ∷ []))) (sym words_are) ∙ sym h)
+        ∙ among_full (later_runs (drop n (drop (width (drop at ws)) (drop at ws)))))
+
+    pub asked_more : (next : Option Pick) → pick_says ws next ≡ among_runs (pick_says ws top) (filled_ones (tokens_in (take (to - from) (drop from ws)) ∷ [])) → Kept ws next
         → Asked ws first to next
     asked_more next h k =
         record {
@@ -164,9 +168,9 @@ module _ (ws : List ℕ) (first at from : ℕ) (top : Winner) (a : Asked ws firs
           rest_told = subst (λ (l : List ℕ). AllTold (afterward (tokens_in l))) (drop-drop n from ws ∙ ap (λ (x : ℕ). drop x ws) (sym t)) both_told.1;
           kept = k;
           same =
-              a.same ∙ after_token (drop at ws) a.rest_whole there n (run_is ∙ ap run_end (sym after_is)) (winner_says ws top)
+              a.same ∙ after_token (drop at ws) a.rest_whole there n (run_is ∙ ap run_end (sym after_is)) (pick_says ws top)
               ∙ ap₂ (λ (c : Candidate) (l : List ℕ). among_runs c (later_runs l))
-              (ap (λ (l : List ℕ). among_runs (winner_says ws top) (filled_ones (tokens_in (take n l) ∷ []))) after_is
-              ∙ ap (λ (l : List ℕ). among_runs (winner_says ws top) (filled_ones (tokens_in l ∷ []))) (sym words_are) ∙ sym h)
+              (ap (λ (l : List ℕ). among_runs (pick_says ws top) (filled_ones (tokens_in (take n l) ∷ []))) after_is
+              ∙ ap (λ (l : List ℕ). among_runs (pick_says ws top) (filled_ones (tokens_in l ∷ []))) (sym words_are) ∙ sym h)
               (ap (drop n) after_is ∙ drop-drop n from ws ∙ ap (λ (x : ℕ). drop x ws) (sym t));
         }

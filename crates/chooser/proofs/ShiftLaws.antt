@@ -1,20 +1,13 @@
 -- A winner in a run, as one in all words; and the winner of two. Assumes nothing.
-use mathlib.Core.Path.{◌≡◌, refl, sym, ap, ap₂, ◌∙◌, subst}
-use mathlib.Core.Bool.{true, false}
-use mathlib.Core.List.{List, [], ◌∷◌}
-use Prim.Native.Nat.{ℕ, zero, suc, ◌+◌, ◌-◌, ◌≤◌, ◌<◌, min}
-use native.Mathlib.Omega.{arith}
-use lib.Dec.{ltb}
-use lib.ListN.{length, take, drop}
+use Rattle.std.proofs.Common.{◌≡◌, refl, sym, ap, ap₂, ◌∙◌, List, [], ◌∷◌, ℕ, zero, suc, ◌+◌, ◌-◌, ◌≤◌, ◌<◌, min, arith, ltb, eqb, length, take, drop, Option, Some}
 use lib.Seq.{drop-drop, take-nil}
 use borrow.Author.Tests.{lt-ltb, le-ltb, ne_eqb, eq-eqb}
 use Rattle.def_meaning.specs.Tokens.{Tokens}
 use Rattle.def_picking.specs.Literals.{literals}
 use Rattle.def_picking.specs.Candidates.{least, beats, chosen}
 use Rattle.entries.specs.Words.{tokens_in}
-use Rattle.picks.specs.declared.Winner.{Winner}
-use Rattle.picks.specs.declared.Winner.TheVariants.{Nothing, Taken, TooMany}
-use Rattle.picks.specs.Ranks.{winner_says}
+use Rattle.picks.specs.declared.Pick.{Pick}
+use Rattle.picks.specs.Ranks.{pick_says}
 use Rattle.chooser.specs.Kept.{Inside}
 
 drop_front : (a n m : ℕ) (l : List ℕ) → m ≡ n - a → drop a (take n l) ≡ take m (drop a l)
@@ -54,28 +47,22 @@ shifted_words ws from n a b e s p q =
     ∙ sym (ap (take (b - a)) (drop_front a n (n - a) (drop from ws) refl) ∙ take_min (b - a) (n - a) (e - s) (drop a (drop from ws)) cut)
 
 -- a winner p in a run of n words from `from` on is r in all words
-abbrev pub Shifts : Winner → ℕ → ℕ → Winner → Type 0
-Shifts p from n r = ((ws : List ℕ) → from + n ≤ length ws → winner_says ws r ≡ winner_says (take n (drop from ws)) p) × Inside (from + n) r
+abbrev pub Shifts : Option Pick → ℕ → ℕ → Option Pick → Type 0
+Shifts p from n r = ((ws : List ℕ) → from + n ≤ length ws → pick_says ws r ≡ pick_says (take n (drop from ws)) p) × Inside (from + n) r
 
-pub nothing_shifted : (p : Winner) (from n : ℕ) → p ≡ Nothing → Shifts p from n Nothing
-nothing_shifted p from n e = subst (λ (x : Winner). Shifts x from n Nothing) (sym e) (λ ws h. refl, tt)
+pub pick_shifted : (p : Pick) (from n e s : ℕ) → e ≡ min p.to n → s ≡ min p.from e → Shifts (Some p) from n (Some (record { from = from + s; to = from + e; rank = p.rank }))
+pick_shifted p from n e s g h = (λ ws k. ap (λ (l : List ℕ). chosen p.rank (tokens_in l)) (shifted_words ws from n p.from p.to e s g h), (omega arith, omega arith))
 
-pub full_shifted : (p : Winner) (from n : ℕ) → p ≡ TooMany → Shifts p from n TooMany
-full_shifted p from n e = subst (λ (x : Winner). Shifts x from n TooMany) (sym e) (λ ws h. refl, tt)
+-- a higher rank, a lower one, and lengths where the ranks are equal
+module _ (n m : ℕ) (us ts : Tokens) where
+  pub higher_wins : m < n → ltb m n ≡ beats n us m ts
+  unfolding beats
+  higher_wins h = rw (lt-ltb m n h)
 
-pub taken_shifted : (p : Winner) (from n a b m e s : ℕ) → p ≡ Taken a b m → e ≡ min b n → s ≡ min a e → Shifts p from n (Taken (from + s) (from + e) m)
-taken_shifted p from n a b m e s f g h =
-    subst (λ (x : Winner). Shifts x from n (Taken (from + s) (from + e) m)) (sym f)
-    (λ ws k. ap (λ (l : List ℕ). chosen m (tokens_in l)) (shifted_words ws from n a b e s g h), (omega arith, omega arith))
+  pub lower_loses : n ≤ m → (m ≡ n → ⊥) → eqb m n ≡ beats n us m ts
+  unfolding beats
+  lower_loses h f = rw (le-ltb m n h, ne_eqb m n f)
 
-pub higher_wins : (n m : ℕ) (us ts : Tokens) → m < n → true ≡ beats n us m ts
-unfolding beats
-higher_wins n m us ts h = rw (lt-ltb m n h)
-
-pub lower_loses : (n m : ℕ) (us ts : Tokens) → n < m → false ≡ beats n us m ts
-unfolding beats
-lower_loses n m us ts h = rw (le-ltb m n (let q : n ≤ m = omega arith in q), ne_eqb m n (λ (e : m ≡ n). omega arith))
-
-pub equal_ranks : (n m a b : ℕ) (us ts : Tokens) → n ≤ m → m ≤ n → a ≡ least length (literals ts) → b ≡ least length (literals us) → ltb a b ≡ beats n us m ts
-unfolding beats
-equal_ranks n m a b us ts h k p q = rw (le-ltb m n h, eq-eqb m n (let e : m ≡ n = omega arith in e), p, q)
+  pub equal_ranks : (a b : ℕ) → n ≤ m → m ≡ n → a ≡ least length (literals ts) → b ≡ least length (literals us) → ltb a b ≡ beats n us m ts
+  unfolding beats
+  equal_ranks a b h e p q = rw (le-ltb m n h, eq-eqb m n e, p, q)

@@ -1,6 +1,6 @@
 -- Winners by the words that they name. Assumes nothing: these are definitions.
 -- To be believed: nothing.
-use Rattle.std.specs.Prelude.{◌≡◌, List, [], ◌∷◌, ℕ, ◌-◌, ◌≤◌, length, take, drop}
+use Rattle.std.specs.Prelude.{◌≡◌, List, [], ◌∷◌, ℕ, ◌-◌, ◌≤◌, length, take, drop, Option, Some, None}
 use Rattle.def_meaning.specs.Limits.{literal_limit, token_pool}
 use Rattle.def_meaning.specs.Tokens.{Tokens}
 use Rattle.def_picking.specs.Literals.{literals, length_in}
@@ -8,8 +8,7 @@ use Rattle.def_picking.specs.Numbers.{count}
 use Rattle.def_picking.specs.Runs.{filled_ones}
 use Rattle.def_picking.specs.Candidates.{least, chosen, in_run}
 use Rattle.entries.specs.Words.{tokens_in}
-use Rattle.picks.specs.declared.Winner.{Winner}
-use Rattle.picks.specs.declared.Winner.TheVariants.{Nothing, Taken, TooMany}
+use Rattle.picks.specs.declared.Pick.{Pick}
 use Rattle.runs.specs.Whole.{Whole, afterward}
 
 -- the shortest literal is as long as the tokens tell: a byte and a class 1, alternatives their shortest branch
@@ -26,16 +25,14 @@ AllTold [] = Unit {0}
 AllTold (run ∷ runs) = Told run × AllTold runs
 
 -- words that are there, of the first n
-abbrev pub Inside : ℕ → Winner → Type 0
-Inside n Nothing = Unit {0}
-Inside n (Taken from to m) = (from ≤ to) × (to ≤ n)
-Inside n TooMany = Unit {0}
+abbrev pub Inside : ℕ → Option Pick → Type 0
+Inside n None = Unit {0}
+Inside n (Some p) = (p.from ≤ p.to) × (p.to ≤ n)
 
 -- and that have at most 256 literals, and are measured
-abbrev pub Kept : List ℕ → Winner → Type 0
-Kept ws Nothing = Unit {0}
-Kept ws (Taken from to m) = (from ≤ to) × (to ≤ length ws) × (count (tokens_in (take (to - from) (drop from ws))) ≤ literal_limit) × Measured (tokens_in (take (to - from) (drop from ws)))
-Kept ws TooMany = Unit {0}
+abbrev pub Kept : List ℕ → Option Pick → Type 0
+Kept ws None = Unit {0}
+Kept ws (Some p) = (p.from ≤ p.to) × (p.to ≤ length ws) × (count (tokens_in (take (p.to - p.from) (drop p.from ws))) ≤ literal_limit) × Measured (tokens_in (take (p.to - p.from) (drop p.from ws)))
 
 -- whole words of a pool, and what is chosen in them is measured
 pub record Stretch (ws : List ℕ) (from to : ℕ) : Type 0 where

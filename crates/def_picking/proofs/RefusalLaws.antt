@@ -50,7 +50,7 @@ against_not (chosen m ts) s skipped h = absurd (let z : ◌≡◌ {A = ℕ} 0 1 
 against_not (chosen m ts) s excessive h = inr refl
 against_not too_many_literals s r h = inl refl
 
-against_full : (c : Candidate) (s : Slice) → against c s excessive ≡ too_many_literals
+pub against_full : (c : Candidate) (s : Slice) → against c s excessive ≡ too_many_literals
 unfolding against
 against_full unranked s = refl
 against_full (chosen m ts) s = refl
@@ -100,13 +100,13 @@ between_not (chosen m ts) (chosen n us) h = absurd (go (beats n us m ts) h)
 between_not (chosen m ts) too_many_literals h = inr refl
 between_not too_many_literals d h = inl refl
 
-between_full : (c : Candidate) → between c too_many_literals ≡ too_many_literals
+pub between_full : (c : Candidate) → between c too_many_literals ≡ too_many_literals
 unfolding between
 between_full unranked = refl
 between_full (chosen m ts) = refl
 between_full too_many_literals = refl
 
-among_full : (rs : List Tokens) → among_runs too_many_literals rs ≡ too_many_literals
+pub among_full : (rs : List Tokens) → among_runs too_many_literals rs ≡ too_many_literals
 unfolding among_runs between
 among_full [] = refl
 among_full (r ∷ rs) = among_full rs

@@ -12,8 +12,8 @@ use Rattle.picks.specs.declared.TooMany.{TooMany}
 use Rattle.picks.specs.Ranks.{value_says, pick_says, Settles}
 use Rattle.runs.specs.Whole.{Whole, byte_end, part_end, Placed}
 use Rattle.runs.proofs.PartLaws.{Part, first_part}
-use Rattle.picks.proofs.WinnerLaws.{Stands, against_excess}
-use Rattle.def_picking.proofs.RefusalLaws.{best_full}
+use Rattle.picks.proofs.WinnerLaws.{Stands}
+use Rattle.def_picking.proofs.RefusalLaws.{against_full, best_full}
 use Rattle.literals.proofs.SliceLaws.{next_literal, further, turn, further_more, Next, next_of, widened_words, grown_words, grown_whole, later_words}
 
 -- the tokens of the words from a to b
@@ -101,7 +101,7 @@ module _ (run : List ℕ) (prior at to len : ℕ) (c : Candidate) (top : Option 
       let s = slice (words run prior at) (words run at to) (next_literal (parts (tokens_in (drop to run)))) in
       sym (g.same own ps k
       ∙ turn (pick_says run top) too_many_literals (parts (tokens_in (drop to run))) (words run prior at) (words run at to) len
-      (sym (against_excess (pick_says run top) s) ∙ f run s)
+      (sym (against_full (pick_says run top) s) ∙ f run s)
       ∙ best_full (further (parts (tokens_in (drop to run))) (words run prior at) (words run at to) len))
 
   pub rest_there : 4 ≤ length run - to → 4 ≤ length (take (length run - to) (drop to run))

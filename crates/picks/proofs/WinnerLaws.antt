@@ -3,7 +3,7 @@ use Rattle.std.proofs.Common.{◌≡◌, refl, ap, ◌∙◌, List, ℕ, ◌-◌
 use Rattle.std.specs.Result.{IsErr}
 use borrow.Author.Tests.{lt-ltb, le-ltb}
 use Rattle.def_picking.specs.Runs.{Slice}
-use Rattle.def_picking.specs.Candidates.{Ranked, ranked, skipped, excessive, Candidate, chosen, unranked, too_many_literals, widened, against}
+use Rattle.def_picking.specs.Candidates.{Ranked, ranked, skipped, Candidate, chosen, unranked, too_many_literals, widened, against}
 use Rattle.entries.specs.Words.{tokens_in}
 use Rattle.picks.specs.declared.Pick.{Pick}
 use Rattle.picks.specs.declared.TooMany.{TooMany}
@@ -33,12 +33,6 @@ unfolding against
 skip_kept unranked s = refl
 skip_kept (chosen m ts) s = refl
 skip_kept too_many_literals s = refl
-
-pub against_excess : (c : Candidate) (s : Slice) → against c s excessive ≡ too_many_literals
-unfolding against
-against_excess unranked s = refl
-against_excess (chosen m ts) s = refl
-against_excess too_many_literals s = refl
 
 module _ (p : Pick) where
   pub lower_kept : (run : List ℕ) (s : Slice) (n : ℕ) → n ≤ p.rank → pick_says run (Some p) ≡ against (pick_says run (Some p)) s (ranked n)

@@ -1,7 +1,8 @@
 -- `chooser::later_runs` meets its contract. Assumes nothing.
-use native.Mathlib.Omega.{arith}
-use mathlib.Core.Path.{refl, ap}
-use Prim.Native.Nat.{ℕ, ◌+◌}
+use Rattle.std.proofs.Common.{refl, ap, ◌∙◌, ℕ, ◌+◌, arith}
+use Rattle.std.proofs.lemmas.Result.{IfOk-from_err}
+use Rattle.picks.proofs.WinnerLaws as winner
+use Rattle.chooser.specs.Kept.{Kept}
 use Rattle.chooser.proofs.RunsLaws as run
 use Rattle.chooser.proofs.later_runs.Goals as goal
 
@@ -25,9 +26,16 @@ pub overflow_add-to : goal.overflow_add-to
 overflow_add-to c =
     let s = run.run_stretch c.args.ws.now c.args.first c.loop-at.at _ c.loop-at.top c.loop-at.invariant c.requires.0 c.loop-at-test.true (ap (λ (x : ℕ). c.loop-at.at + x) c.width_of.ensures) _ _ refl c.run_words.ensures.0 in omega (arith, s.few, s.inside)
 
-pub with_run-top-requires : goal.with_run-top-requires
-with_run-top-requires c =
+pub with_run-requires : goal.with_run-requires
+with_run-requires c =
     (run.run_stretch c.args.ws.now c.args.first c.loop-at.at _ c.loop-at.top c.loop-at.invariant c.requires.0 c.loop-at-test.true (ap (λ (x : ℕ). c.loop-at.at + x) c.width_of.ensures) _ _ refl c.run_words.ensures.0, c.loop-at.invariant.kept)
+
+pub returns-in_err-top : goal.returns-in_err-top
+returns-in_err-top c = (
+  winner.failed_says c.args.ws.now _ c.from_residual.ensures.0
+      ∙ run.asked_full c.args.ws.now c.args.first c.loop-at.at _ c.loop-at.top c.loop-at.invariant c.requires.0 c.loop-at-test.true (ap (λ (x : ℕ). c.loop-at.at + x) c.width_of.ensures) _ _ refl c.run_words.ensures.0 c.in_err-top.ensures.0,
+  IfOk-from_err _ (Kept c.args.ws.now) c.from_residual.ensures.0,
+)
 
 pub loop-at-smaller : goal.loop-at-smaller
 loop-at-smaller c =
@@ -38,7 +46,7 @@ loop-at-smaller c =
 
 pub loop-at-preserved : goal.loop-at-preserved
 loop-at-preserved c =
-    run.asked_more c.args.ws.now c.args.first c.loop-at.at _ c.loop-at.top c.loop-at.invariant c.requires.0 c.loop-at-test.true (ap (λ (x : ℕ). c.loop-at.at + x) c.width_of.ensures) _ _ refl c.run_words.ensures.0 c.with_run-top.result c.with_run-top.ensures.0 c.with_run-top.ensures.1
+    run.asked_more c.args.ws.now c.args.first c.loop-at.at _ c.loop-at.top c.loop-at.invariant c.requires.0 c.loop-at-test.true (ap (λ (x : ℕ). c.loop-at.at + x) c.width_of.ensures) _ _ refl c.run_words.ensures.0 c.in_ok-top.top c.in_ok-top.ensures.0 c.in_ok-top.ensures.1
 
 pub returns : goal.returns
 returns c =

@@ -1,6 +1,5 @@
 -- `chooser::later_runs` meets its contract. Assumes nothing.
-use Prim.Native.Nat.{◌-◌}
-use lib.ListN.{length}
+use Rattle.std.proofs.Common.{length, ◌-◌}
 use Rattle.chooser.proofs.RunsLaws as run
 use Rattle.chooser.proofs.later_runs.Given as goal
 
