@@ -1,14 +1,9 @@
 -- Literals written one after another, over entries. Assumes nothing.
-use mathlib.Core.Path.{◌≡◌, sym, ap, ap₂, ◌∙◌, subst}
-use mathlib.Core.Bool.{true, false, and-false}
-use mathlib.Core.Logic.{◌⊎◌, inl, inr}
-use mathlib.Core.List.{List, [], ◌∷◌, ◌++◌, map, flatten}
-use Prim.Native.Nat.{ℕ, ◌+◌, ◌-◌, ◌≤◌, ◌<◌, min}
-use native.Mathlib.Omega.{arith}
-use native.Mathlib.Numerals.{add-one}
-use lib.Dec.{leb}
-use lib.ListN.{length, take, drop, set, length-append, drop_of_length-le, length-map}
-use lib.Seq.{drop-cons}
+use Rattle.std.proofs.Common.{◌≡◌, sym, ap, ap₂, ◌∙◌, subst, true, false, ◌⊎◌, inl, inr, List, [], ◌∷◌, ◌++◌, ℕ, ◌+◌, ◌-◌, ◌≤◌, ◌<◌, min, arith, add-one, leb, length, take, drop, length-append, drop_of_length-le, drop-cons, Ok, Err}
+use Rattle.std.proofs.Math.ListN.{set}
+use mathlib.Core.Bool.{and-false}
+use Rattle.std.proofs.lemmas.List.{length-map}
+use mathlib.Core.List.{map, flatten}
 use borrow.Author.Tests.{le-leb, lt-leb}
 use borrow.Rule.Slice.PartMut.{put_mid}
 use Rattle.tallies.specs.Tallies.{count_top}
@@ -19,7 +14,7 @@ use Rattle.def_picking.specs.Numbers.{count, literal_at}
 use Rattle.def_picking.proofs.NumberLaws.{count_literals, literal_numbered}
 use Rattle.spelling.specs.Writing.{Written}
 use Rattle.spelling.proofs.WriteLaws.{Halfway, nothing_written, all_written, half_length, one_more, piece_more, room_one, room_piece, piece_fits}
-use Rattle.generator.specs.declared.Wrote.TheVariants.{All, NoRoom}
+use Rattle.base.specs.declared.Refusal.TheVariants.{NoRoom}
 use Rattle.generator.specs.Output.{over, fits, answered, bytes_left, lengths_left, Generated}
 
 -- k literals are written, in the first `at` bytes
@@ -126,18 +121,18 @@ unfolding fits
 fit ls bytes lengths h g = simp (le-leb (length ls) (length lengths) h, le-leb (length (flatten ls)) (length bytes) g)
 
 pub all_fit : (ls : List (List ℕ)) (n : ℕ) (bytes lengths bytes_after lengths-after : List ℕ) → length ls ≡ n → n ≤ length lengths → length (flatten ls) ≤ length bytes
-    → bytes_after ≡ over (flatten ls) bytes → lengths-after ≡ over (map length ls) lengths → Generated ls (All n) bytes lengths bytes_after lengths-after
+    → bytes_after ≡ over (flatten ls) bytes → lengths-after ≡ over (map length ls) lengths → Generated ls (Ok n) bytes lengths bytes_after lengths-after
 unfolding answered bytes_left lengths_left
 all_fit ls n bytes lengths bytes_after lengths-after e h g eb el =
     let f : fits ls bytes lengths ≡ true = fit ls bytes lengths (omega arith) g in
-    record { answer_is = ap All (sym e) ∙ rw f; bytes_are = eb ∙ rw f; lengths_are = el ∙ rw f }
+    record { answer_is = ap Ok (sym e) ∙ rw f; bytes_are = eb ∙ rw f; lengths_are = el ∙ rw f }
 
 unfit : (ls : List (List ℕ)) (bytes lengths : List ℕ) → (length lengths < length ls) ⊎ (length bytes < length (flatten ls)) → fits ls bytes lengths ≡ false
 unfolding fits
 unfit ls bytes lengths (inl h) = rw (lt-leb (length ls) (length lengths) h)
 unfit ls bytes lengths (inr h) = rw (lt-leb (length (flatten ls)) (length bytes) h) (and-false (leb (length ls) (length lengths)))
 
-pub too_short : (ls : List (List ℕ)) (bytes lengths : List ℕ) → (length lengths < length ls) ⊎ (length bytes < length (flatten ls)) → Generated ls NoRoom bytes lengths bytes lengths
+pub too_short : (ls : List (List ℕ)) (bytes lengths : List ℕ) → (length lengths < length ls) ⊎ (length bytes < length (flatten ls)) → Generated ls (Err NoRoom) bytes lengths bytes lengths
 unfolding answered bytes_left lengths_left
 too_short ls bytes lengths w =
     let e : fits ls bytes lengths ≡ false = unfit ls bytes lengths w in

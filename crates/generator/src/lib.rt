@@ -10,14 +10,7 @@ ghost use Rattle.def_picking.specs.Numbers.{count, literal_at};
 ghost use Rattle.entries.specs.Words.{tokens_in};
 ghost use Rattle.generator.specs.Output.{over, Generated};
 
-use base::ENTRY_LIMIT;
-
-// How many literals were written; or one of the buffers is too small, and nothing was.
-#[derive(Drop)]
-pub enum Wrote {
-    All(usize),
-    NoRoom,
-}
+use base::{ENTRY_LIMIT, Refusal};
 
 // A literal has at most as many bytes as there are entries.
 fn length_at(ws: &[u32], k: usize) -> usize
@@ -25,7 +18,7 @@ fn length_at(ws: &[u32], k: usize) -> usize
     ensures { (result ≡ length (literal_at (tokens_in ws.now) k)) × (result ≤ entry_limit) }
 {
     let mut scratch = [0u8; ENTRY_LIMIT];
-    spelling::write_literal(ws, k, &mut scratch[0..ENTRY_LIMIT])
+    spelling::write_literal(ws, k, &mut scratch)
 }
 
 // The bytes of all n literals. Known before the first is written, for a refusal leaves the buffers as they were.
@@ -34,10 +27,8 @@ fn total_of(ws: &[u32], n: usize) -> usize
     ensures { result ≡ length (flatten (literals (tokens_in ws.now))) }
 {
     let mut total = 0;
-    let mut k = 0;
-    while k < n {
+    for k in 0..n {
         total += length_at(ws, k);
-        k += 1;
     }
     total
 }
@@ -48,29 +39,22 @@ fn write_each(ws: &[u32], n: usize, bytes: &mut [u8], lengths: &mut [u16])
     ensures { (bytes.new ≡ over (flatten (literals (tokens_in ws.now))) bytes.old) × (lengths.new ≡ over (map length (literals (tokens_in ws.now))) lengths.old) }
 {
     let mut at = 0;
-    let mut k = 0;
-    while k < n {
+    for k in 0..n {
         let w = spelling::write_literal(ws, k, &mut bytes[at..]);
         lengths[k] = w as u16;
         at += w;
-        k += 1;
     }
 }
 
-// Writes the literals one after another, and the length of each; or neither, where one of the two does not fit.
-pub fn write_all(ws: &[u32], bytes: &mut [u8], lengths: &mut [u16]) -> Wrote
+// Writes the literals one after another, and the length of each, and answers how many; or neither, where one of the two does not fit.
+pub fn write_all(ws: &[u32], bytes: &mut [u8], lengths: &mut [u16]) -> Result<usize, Refusal>
     requires { (length ws.now ≤ token_pool) × (count (tokens_in ws.now) ≤ literal_limit) }
     ensures { Generated (literals (tokens_in ws.now)) result bytes.old lengths.old bytes.new lengths.new }
 {
-    let t = tallies::tally_tokens(ws);
-    let n = t.literals;
-    if lengths.len() < n {
-        return Wrote::NoRoom;
-    }
-    let total = total_of(ws, n);
-    if bytes.len() < total {
-        return Wrote::NoRoom;
+    let n = tallies::tally_tokens(ws).literals;
+    if lengths.len() < n || bytes.len() < total_of(ws, n) {
+        return Err(Refusal::NoRoom);
     }
     write_each(ws, n, bytes, lengths);
-    Wrote::All(n)
+    Ok(n)
 }

@@ -1,8 +1,8 @@
 -- `generator::write_each` meets its contract. Assumes nothing.
+use Rattle.std.proofs.Common.{arith}
 use Rattle.entries.specs.Words.{tokens_in}
 use Rattle.tallies.proofs.SizeLaws.{literal_fits}
 use Rattle.generator.proofs.OutputLaws as law
-use native.Mathlib.Omega.{arith}
 use Rattle.generator.proofs.write_each.Goals as goal
 
 pub write_literal-w-requires : goal.write_literal-w-requires
@@ -10,7 +10,7 @@ write_literal-w-requires c =
     let s = c in
     let l = c.loop-k in
     let t = c.loop-k-test.true in
-    (omega (arith, s.requires.1, t), omega (arith, s.requires.1, s.requires.2), (law.next_room (tokens_in s.args.ws.now) s.args.n s.requires.1 l.k l.at s.args.bytes.now s.args.lengths.now l.bytes l.lengths l.invariant.1 t s.requires.4).1)
+    (omega (arith, s.requires.1, t), omega (arith, s.requires.1, s.requires.2), (law.next_room (tokens_in s.args.ws.now) s.args.n s.requires.1 l.k l.at s.args.bytes.now s.args.lengths.now l.bytes l.lengths l.invariant t s.requires.4).1)
 
 pub overflow_cast-lengths : goal.overflow_cast-lengths
 overflow_cast-lengths c =
@@ -26,11 +26,11 @@ loop-k-preserved c =
     let l = c.loop-k in
     let t = c.loop-k-test.true in
     let w = c.write_literal-w in
-    (omega (arith, t), law.part_more (tokens_in s.args.ws.now) s.args.n s.requires.1 l.k l.at s.args.bytes.now s.args.lengths.now l.bytes l.lengths l.invariant.1 t w.result w.new.dst s.requires.3 w.ensures)
+    law.part_more (tokens_in s.args.ws.now) s.args.n s.requires.1 l.k l.at s.args.bytes.now s.args.lengths.now l.bytes l.lengths l.invariant t w.result w.new.dst s.requires.3 w.ensures
 
 pub returns : goal.returns
 returns c =
     let s = c in
     let l = c.loop-k in
     let e = c.loop-k-test.false in
-    (law.part_all_bytes (tokens_in s.args.ws.now) s.args.n s.requires.1 l.k l.at s.args.bytes.now s.args.lengths.now l.bytes l.lengths l.invariant.1 e, law.part_all_lengths (tokens_in s.args.ws.now) s.args.n s.requires.1 l.k l.at s.args.bytes.now s.args.lengths.now l.bytes l.lengths l.invariant.1 e)
+    (law.part_all_bytes (tokens_in s.args.ws.now) s.args.n s.requires.1 l.k l.at s.args.bytes.now s.args.lengths.now l.bytes l.lengths l.invariant e, law.part_all_lengths (tokens_in s.args.ws.now) s.args.n s.requires.1 l.k l.at s.args.bytes.now s.args.lengths.now l.bytes l.lengths l.invariant e)
