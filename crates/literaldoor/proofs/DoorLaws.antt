@@ -1,12 +1,11 @@
 -- From what was read and chosen to what the door says. Assumes nothing.
-use mathlib.Core.Path.{◌≡◌, refl, sym, ap, ◌∙◌, subst}
-use mathlib.Core.Bool.{Bool, true, false, cond, ◌&&◌}
-use mathlib.Core.List.{List, [], flatten}
-use Prim.Native.Nat.{ℕ, ◌-◌, ◌≤◌}
-use native.Mathlib.Omega.{arith}
-use lib.Dec.{leb}
-use lib.ListN.{length, take, drop}
+use Rattle.std.proofs.Common.{◌≡◌, refl, sym, ap, ap₂, ◌∙◌, subst, Bool, true, false, cond, ◌&&◌, List, ℕ, ◌-◌, ◌≤◌, arith, leb, length, take, drop, Some, Result, Ok, Err}
+use mathlib.Core.List.{flatten}
+use Rattle.std.specs.Result.{IsErrAnd}
+use Rattle.std.proofs.lemmas.Result.{err_from_is_err_and}
 use borrow.Author.Tests.{le-leb}
+use Rattle.base.specs.declared.Refused.{Refused}
+use Rattle.literaldoor.specs.declared.Picked.{Picked as Answer}
 use Rattle.base.specs.declared.Refusal.{Refusal}
 use Rattle.base.specs.Refusals.{number_of}
 use Rattle.def_meaning.specs.Limits.{token_pool}
@@ -17,54 +16,56 @@ use Rattle.def_reading.proofs.SpelledValues.{accepted_spelled}
 use Rattle.def_reading.specs.Lists.{accepted, rejected, reading}
 use Rattle.def_picking.specs.Literals.{literals}
 use Rattle.def_picking.specs.Runs.{plain_alternatives, first_last, filled_ones, runs}
-use Rattle.def_picking.specs.Candidates.{Candidate, unranked, among_runs, in_pattern, Picked, picked, taking, pick}
+use Rattle.def_picking.specs.Candidates.{Candidate, unranked, too_many_literals, among_runs, in_pattern, Picked, picked, taking, pick}
 use Rattle.entries.specs.Words.{tokens_in}
-use Rattle.generator.specs.declared.Wrote.{Wrote}
-use Rattle.generator.specs.declared.Wrote.TheVariants.{All, NoRoom}
 use Rattle.generator.specs.Output as output
 use Rattle.generator.proofs.Arms.{wrote_all, wrote_none}
-use Rattle.picks.specs.declared.Winner.{Winner}
-use Rattle.picks.specs.declared.Winner.TheVariants.{Nothing, Taken, TooMany}
-use Rattle.picks.specs.Ranks.{winner_says}
+use Rattle.picks.specs.declared.Pick.{Pick}
+use Rattle.picks.specs.Ranks.{pick_says}
 use Rattle.runs.specs.Whole.{Whole}
 use Rattle.runs.proofs.EntryLaws.{whole_entries, plain_entries, segments_entries}
-use Rattle.literaldoor.specs.Door.{LiteralsSaid, gives, refuses, picked_says, picked_bytes, picked_lengths, verdict_says, verdict_bytes, verdict_lengths, literals_says, bytes_left, lengths_left, HandsOut}
+use Rattle.literaldoor.specs.Door.{LiteralsSaid, gives, refuses, literals_said, picked_says, picked_bytes, picked_lengths, verdict_says, verdict_bytes, verdict_lengths, literals_says, bytes_left, lengths_left, HandsOut}
+
+-- ---- a refusal that is handed up
+
+pub raised : (r : Result Answer Refused) (why : Refusal) (place : ℕ) → IsErrAnd r (λ z. (z.why ≡ why) × (z.place ≡ place)) → literals_said r ≡ refuses (number_of why) place
+raised r why place h = let p = err_from_is_err_and r h in ap literals_said p.1 ∙ ap₂ refuses (ap number_of p.2.0) p.2.1
+
+-- the words at the front of a pool, as the reading door's callers have them
+pub front : (n : ℕ) (q es : List ℕ) → take (n - 0) (drop 0 q) ≡ es → take n q ≡ es
+front n q es h = let z : n - 0 ≡ n = omega arith in ap (λ (x : ℕ). take x q) (sym z) ∙ h
 
 -- ---- what was written
 
-module _ (e : ℕ) (ls : List (List ℕ)) (rank : ℕ) (w : Wrote) (b l b' l' : List ℕ) (g : output.Generated ls w b l b' l') where
-  pub all_written : (n : ℕ) → w ≡ All n → HandsOut e (picked rank ls) (gives e n rank) b l b' l'
+module _ (e : ℕ) (ls : List (List ℕ)) (rank : ℕ) (w : Result ℕ Refusal) (b l b' l' : List ℕ) (g : output.Generated ls w b l b' l') where
+  pub all_written : (n : ℕ) → w ≡ Ok n → HandsOut e (picked rank ls) (gives e n rank) b l b' l'
   unfolding picked_says picked_bytes picked_lengths
   all_written n h =
       let a = wrote_all ls w b l b' l' g n h in
       (ap (λ (x : ℕ). gives e x rank) a.number ∙ sym (ap (λ (t : Bool). cond t (gives e (length ls) rank) (refuses 18 0)) a.fitting), g.bytes_are, g.lengths_are)
 
-  pub none_written : w ≡ NoRoom → HandsOut e (picked rank ls) (refuses 18 0) b l b' l'
+  pub none_written : (x : Refusal) → w ≡ Err x → HandsOut e (picked rank ls) (refuses (number_of x) 0) b l b' l'
   unfolding picked_says picked_bytes picked_lengths
-  none_written h =
-      let a = wrote_none ls w b l b' l' g h in
-      (sym (ap (λ (t : Bool). cond t (gives e (length ls) rank) (refuses 18 0)) a.short), g.bytes_are, g.lengths_are)
+  none_written x h =
+      let a = wrote_none ls w b l b' l' g x h in
+      (ap (λ (y : Refusal). refuses (number_of y) 0) a.0 ∙ sym (ap (λ (t : Bool). cond t (gives e (length ls) rank) (refuses 18 0)) a.1.short), g.bytes_are, g.lengths_are)
 
 -- ---- what was chosen
 
-module _ (e : ℕ) (ws : List ℕ) (p : Winner) (b l : List ℕ) where
-  pub nothing_chosen : p ≡ Nothing → HandsOut e (taking (winner_says ws p)) (gives e 0 0) b l b l
-  unfolding taking picked_says picked_bytes picked_lengths flatten output.fits output.bytes_left output.lengths_left
-  nothing_chosen h = subst (λ (x : Winner). HandsOut e (taking (winner_says ws x)) (gives e 0 0) b l b l) (sym h) none_needed
-    where
-      room : (leb 0 (length l) && leb 0 (length b)) ≡ true
-      room = rw (le-leb 0 (length l) (let z : 0 ≤ length l = omega arith in z), le-leb 0 (length b) (let z : 0 ≤ length b = omega arith in z))
+pub nothing_chosen : (e : ℕ) (b l : List ℕ) → HandsOut e (taking unranked) (gives e 0 0) b l b l
+unfolding taking picked_says picked_bytes picked_lengths flatten output.fits output.bytes_left output.lengths_left
+nothing_chosen e b l = rw room (refl, refl, refl)
+  where
+    room : (leb 0 (length l) && leb 0 (length b)) ≡ true
+    room = rw (le-leb 0 (length l) (let z : 0 ≤ length l = omega arith in z), le-leb 0 (length b) (let z : 0 ≤ length b = omega arith in z))
 
-      none_needed : HandsOut e (picked 0 []) (gives e 0 0) b l b l
-      none_needed = rw room (refl, refl, refl)
+pub too_many : (e : ℕ) (b l : List ℕ) → HandsOut e (taking too_many_literals) (refuses 17 0) b l b l
+unfolding taking picked_says picked_bytes picked_lengths
+too_many e b l = (refl, refl, refl)
 
-  pub too_many : p ≡ TooMany → HandsOut e (taking (winner_says ws p)) (refuses 17 0) b l b l
-  unfolding taking picked_says picked_bytes picked_lengths
-  too_many h = subst (λ (x : Winner). HandsOut e (taking (winner_says ws x)) (refuses 17 0) b l b l) (sym h) (refl, refl, refl)
-
-  pub words_chosen : (from to rank : ℕ) (s : LiteralsSaid) (b' l' : List ℕ) → p ≡ Taken from to rank → HandsOut e (picked rank (literals (tokens_in (take (to - from) (drop from ws))))) s b l b' l' → HandsOut e (taking (winner_says ws p)) s b l b' l'
-  unfolding taking
-  words_chosen from to rank s b' l' f h = subst (λ (x : Winner). HandsOut e (taking (winner_says ws x)) s b l b' l') (sym f) h
+pub words_chosen : (e : ℕ) (ws : List ℕ) (p : Pick) (b l : List ℕ) (s : LiteralsSaid) (b' l' : List ℕ) → HandsOut e (picked p.rank (literals (tokens_in (take (p.to - p.from) (drop p.from ws))))) s b l b' l' → HandsOut e (taking (pick_says ws (Some p))) s b l b' l'
+unfolding taking
+words_chosen e ws p b l s b' l' h = h
 
 -- ---- 19, or what wins
 

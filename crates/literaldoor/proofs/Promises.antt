@@ -1,12 +1,8 @@
 -- What picking a text's literals promises: its refusals exactly in their cases, the literals, that every match holds one of them, and a single
 -- outcome. Assumes nothing.
-use mathlib.Core.Path.{◌≡◌, refl, sym, ap, ap₂, ◌∙◌}
-use mathlib.Core.Bool.{Bool, true, false, cond}
-use mathlib.Core.Logic.{◌⊎◌, inl, inr, ⊎_elim, ◌↔◌}
-use mathlib.Core.List.{List, [], Memᴰ, map, flatten}
-use Prim.Native.Nat.{ℕ, ◌≤◌}
-use native.Mathlib.Omega.{arith}
-use lib.ListN.{length}
+use Rattle.std.proofs.Common.{◌≡◌, refl, sym, ap, ap₂, ◌∙◌, Bool, true, false, cond, ◌⊎◌, inl, inr, ◌↔◌, List, [], ℕ, ◌≤◌, arith, length, Result, Ok, Err}
+use mathlib.Core.Logic.{⊎_elim}
+use mathlib.Core.List.{Memᴰ, map, flatten}
 use Rattle.base.specs.declared.Refusal.{Refusal}
 use Rattle.base.specs.declared.Refusal.TheVariants.{TooManyLiterals, NotPlain}
 use Rattle.base.specs.Refusals.{number_of}
@@ -23,8 +19,8 @@ use Rattle.def_picking.proofs.PickedLaws.{picked_few}
 use Rattle.def_picking.proofs.HoldLaws.{HoldsOne, match_holds_literal}
 use Rattle.generator.specs.Output as output
 use Rattle.literaldoor.proofs.ReadLaws.{read_literal_bounds}
-use Rattle.literaldoor.specs.declared.LiteralsAnswer.{LiteralsAnswer}
-use Rattle.literaldoor.specs.declared.LiteralsAnswer.TheVariants as answer
+use Rattle.base.specs.declared.Refused.{Refused}
+use Rattle.literaldoor.specs.declared.Picked.{Picked as Answer}
 use Rattle.literaldoor.specs.Door.{gives, refuses, literals_said, picked_says, picked_bytes, picked_lengths, verdict_says, verdict_bytes, verdict_lengths, literals_says, bytes_left, lengths_left}
 
 -- ---- what a pick says
@@ -156,13 +152,26 @@ module _ (t : List ℕ) (e : ℕ) (ts : Tokens) (read : reading t ≡ accepted e
       let k = handed reached n rank h in
       ⊎_elim (λ (z : k.texts ≡ []). inl (k.number ∙ ap length z)) (λ (f : (s : List ℕ) → Bytes s → Spans ts s → HoldsOne k.texts s). inr f) (match_holds_literal ts rank k.texts k.picks)
 
+abbrev answer : ℕ → ℕ → ℕ → Result Answer Refused
+answer reached count rank = Ok (record { reached = reached; count = count; rank = rank })
+
+abbrev refusal : Refusal → ℕ → Result Answer Refused
+refusal why place = Err (record { why = why; place = place })
+
 -- an answer is known by what it says
-said_one : (a b : LiteralsAnswer) → literals_said a ≡ literals_said b → a ≡ b
-said_one (answer.Picked e n r) (answer.Picked d m s) h = cc
-said_one (answer.Picked e n r) (answer.Refused c x) h = never (cc)
-said_one (answer.Refused c x) (answer.Picked d m s) h = never (cc)
-said_one (answer.Refused c x) (answer.Refused d y) h = let a : number_of c ≡ number_of d = cc in let b : x ≡ y = cc in ap₂ answer.Refused (number_one c d a) b
+said_one : (a b : Result Answer Refused) → literals_said a ≡ literals_said b → a ≡ b
+said_one (Ok p) (Ok q) h =
+    let e : p.reached ≡ q.reached = cc in
+    let n : p.count ≡ q.count = cc in
+    let r : p.rank ≡ q.rank = cc in
+    ap (λ (x : ℕ). answer x p.count p.rank) e ∙ ap₂ (answer q.reached) n r
+said_one (Ok p) (Err y) h = never (cc)
+said_one (Err x) (Ok q) h = never (cc)
+said_one (Err x) (Err y) h =
+    let n : number_of x.why ≡ number_of y.why = cc in
+    let p : x.place ≡ y.place = cc in
+    ap₂ refusal (number_one x.why y.why n) p
 
 -- the door's promise leaves one answer and one content of each buffer
-pub literals_single : (t b l : List ℕ) (a c : LiteralsAnswer) (u v x y : List ℕ) → literals_said a ≡ literals_says t b l → literals_said c ≡ literals_says t b l → u ≡ bytes_left t b l → v ≡ bytes_left t b l → x ≡ lengths_left t b l → y ≡ lengths_left t b l → (a ≡ c) × (u ≡ v) × (x ≡ y)
+pub literals_single : (t b l : List ℕ) (a c : Result Answer Refused) (u v x y : List ℕ) → literals_said a ≡ literals_says t b l → literals_said c ≡ literals_says t b l → u ≡ bytes_left t b l → v ≡ bytes_left t b l → x ≡ lengths_left t b l → y ≡ lengths_left t b l → (a ≡ c) × (u ≡ v) × (x ≡ y)
 literals_single t b l a c u v x y h k i j m n = (said_one a c (h ∙ sym k), i ∙ sym j, m ∙ sym n)

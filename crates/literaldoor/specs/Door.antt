@@ -1,21 +1,21 @@
 -- What the literal door answers, and what it leaves in the two buffers. Assumes nothing: these are definitions.
 -- To be believed: `LiteralsSaid` `literals_said`.
-use Rattle.std.specs.Prelude.{◌≡◌, cond, List, ℕ, length}
+use Rattle.std.specs.Prelude.{◌≡◌, cond, Result, Ok, Err, List, ℕ, length}
 use Rattle.base.specs.Refusals.{number_of}
 use Rattle.def_reading.specs.Lists.{Verdict, accepted, rejected, reading}
 use Rattle.def_picking.specs.Candidates.{Picked, picked, unpicked, pick}
 use Rattle.generator.specs.Output as output
-use Rattle.literaldoor.specs.declared.LiteralsAnswer.{LiteralsAnswer}
-use Rattle.literaldoor.specs.declared.LiteralsAnswer.TheVariants as answer
+use Rattle.base.specs.declared.Refused.{Refused}
+use Rattle.literaldoor.specs.declared.Picked.{Picked as Answer}
 
 -- 01's values: the offset reached, how many literals and their rank; or the refusal's number and its place
 pub data LiteralsSaid : Type 0 where
   gives : ℕ → ℕ → ℕ → LiteralsSaid
   refuses : ℕ → ℕ → LiteralsSaid
 
-abbrev pub literals_said : LiteralsAnswer → LiteralsSaid
-literals_said (answer.Picked reached count rank) = gives reached count rank
-literals_said (answer.Refused x place) = refuses (number_of x) place
+abbrev pub literals_said : Result Answer Refused → LiteralsSaid
+literals_said (Ok p) = gives p.reached p.count p.rank
+literals_said (Err x) = refuses (number_of x.why) x.place
 
 -- a text's refusals have their places; 19, 17 and 18 have place 0, and 18 comes last
 unfoldable pub picked_says : ℕ → Picked → List ℕ → List ℕ → LiteralsSaid

@@ -3,14 +3,26 @@
 #![tactic(auto)]
 
 ghost use Rattle.std.specs.Prelude.{◌≡◌, true, List, ℕ, ◌-◌, take, drop, Some};
+ghost use Rattle.base.specs.declared.Refusal.TheVariants.{TooManyLiterals};
 ghost use Rattle.def_picking.specs.Runs.{Slice};
 ghost use Rattle.def_picking.specs.Candidates.{ranked, widened, against};
 ghost use Rattle.entries.specs.Words.{tokens_in};
 ghost use Rattle.picks.specs.Ranks.{value_says, pick_says, Beaten};
 
+use base::{Refusal, Refused};
+
 // A slice has too many literals: whatever else is there, so has the pattern.
 #[derive(Clone, Copy, Debug, PartialEq, Eq)]
 pub struct TooMany;
+
+// No byte of a text is to blame for them.
+impl From<TooMany> for Refused {
+    ghost from_gives = { λ _ r. (r.why ≡ TooManyLiterals) × (r.place ≡ 0) };
+
+    fn from(_too_many: TooMany) -> Self {
+        Refusal::TooManyLiterals.into()
+    }
+}
 
 // What wins: the words of a slice, from one place to another, and its rank.
 #[derive(Clone, Copy, Debug, PartialEq, Eq)]
