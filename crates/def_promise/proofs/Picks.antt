@@ -7,7 +7,8 @@ use Prim.Native.Nat.{ℕ, ◌≤◌, ◌<◌}
 use lib.Dec.{leb}
 use lib.ListN.{length}
 use borrow.Author.Tests.{leb-true}
-use Rattle.base.specs.declared.Refusal.TheVariants.{NotPlain}
+use Rattle.std.proofs.Common.{Ok, Err}
+use Rattle.base.specs.declared.Refusal.TheVariants.{NotPlain, NoRoom}
 use Rattle.def_meaning.specs.Tokens.{Tokens}
 use Rattle.def_meaning.proofs.SoundLaws.{and_left, and_right}
 use Rattle.def_reading.specs.Lists.{Verdict, accepted, rejected, reading}
@@ -16,7 +17,6 @@ use Rattle.def_grammar.proofs.Derivable.{accepted_derived, derived_accepted}
 use Rattle.def_grammar.proofs.FaultLaws.{fault_exactly}
 use Rattle.def_picking.specs.Runs.{plain_alternatives}
 use Rattle.def_picking.specs.Candidates.{Candidate, unranked, chosen, too_many_literals, in_pattern, Picked, picked, unpicked, taking, pick}
-use Rattle.generator.specs.declared.Wrote.TheVariants.{All, NoRoom}
 use Rattle.generator.specs.Output as output
 use Rattle.generator.proofs.OutputLaws.{all_fit, too_short}
 use Rattle.literaldoor.specs.Door as literaldoor
@@ -92,9 +92,9 @@ pub picks_one : {t b l : List ℕ} {s : literaldoor.LiteralsSaid} {u v : List �
 unfolding literaldoor.picked_says literaldoor.picked_bytes literaldoor.picked_lengths
 picks_one {t} {b} {l} (table.rejected {x = x} {place = k} e) = text_refused t x k b l ((fault_exactly t x k).1 e)
 picks_one {b = b} {l} (table.refused d y) = by_pick b l d y (refl, refl, refl)
-picks_one {b = b} {l} (table.no_room {reached = e} {rank = n} {ls = ls} d y h) = by_pick b l d y (none_written e ls n NoRoom b l b l (too_short ls b l h) refl)
+picks_one {b = b} {l} (table.no_room {reached = e} {rank = n} {ls = ls} d y h) = by_pick b l d y (none_written e ls n (Err NoRoom) b l b l (too_short ls b l h) NoRoom refl)
 picks_one {b = b} {l} (table.handed {reached = e} {rank = n} {ls = ls} d y h g) =
     let bytes = output.over (flatten ls) b in
     let lengths = output.over (map length ls) l in
     by_pick b l d y
-    (all_written e ls n (All (length ls)) b l bytes lengths (all_fit ls (length ls) b l bytes lengths refl h g refl refl) (length ls) refl)
+    (all_written e ls n (Ok (length ls)) b l bytes lengths (all_fit ls (length ls) b l bytes lengths refl h g refl refl) (length ls) refl)

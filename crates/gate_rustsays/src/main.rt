@@ -4,7 +4,6 @@
 
 use base::Refusal;
 use gatekit::Style;
-use literaldoor::LiteralsAnswer;
 use nodes::NodeWord;
 use std::io;
 
@@ -76,20 +75,13 @@ fn each<P: Print>(rt: &P, bytes: &[u8], lengths: &[u16], count: usize) -> io::Re
 fn picked<P: Print>(rt: &P, text: &[u8]) -> io::Result<()> {
     let mut bytes = [0u8; 32768];
     let mut lengths = [0u16; 256];
-    let r = literaldoor::literals(text, &mut bytes, &mut lengths);
-    match r {
-        LiteralsAnswer::Picked {
-            reached: _,
-            count,
-            rank,
-        } => {
-            gatekit::tell(rt, b"rank ", rank as u64)?;
-            rt.write_all(b" literals")?;
-            each(rt, &bytes, &lengths, count)?;
-            rt.write_all(b"\n")
-        }
-        LiteralsAnswer::Refused(_, _) => Ok(()),
-    }
+    let Ok(got) = literaldoor::literals(text, &mut bytes, &mut lengths) else {
+        return Ok(());
+    };
+    gatekit::tell(rt, b"rank ", u64::from(got.rank))?;
+    rt.write_all(b" literals")?;
+    each(rt, &bytes, &lengths, got.count)?;
+    rt.write_all(b"\n")
 }
 
 fn answers<P: Print>(rt: &P, text: &[u8], hay: &[u8]) -> io::Result<()> {

@@ -22,8 +22,7 @@ use Rattle.base.specs.Refusals.{number_of}
 use Rattle.std.specs.Prelude.{Result, Ok, Err}
 use Rattle.base.specs.declared.Refused.{Refused}
 use Rattle.compiledoor.specs.declared.Compiled.{Compiled as Answer}
-use Rattle.literaldoor.specs.declared.LiteralsAnswer.{LiteralsAnswer}
-use Rattle.literaldoor.specs.declared.LiteralsAnswer.TheVariants.{Picked as Picked', Refused as Untaken}
+use Rattle.literaldoor.specs.declared.Picked.{Picked as Taking}
 use Rattle.compiledoor.specs.Door as made
 use Rattle.literaldoor.specs.Door as taken
 use Rattle.generator.specs.Output as output
@@ -135,11 +134,11 @@ module _ (b l : List ℕ) (lb : length b ≡ lent_bytes) (ll : length l ≡ lent
       go (picked r ls) h = fit r ls (output.fits ls b l) refl h
 
   -- at the door
-  pub taken_door : (t b' l' : List ℕ) (reached n rank : ℕ) (r : LiteralsAnswer) → r ≡ Picked' reached n rank → taken.literals_said r ≡ taken.literals_says t b l → b' ≡ taken.bytes_left t b l → l' ≡ taken.lengths_left t b l → Taken (reading t) n rank b' l'
-  taken_door t b' l' reached n rank r h e eb el = says_taken (reading t) b' l' reached n rank (ap taken.literals_said (sym h) ∙ e) eb el
+  pub taken_door : (t b' l' : List ℕ) (p : Taking) (r : Result Taking Refused) → r ≡ Ok p → taken.literals_said r ≡ taken.literals_says t b l → b' ≡ taken.bytes_left t b l → l' ≡ taken.lengths_left t b l → Taken (reading t) p.count p.rank b' l'
+  taken_door t b' l' p r h e eb el = says_taken (reading t) b' l' p.reached p.count p.rank (ap taken.literals_said (sym h) ∙ e) eb el
 
-  pub untaken_door : (t : List ℕ) (why : Refusal) (place : ℕ) (r : LiteralsAnswer) → r ≡ Untaken why place → taken.literals_said r ≡ taken.literals_says t b l → got_of (reading t) ≡ not_got (number_of why)
-  untaken_door t why place r h e = says_untaken (reading t) (number_of why) place (ap taken.literals_said (sym h) ∙ e)
+  pub untaken_door : (t : List ℕ) (x : Refused) (r : Result Taking Refused) → r ≡ Err x → taken.literals_said r ≡ taken.literals_says t b l → got_of (reading t) ≡ not_got (number_of x.why)
+  untaken_door t x r h e = says_untaken (reading t) (number_of x.why) x.place (ap taken.literals_said (sym h) ∙ e)
 
 -- at the compiling door, for pools of the lent sizes
 pub made_door : (t f r f' r' : List ℕ) (c : Answer) (a : Result Answer Refused) → length f ≡ node_pool → length r ≡ node_pool → length f' ≡ node_pool → length r' ≡ node_pool → a ≡ Ok c → made.compile_said a ≡ made.compile_says t f r → f' ≡ made.forward_leaves t f r → r' ≡ made.reverse_leaves t f r → Made (reading t) c.forward c.reverse f' r'

@@ -10,7 +10,6 @@ ghost use Rattle.lister.specs.Listings.{got_of, listing_of};
 
 use base::{LENT_BYTES, LENT_LENGTHS, NODE_POOL};
 use lines::Listed;
-use literaldoor::LiteralsAnswer;
 use nodes::NodeWord;
 
 // Picks the literals, into bytes and lengths of its own, and writes their lines.
@@ -22,14 +21,11 @@ fn put_picked(text: &[u8], out: &mut [u8], at: usize) -> usize
     let mut lens = [0u16; LENT_LENGTHS];
     let got = literaldoor::literals(text, &mut bytes, &mut lens);
     match got {
-        LiteralsAnswer::Picked {
-            reached: _,
-            count,
-            rank,
-        } => lines::put_literals(out, at, rank as usize, &lens[0..count], &bytes),
-        LiteralsAnswer::Refused(why, _) => {
-            lines::put_literals_refused(out, at, why.number() as usize)
+        Ok(picked) => {
+            let rank = picked.rank as usize;
+            lines::put_literals(out, at, rank, &lens[0..picked.count], &bytes)
         }
+        Err(refused) => lines::put_literals_refused(out, at, refused.why.number() as usize),
     }
 }
 

@@ -16,8 +16,7 @@ use Rattle.readdoor.specs.declared.Reading.{Reading}
 use Rattle.readdoor.specs.Door as readdoor
 use Rattle.compiledoor.specs.declared.Compiled.{Compiled}
 use Rattle.compiledoor.specs.Door as compiledoor
-use Rattle.literaldoor.specs.declared.LiteralsAnswer.{LiteralsAnswer}
-use Rattle.literaldoor.specs.declared.LiteralsAnswer.TheVariants as literals
+use Rattle.literaldoor.specs.declared.Picked.{Picked}
 use Rattle.literaldoor.specs.Door as literaldoor
 use Rattle.mirror.specs.MirrorDoor as mirrordoor
 use Rattle.checkdoors.specs.declared.Answer.{Answer}
@@ -58,15 +57,21 @@ compile_tells (Ok c) (Err x) h = some_number x.why (ap (λ (r : CompileResult). 
 compile_tells (Err x) (Ok d) h = some_number x.why (sym (ap (λ (r : CompileResult). r.refusal) h))
 compile_tells (Err x) (Err y) h = ap₂ refused (number_one x.why y.why (ap (λ (r : CompileResult). r.refusal) h)) (ap (λ (r : CompileResult). r.place) h)
 
-pub literals_tells : (a b : LiteralsAnswer) → literals_told (literaldoor.literals_said a) ≡ literals_told (literaldoor.literals_said b) → a ≡ b
-literals_tells (literals.Picked e n k) (literals.Picked f m l) h =
-    let reached : e ≡ f = ap (λ (r : LiteralsResult). r.reached) h in
-    let count : n ≡ m = ap (λ (r : LiteralsResult). r.count) h in
-    let rank : k ≡ l = ap (λ (r : LiteralsResult). r.rank) h in
-    cc
-literals_tells (literals.Picked e n k) (literals.Refused c x) h = some_number c (ap (λ (r : LiteralsResult). r.refusal) h)
-literals_tells (literals.Refused c x) (literals.Picked f m l) h = some_number c (sym (ap (λ (r : LiteralsResult). r.refusal) h))
-literals_tells (literals.Refused c x) (literals.Refused d y) h = ap₂ literals.Refused (number_one c d (ap (λ (r : LiteralsResult). r.refusal) h)) (ap (λ (r : LiteralsResult). r.place) h)
+abbrev picked : ℕ → ℕ → ℕ → Result Picked Refused
+picked e n k = Ok (record { reached = e; count = n; rank = k })
+
+abbrev unpicked : Refusal → ℕ → Result Picked Refused
+unpicked x place = Err (record { why = x; place = place })
+
+pub literals_tells : (a b : Result Picked Refused) → literals_told (literaldoor.literals_said a) ≡ literals_told (literaldoor.literals_said b) → a ≡ b
+literals_tells (Ok p) (Ok q) h =
+    let reached : p.reached ≡ q.reached = ap (λ (r : LiteralsResult). r.reached) h in
+    let count : p.count ≡ q.count = ap (λ (r : LiteralsResult). r.count) h in
+    let rank : p.rank ≡ q.rank = ap (λ (r : LiteralsResult). r.rank) h in
+    ap (λ (x : ℕ). picked x p.count p.rank) reached ∙ ap₂ (picked q.reached) count rank
+literals_tells (Ok p) (Err x) h = some_number x.why (ap (λ (r : LiteralsResult). r.refusal) h)
+literals_tells (Err x) (Ok q) h = some_number x.why (sym (ap (λ (r : LiteralsResult). r.refusal) h))
+literals_tells (Err x) (Err y) h = ap₂ unpicked (number_one x.why y.why (ap (λ (r : LiteralsResult). r.refusal) h)) (ap (λ (r : LiteralsResult). r.place) h)
 
 pub mirror_tells : (a b : Result ℕ Refusal) → mirror_told (mirrordoor.mirror_said a) ≡ mirror_told (mirrordoor.mirror_said b) → a ≡ b
 mirror_tells (Ok n) (Ok m) h = ap Ok (ap (λ (r : MirrorResult). r.words) h)

@@ -12,7 +12,6 @@ ghost use Rattle.readdoor.specs.Door.{read_says, read_leaves};
 ghost use Rattle.tokenmarsh.specs.Results.{read_told, compile_told, literals_told, mirror_told, check_told, tail_told};
 
 use checkdoors::Answer;
-use literaldoor::LiteralsAnswer;
 use nodes::NodeWord;
 
 // major * 65536 + minor * 256 + patch, of 0.4.0: a caller compares it with its header's TM_VERSION, since structs, words and refusals may differ between versions.
@@ -110,21 +109,17 @@ pub extern "C" fn tm_literals(text: &[u8], bytes: &mut [u8], lengths: &mut [u16]
 {
     let r = literaldoor::literals(text, bytes, lengths);
     match r {
-        LiteralsAnswer::Picked {
-            reached,
-            count,
-            rank,
-        } => LiteralsResult {
+        Ok(picked) => LiteralsResult {
             refusal: 0,
-            rank,
+            rank: picked.rank,
             place: 0,
-            reached: reached as u64,
-            count: count as u64,
+            reached: picked.reached as u64,
+            count: picked.count as u64,
         },
-        LiteralsAnswer::Refused(why, place) => LiteralsResult {
-            refusal: why.number(),
+        Err(refused) => LiteralsResult {
+            refusal: refused.why.number(),
             rank: 0,
-            place: place as u64,
+            place: refused.place as u64,
             reached: 0,
             count: 0,
         },

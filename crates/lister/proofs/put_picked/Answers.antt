@@ -14,21 +14,21 @@ slice_bounds-put_literals-end c =
     let k = c.literals-got in
     let t =
     taken_door (zeros lent_bytes) (zeros lent_lengths) (length_zeros lent_bytes) (length_zeros lent_lengths) c.args.text.now k.new.bytes k.new.lengths
-    _ c.in-Picked.count c.in-Picked.rank k.result c.in-Picked.is k.ensures.0 k.ensures.1 k.ensures.2 in
+    c.in-Ok.picked k.result c.in-Ok.is k.ensures.0 k.ensures.1 k.ensures.2 in
     omega (arith, t.few, k.auto.lengths, length_zeros lent_lengths)
 
-pub returns-in-Picked : goal.returns-in-Picked
-returns-in-Picked c =
+pub returns-in-Ok : goal.returns-in-Ok
+returns-in-Ok c =
     let k = c.literals-got in
     let t =
     taken_door (zeros lent_bytes) (zeros lent_lengths) (length_zeros lent_bytes) (length_zeros lent_lengths) c.args.text.now k.new.bytes k.new.lengths
-    _ c.in-Picked.count c.in-Picked.rank k.result c.in-Picked.is k.ensures.0 k.ensures.1 k.ensures.2 in
+    c.in-Ok.picked k.result c.in-Ok.is k.ensures.0 k.ensures.1 k.ensures.2 in
     put_same (got_lines (got_of (reading c.args.text.now))) c.put_literals.ensures (taken_lines t)
 
-pub returns-in-Refused : goal.returns-in-Refused
-returns-in-Refused c =
+pub returns-in-Err : goal.returns-in-Err
+returns-in-Err c =
     let a = c.args in
     let k = c.literals-got in
-    let r = c.in-Refused in
-    let e = untaken_door (zeros lent_bytes) (zeros lent_lengths) (length_zeros lent_bytes) (length_zeros lent_lengths) a.text.now r.why _ k.result r.is k.ensures.0 in
+    let r = c.in-Err.refused in
+    let e = untaken_door (zeros lent_bytes) (zeros lent_lengths) (length_zeros lent_bytes) (length_zeros lent_lengths) a.text.now r k.result c.in-Err.is k.ensures.0 in
     put_same (got_lines (got_of (reading a.text.now))) c.put_literals_refused.ensures (ap literals_refused_line c.number.ensures ∙ untaken_lines (reading a.text.now) (number_of r.why) e)
