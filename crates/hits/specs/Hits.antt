@@ -2,6 +2,7 @@
 -- To be believed: nothing.
 use Rattle.std.specs.Prelude.{cond, List, ℕ, zero, suc, take, drop}
 use Rattle.std.proofs.Math.Option.{Option, none, some}
+use Rattle.def_meaning.specs.Choices.{Order, short, long}
 use Rattle.def_meaning.specs.Rows.{forward, backward}
 use Rattle.def_meaning.specs.Words.{prog, sound}
 
@@ -26,3 +27,8 @@ last_start ws hay n = cond (sound ws) (start_in ws hay n) 0
 
 abbrev pub last_end : List ℕ → List ℕ → ℕ → ℕ
 last_end ws hay n = cond (sound ws) (end_in ws hay n) 0
+
+-- in either order
+abbrev pub last_hit : Order → List ℕ → List ℕ → ℕ → ℕ
+last_hit short ws hay n = last_start ws hay n
+last_hit long ws hay n = last_end ws hay n

@@ -1,159 +1,38 @@
 // Translated from boreal's boreal/src/matcher/validator/simple.rs (MIT OR Apache-2.0), commit 7010b5e967; see NOTICE.
 // The reverse check: the first choice, long jumps before short, that fits at the window's end, read from there.
-// The shape is the forward check's, for the same reasons.
 #![tactic(auto)]
 
-ghost use Rattle.std.specs.Prelude.{◌≡◌, true, ◌⊎◌, ◌∷◌};
-ghost use Rattle.def_meaning.specs.Programs.{range, alt, ◌▹◌};
+ghost use Rattle.std.specs.Prelude.{◌≡◌};
+ghost use Rattle.def_meaning.specs.Choices.{long};
 ghost use Rattle.def_meaning.specs.Rows.{backward};
-ghost use Rattle.def_meaning.specs.Words.{kind_of, prog, branches_of, Sound, SoundBranches, flat_words};
+ghost use Rattle.def_meaning.specs.Words.{prog, Sound};
 ghost use Rattle.steps.specs.Steps.{answer};
 
-use nodes::{Field, JUMP, JUMP_RANGE, NextWord, NodeWord, count, first, first_word, kind, second};
-use steps::{Found, NextByte, last_byte, longest, tests_byte, word_passes};
+use nodes::NodeWord;
+use search::Way;
 
-// A branch, which holds nodes of fixed length only: what it leaves of mem.
-fn flat(branch: &[NodeWord], mem: &[u8]) -> Found
-    requires { flat_words branch.now ≡ true }
-    ensures { result ≡ answer (backward (prog branch.now) mem.now) }
-{
-    let mut ns = branch;
-    let mut m = mem;
-    loop {
-        let NextWord::Word(w) = first_word(ns) else {
-            return Found::Left(m.len());
-        };
-        ns = &ns[1..];
-        if kind(w) == JUMP {
-            let n = first(w) as usize;
-            if m.len() < n {
-                return Found::Nothing;
-            }
-            let keep = m.len() - n;
-            m = &m[..keep];
-        } else {
-            let NextByte::Next(b) = last_byte(m) else {
-                return Found::Nothing;
-            };
-            let keep = m.len() - 1;
-            m = &m[..keep];
-            if word_passes(w, b) {} else {
-                return Found::Nothing;
-            }
-        }
+pub struct Backward;
+
+impl Way for Backward {
+    ghost order = { long };
+
+    fn next(window: &[u8]) -> Option<(&u8, &[u8])> {
+        window.split_last()
+    }
+
+    fn without(window: &[u8], n: usize) -> &[u8] {
+        &window[..window.len() - n]
+    }
+
+    fn length(least: usize, most: usize, n: usize) -> usize {
+        most - (n - least)
     }
 }
 
 // What the first choice leaves of mem.
-#[cycle(branches_check_choices_jumps)]
-pub fn check(nodes: &[NodeWord], mem: &[u8]) -> Found
+pub fn check(nodes: &[NodeWord], mem: &[u8]) -> Option<usize>
     requires { Sound nodes.now }
     ensures { result ≡ answer (backward (prog nodes.now) mem.now) }
 {
-    let mut ns = nodes;
-    let mut m = mem;
-    loop {
-        let NextWord::Word(w) = first_word(ns) else {
-            return Found::Left(m.len());
-        };
-        ns = &ns[1..];
-        if tests_byte(w) {
-            let NextByte::Next(b) = last_byte(m) else {
-                return Found::Nothing;
-            };
-            let keep = m.len() - 1;
-            m = &m[..keep];
-            if word_passes(w, b) {} else {
-                return Found::Nothing;
-            }
-        } else {
-            if kind(w) == JUMP {
-                let n = first(w) as usize;
-                if m.len() < n {
-                    return Found::Nothing;
-                }
-                let keep = m.len() - n;
-                m = &m[..keep];
-            } else {
-                return choices(w, &ns[0..], &m[0..]);
-            }
-        }
-    }
-}
-
-// A range, or alternatives with the range that directly follows them, before the rest.
-#[cycle(branches_check_choices_jumps)]
-fn choices(w: NodeWord, rest: &[NodeWord], mem: &[u8]) -> Found
-    requires { Sound (w ∷ rest.now) × ((kind_of w ≡ 4) ⊎ (kind_of w ≡ 6)) }
-    ensures { result ≡ answer (backward (prog (w ∷ rest.now)) mem.now) }
-{
-    if kind(w) == JUMP_RANGE {
-        let from = first(w);
-        let to = second(w);
-        return jumps(&rest[0..], &mem[0..], from, to);
-    }
-    let size = count(w) as usize;
-    let after = &rest[size..];
-    if let NextWord::Word(x) = first_word(after) {
-        if kind(x) == JUMP_RANGE {
-            let from = first(x);
-            let to = second(x);
-            return branches(&rest[..size], &after[1..], &mem[0..], from, to);
-        }
-    }
-    branches(&rest[..size], &after[0..], &mem[0..], 0, 0)
-}
-
-// A range before the rest: the longest length for which the rest fits, from the longest on that mem has room for.
-#[cycle(branches_check_choices_jumps)]
-fn jumps(rest: &[NodeWord], mem: &[u8], from: Field, to: Field) -> Found
-    requires { Sound rest.now }
-    ensures { result ≡ answer (backward (range from to ▹ prog rest.now) mem.now) }
-{
-    let least = from as usize;
-    let mut n = longest(to, mem.len()) + 1;
-    let end = loop {
-        if n <= least {
-            break Found::Nothing;
-        }
-        n -= 1;
-        let keep = mem.len() - n;
-        let got = check(rest, &mem[..keep]);
-        if let Found::Left(left) = got {
-            break Found::Left(left);
-        }
-    };
-    end
-}
-
-// Alternatives, a range and the rest: the first branch and then the longest length for which the rest fits.
-#[cycle(branches_check_choices_jumps)]
-fn branches(alts: &[NodeWord], rest: &[NodeWord], mem: &[u8], from: Field, to: Field) -> Found
-    requires { SoundBranches alts.now × Sound rest.now }
-    ensures { result ≡ answer (backward (alt (branches_of alts.now) ▹ range from to ▹ prog rest.now) mem.now) }
-{
-    let least = from as usize;
-    let mut bs = alts;
-    let found = 'branches: loop {
-        let NextWord::Word(w) = first_word(bs) else {
-            break 'branches Found::Nothing;
-        };
-        bs = &bs[1..];
-        let size = first(w) as usize;
-        let got = flat(&bs[..size], mem);
-        if let Found::Left(left) = got {
-            let head = &mem[..left];
-            let mut n = longest(to, head.len()) + 1;
-            while least < n {
-                n -= 1;
-                let keep = head.len() - n;
-                let got = check(&rest[0..], &head[..keep]);
-                if let Found::Left(start) = got {
-                    break 'branches Found::Left(start);
-                }
-            }
-        }
-        bs = &bs[size..];
-    };
-    found
+    search::check::<Backward>(nodes, mem)
 }

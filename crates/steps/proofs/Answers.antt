@@ -1,23 +1,18 @@
 -- What an answer of a check tells of the window. Assumes nothing.
-use mathlib.Core.Path.{◌≡◌, refl, sym, ap, ◌∙◌}
-use mathlib.Core.Option.{Option, none, some}
-use mathlib.Core.List.{List, [], ◌∷◌, ◌++◌}
-use Prim.Native.Nat.{ℕ, ◌-◌, ◌≤◌}
-use native.Mathlib.Omega.{arith}
-use lib.ListN.{length, drop, length-append}
-use lib.Seq.{drop-append_seam}
+use Rattle.std.proofs.Common.{◌≡◌, refl, sym, ap, ◌∙◌, List, [], ◌∷◌, ◌++◌, ℕ, ◌-◌, ◌≤◌, arith, length, drop, length-append, Some, None}
+use Rattle.std.proofs.Math.Option.{Option, none, some}
+use Rattle.std.proofs.Math.Seq.{drop-append_seam}
 use Rattle.def_meaning.specs.Programs.{Prog}
 use Rattle.def_meaning.specs.Choices.{Order}
 use Rattle.def_meaning.specs.Rows.{Row, or_else, rest, found, rows, run}
 use Rattle.def_meaning.proofs.RowLaws.{rest_split}
-use Rattle.steps.specs.declared.Found.TheVariants.{Left, Nothing}
 use Rattle.steps.specs.Steps.{answer}
 
-pub answer_none : (x : Option (List ℕ)) → Nothing ≡ answer x → x ≡ none
+pub answer_none : (x : Option (List ℕ)) → None ≡ answer x → x ≡ none
 answer_none none e = refl
 answer_none (some v) e = let z : ◌≡◌ {A = ℕ} 0 1 = cc in absurd (omega arith)
 
-pub answer_some : (x : Option (List ℕ)) (k : ℕ) → Left k ≡ answer x → (v : List ℕ) × (x ≡ some v) × (length v ≡ k)
+pub answer_some : (x : Option (List ℕ)) (k : ℕ) → Some k ≡ answer x → (v : List ℕ) × (x ≡ some v) × (length v ≡ k)
 answer_some none k e = let z : ◌≡◌ {A = ℕ} 0 1 = cc in absurd (omega arith)
 answer_some (some v) k e = (v, refl, cc)
 
@@ -40,13 +35,13 @@ module _ (o : Order) (p : Prog) (M : List ℕ) where
   unfolding run
   run_split v e = found_split (rows o p) M v e
 
-  pub left_fits : (k : ℕ) → Left k ≡ answer (run o p M) → k ≤ length M
+  pub left_fits : (k : ℕ) → Some k ≡ answer (run o p M) → k ≤ length M
   left_fits k e =
       let q = answer_some (run o p M) k e in
       let s = run_split q.0 q.1 in
       omega (arith, simp length-append at (ap length s.1), q.2)
 
-  pub left_part : (k : ℕ) → Left k ≡ answer (run o p M) → run o p M ≡ some (drop (length M - k) M)
+  pub left_part : (k : ℕ) → Some k ≡ answer (run o p M) → run o p M ≡ some (drop (length M - k) M)
   left_part k e =
       let q = answer_some (run o p M) k e in
       let s = run_split q.0 q.1 in

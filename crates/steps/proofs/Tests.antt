@@ -1,34 +1,14 @@
 -- Words that test a byte, and words that do not. Assumes nothing.
 use mathlib.Core.Path.{◌≡◌, refl, sym, ap, ◌∙◌}
-use mathlib.Core.Bool.{Bool, true, false, cond}
+use mathlib.Core.Bool.{Bool, true}
 use Prim.Native.Nat.{ℕ, ◌%◌}
 use native.Mathlib.Nat.{mod-eq_of_lt}
-use lib.Dec.{eqb}
-use borrow.Author.Tests.{ne_eqb}
 use native.Mathlib.Omega.{arith}
 use Rattle.def_meaning.specs.Programs.{Test, byte, mask, negated_mask, pass, one, jump, range, alt}
-use Rattle.def_meaning.specs.Words.{byte_size, kind_of, first_of, second_of, Shape, item, opens, mark, wrong, shape_by, shape, proper}
+use Rattle.def_meaning.specs.Words.{byte_size, kind_of, first_of, second_of, Shape, item, opens, mark, wrong, shape, proper}
 use Rattle.def_meaning.proofs.KindLaws.{kind_byte, kind_mask, kind_negated}
 use Rattle.def_meaning.proofs.ProperLaws.{OfTest, OfItem, of_item}
 use Rattle.steps.specs.Steps.{is_test, pass_shape}
-
--- a word of none of the four kinds is no test
-no_kind : (k a b : ℕ) → (k ≡ 0 → ⊥) → (k ≡ 1 → ⊥) → (k ≡ 2 → ⊥) → (k ≡ 5 → ⊥) → (P : Shape → Type 0) → P (item (jump a)) → P (item (range a b)) → P (opens a) → P (mark a) → P wrong → P (shape_by k a b)
-unfolding shape_by
-no_kind k a b n0 n1 n2 n5 P j r o m w = rw (ne_eqb k 0 n0, ne_eqb k 1 n1, ne_eqb k 2 n2, ne_eqb k 5 n5) (go (eqb k 3) (eqb k 4) (eqb k 6) (eqb k 7))
-  where
-    go : (u v t q : Bool) → P (cond u (item (jump a)) (cond v (item (range a b)) (cond t (opens a) (cond q (mark a) wrong))))
-    go true v t q = j
-    go false true t q = r
-    go false false true q = o
-    go false false false true = m
-    go false false false false = w
-
-pub no_test : (k a b : ℕ) → (k ≡ 0 → ⊥) → (k ≡ 1 → ⊥) → (k ≡ 2 → ⊥) → (k ≡ 5 → ⊥) → false ≡ is_test (shape_by k a b)
-no_test k a b n0 n1 n2 n5 = no_kind k a b n0 n1 n2 n5 (λ s. false ≡ is_test s) refl refl refl refl refl
-
-pub no_pass : (k a b c : ℕ) → (k ≡ 0 → ⊥) → (k ≡ 1 → ⊥) → (k ≡ 2 → ⊥) → (k ≡ 5 → ⊥) → false ≡ pass_shape (shape_by k a b) c
-no_pass k a b c n0 n1 n2 n5 = no_kind k a b n0 n1 n2 n5 (λ s. false ≡ pass_shape s c) refl refl refl refl refl
 
 -- the value and the mask of a proper word are bytes
 module _ (w : ℕ) (h : proper w ≡ true) where

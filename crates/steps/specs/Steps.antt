@@ -1,23 +1,25 @@
 -- What the steps of a check answer, in the terms of the definitions. Assumes nothing: these are definitions.
 -- To be believed: nothing.
-use Rattle.std.specs.Prelude.{Bool, true, false, List, [], ◌∷◌, ℕ, length}
-use Rattle.std.proofs.Math.Option.{Option, none, some}
-use Rattle.steps.specs.declared.NextByte.{NextByte}
-use Rattle.steps.specs.declared.NextByte.TheVariants.{Next, NoByte}
-use Rattle.steps.specs.declared.Found.{Found}
-use Rattle.steps.specs.declared.Found.TheVariants.{Left, Nothing}
+use Rattle.std.specs.Prelude.{Bool, true, false, List, reverse, ℕ, ◌+◌, ◌-◌, length, Option, Some, None}
+use Rattle.std.proofs.Math.Option.{Option as Maybe, none, some}
+use Rattle.def_meaning.specs.Choices.{Order, short, long}
 use Rattle.def_meaning.specs.Programs.{pass, Item, one, jump, range, alt}
 use Rattle.def_meaning.specs.Words.{Shape, item, opens, mark, wrong}
 
--- the first of the bytes, if there is one
-abbrev pub first_byte : List ℕ → NextByte
-first_byte [] = NoByte
-first_byte (b ∷ bs) = Next b
-
 -- a check's answer tells how much of the window is left
-abbrev pub answer : Option (List ℕ) → Found
-answer none = Nothing
-answer (some v) = Left (length v)
+abbrev pub answer : Maybe (List ℕ) → Option ℕ
+answer none = None
+answer (some v) = Some (length v)
+
+-- the bytes of a window in the order in which they are read: forward, or from its end
+abbrev pub seen : Order → List ℕ → List ℕ
+seen short m = m
+seen long m = reverse m
+
+-- of the lengths from `least` to `most` the one that is tried where the shortest first would try n
+abbrev pub length_at : Order → ℕ → ℕ → ℕ → ℕ
+length_at short least most n = n
+length_at long least most n = least + most - n
 
 -- whether a word is a test of one byte, and whether a byte passes it; a word that is no test lets nothing pass
 abbrev pub is_test_item : Item → Bool

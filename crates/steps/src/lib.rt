@@ -1,57 +1,16 @@
 // Translated from boreal's boreal/src/matcher/validator/simple.rs (MIT OR Apache-2.0), commit 7010b5e967; see NOTICE.
-// What both checks do at one word and one byte.
+// What both checks ask of one word and one byte.
 #![tactic(auto)]
 
-ghost use Rattle.std.specs.Prelude.{◌≡◌, reverse, min, true};
+ghost use Rattle.std.specs.Prelude.{◌≡◌, true};
 ghost use Rattle.def_meaning.specs.Words.{shape, proper};
-ghost use Rattle.steps.specs.Steps.{first_byte, is_test, pass_shape};
+ghost use Rattle.steps.specs.Steps.{is_test, pass_shape};
 
-use nodes::{BYTE, DOT, Field, MASK, NEGATED_MASK, NodeWord, byte_of, first, kind, second};
+use nodes::{BYTE, DOT, MASK, NEGATED_MASK, NodeWord, byte_of, first, kind, second};
 
-// What a check finds: how many bytes of the window it leaves.
-#[derive(Drop)]
-pub enum Found {
-    Left(usize),
-    Nothing,
-}
-
-#[derive(Drop)]
-pub enum NextByte {
-    Next(u8),
-    NoByte,
-}
-
-pub fn first_byte(s: &[u8]) -> NextByte
-    ensures { result ≡ first_byte s.now }
-{
-    if 0 < s.len() {
-        NextByte::Next(s[0])
-    } else {
-        NextByte::NoByte
-    }
-}
-
-pub fn last_byte(s: &[u8]) -> NextByte
-    ensures { result ≡ first_byte (reverse s.now) }
-{
-    let n = s.len();
-    if 0 < n {
-        let at = n - 1;
-        NextByte::Next(s[at])
-    } else {
-        NextByte::NoByte
-    }
-}
-
-// The longest length of a range that so many bytes have room for.
-pub fn longest(to: Field, room: usize) -> usize
-    ensures { result ≡ min to room }
-{
-    let n = to as usize;
-    if n < room { n } else { room }
-}
-
-// Whether a word asks something of one byte. Byte stands first here and below: most nodes are bytes.
+// Whether a word asks something of one byte. Byte stands first here and below, and each kind has an arm: most nodes are bytes, and with
+// one `matches!` of the four kinds, and Byte as an arm below, the searches take up to twice the time.
+#[tactic(auto, unfolding(def_meaning::specs::Words::shape, def_meaning::specs::Words::shape_by))]
 pub fn tests_byte(w: NodeWord) -> bool
     ensures { result ≡ is_test (shape w) }
 {
@@ -68,6 +27,7 @@ pub fn tests_byte(w: NodeWord) -> bool
 }
 
 // Whether a byte passes the test that a word says. The value and the mask of a proper word are bytes, and are compared as such.
+#[tactic(auto, using(crate::proofs::Tests::value_fits, crate::proofs::Tests::mask_fits, crate::proofs::Tests::negated_mask_fits), unfolding(def_meaning::specs::Words::shape, def_meaning::specs::Words::shape_by, def_meaning::specs::Programs::pass))]
 pub fn word_passes(w: NodeWord, c: u8) -> bool
     requires { proper w ≡ true }
     ensures { result ≡ pass_shape (shape w) c }

@@ -1,0 +1,168 @@
+// Translated from boreal's boreal/src/matcher/validator/simple.rs (MIT OR Apache-2.0), commit 7010b5e967; see NOTICE.
+// The search of both checks: the first choice that fits, over the way in which a window is read. The original has it twice.
+// Nodes of fixed length are a loop; only jump lengths and tails after a branch recurse.
+#![tactic(auto)]
+
+ghost use Rattle.std.specs.Prelude.{◌≡◌, true, ◌⊎◌, ◌∷◌, ◌≤◌, length, drop, MatchOption};
+ghost use Rattle.def_meaning.specs.Choices.{Order};
+ghost use Rattle.def_meaning.specs.Programs.{range, alt, ◌▹◌};
+ghost use Rattle.def_meaning.specs.Rows.{run};
+ghost use Rattle.def_meaning.specs.Words.{kind_of, prog, branches_of, Sound, SoundBranches, flat_words};
+ghost use Rattle.steps.specs.Steps.{answer, seen, length_at};
+
+use nodes::{Field, JUMP, JUMP_RANGE, NodeWord, count, first, kind, second};
+use steps::{tests_byte, word_passes};
+
+// From which end a window is read, and which lengths of a range come first.
+pub trait Way {
+    ghost order: { Order };
+
+    // The byte that is read next, and the window without it.
+    fn next(window: &[u8]) -> Option<(&u8, &[u8])>
+        ensures { MatchOption result (length window.now ≡ 0) (λ p. seen order window.now ≡ p.0.now ∷ seen order p.1.now) };
+
+    // The window without the n bytes that are read next.
+    fn without(window: &[u8], n: usize) -> &[u8]
+        requires { n ≤ length window.now }
+        ensures { seen order result.now ≡ drop n (seen order window.now) };
+
+    // Of the lengths from `least` to `most` the one that is tried where the shortest first would try n.
+    fn length(least: usize, most: usize, n: usize) -> usize
+        requires { (least ≤ n) × (n ≤ most) }
+        ensures { result ≡ length_at order least most n };
+}
+
+// A branch, which holds nodes of fixed length only: what it leaves of mem.
+fn flat<W: Way>(branch: &[NodeWord], mem: &[u8]) -> Option<usize>
+    requires { flat_words branch.now ≡ true }
+    ensures { result ≡ answer (run W.order (prog branch.now) (seen W.order mem.now)) }
+{
+    let mut ns = branch;
+    let mut m = mem;
+    loop {
+        let Some((&w, rest)) = ns.split_first() else {
+            return Some(m.len());
+        };
+        ns = rest;
+        if kind(w) == JUMP {
+            let n = usize::from(first(w));
+            if m.len() < n {
+                return None;
+            }
+            m = W::without(m, n);
+        } else {
+            let Some((&b, left)) = W::next(m) else {
+                return None;
+            };
+            m = left;
+            if !word_passes(w, b) {
+                return None;
+            }
+        }
+    }
+}
+
+// What the first choice leaves of mem.
+#[cycle(branches_check_choices_jumps)]
+pub fn check<W: Way>(nodes: &[NodeWord], mem: &[u8]) -> Option<usize>
+    requires { Sound nodes.now }
+    ensures { result ≡ answer (run W.order (prog nodes.now) (seen W.order mem.now)) }
+{
+    let mut ns = nodes;
+    let mut m = mem;
+    loop {
+        let Some((&w, rest)) = ns.split_first() else {
+            return Some(m.len());
+        };
+        ns = rest;
+        if tests_byte(w) {
+            let Some((&b, left)) = W::next(m) else {
+                return None;
+            };
+            m = left;
+            if !word_passes(w, b) {
+                return None;
+            }
+        } else if kind(w) == JUMP {
+            let n = usize::from(first(w));
+            if m.len() < n {
+                return None;
+            }
+            m = W::without(m, n);
+        } else {
+            return choices::<W>(w, ns, m);
+        }
+    }
+}
+
+// A range, or alternatives with the range that directly follows them, before the rest.
+#[cycle(branches_check_choices_jumps)]
+fn choices<W: Way>(w: NodeWord, rest: &[NodeWord], mem: &[u8]) -> Option<usize>
+    requires { Sound (w ∷ rest.now) × ((kind_of w ≡ 4) ⊎ (kind_of w ≡ 6)) }
+    ensures { result ≡ answer (run W.order (prog (w ∷ rest.now)) (seen W.order mem.now)) }
+{
+    if kind(w) == JUMP_RANGE {
+        return jumps::<W>(rest, mem, first(w), second(w));
+    }
+    let size = usize::from(count(w));
+    let after = &rest[size..];
+    if let Some((&x, tail)) = after.split_first() {
+        if kind(x) == JUMP_RANGE {
+            return branches::<W>(&rest[..size], tail, mem, first(x), second(x));
+        }
+    }
+    branches::<W>(&rest[..size], after, mem, 0, 0)
+}
+
+// A range before the rest: the first of its lengths, of those that mem has room for, for which the rest fits.
+#[cycle(branches_check_choices_jumps)]
+fn jumps<W: Way>(rest: &[NodeWord], mem: &[u8], from: Field, to: Field) -> Option<usize>
+    requires { Sound rest.now }
+    ensures { result ≡ answer (run W.order (range from to ▹ prog rest.now) (seen W.order mem.now)) }
+{
+    let least = usize::from(from);
+    let most = usize::from(to).min(mem.len());
+    'lengths: {
+        for n in least..most + 1 {
+            let m = W::without(mem, W::length(least, most, n));
+            if let Some(left) = check::<W>(rest, m) {
+                break 'lengths Some(left);
+            }
+        }
+        None
+    }
+}
+
+// Alternatives, a range and the rest: the first branch and then the first length for which the rest fits.
+#[cycle(branches_check_choices_jumps)]
+fn branches<W: Way>(
+    alts: &[NodeWord],
+    rest: &[NodeWord],
+    mem: &[u8],
+    from: Field,
+    to: Field,
+) -> Option<usize>
+    requires { SoundBranches alts.now × Sound rest.now }
+    ensures { result ≡ answer (run W.order (alt (branches_of alts.now) ▹ range from to ▹ prog rest.now) (seen W.order mem.now)) }
+{
+    let least = usize::from(from);
+    let mut bs = alts;
+    let found = 'branches: loop {
+        let Some((&w, after)) = bs.split_first() else {
+            break 'branches None;
+        };
+        let size = usize::from(first(w));
+        if let Some(left) = flat::<W>(&after[..size], mem) {
+            let tail = W::without(mem, mem.len() - left);
+            let most = usize::from(to).min(tail.len());
+            for n in least..most + 1 {
+                let m = W::without(tail, W::length(least, most, n));
+                if let Some(end) = check::<W>(rest, m) {
+                    break 'branches Some(end);
+                }
+            }
+        }
+        bs = &after[size..];
+    };
+    found
+}
