@@ -1,16 +1,8 @@
 -- The doors' answers, case by case. Assumes nothing.
-use mathlib.Core.Path.{◌≡◌, refl, sym, ap, ◌∙◌}
-use mathlib.Core.Bool.{Bool, true, false, cond, ◌&&◌}
-use mathlib.Core.Option.{Option, none, some}
-use mathlib.Core.List.{List, [], ◌∷◌, reverse}
-use Prim.Native.Nat.{ℕ, suc, ◌+◌, ◌-◌, ◌≤◌, ◌<◌}
-use native.Mathlib.Omega.{arith}
-use lib.Dec.{leb}
-use lib.ListN.{length, drop, get_or, length-drop, length-reverse}
-use lib.Seq.{length-take-le}
-use mir.Syntax.{w8}
-use mir.Val.{Fits}
-use borrow.Author.Tests.{le-leb, lt-leb, leb-true}
+use Rattle.std.proofs.Common.{◌≡◌, refl, sym, ap, ◌∙◌, Bool, true, false, cond, ◌&&◌, List, [], ◌∷◌, reverse, ℕ, suc, ◌+◌, ◌-◌, ◌≤◌, ◌<◌, arith, leb, length, drop, get_or, length-drop, length-take-le, w8, Fits, le-leb, leb-true, Some, None, Result, Ok, Err, IsErrAnd, is_err, true≢false, Option as Found}
+use Rattle.std.proofs.Math.Option.{Option, none, some}
+use Rattle.std.proofs.Math.ListN.{length-reverse}
+use borrow.Author.Tests.{lt-leb}
 use Rattle.def_meaning.specs.Limits.{node_limit}
 use Rattle.def_meaning.specs.Values.{Bytes}
 use Rattle.def_meaning.specs.Choices.{short, long}
@@ -18,10 +10,11 @@ use Rattle.def_meaning.specs.Rows.{forward, backward}
 use Rattle.def_meaning.specs.Words.{prog, sound, Sound}
 use Rattle.def_meaning.proofs.WordSpans.{sound_words_lem}
 use Rattle.def_meaning.proofs.PartLaws.{from, to_end}
-use Rattle.steps.specs.declared.Found.TheVariants.{Left, Nothing}
 use Rattle.steps.specs.Steps.{answer}
 use Rattle.steps.proofs.Answers.{answer_some, answer_none, left_fits, left_part}
-use Rattle.checkdoors.specs.Doors.{found, no_match, refuses, window, refusal, end_at, start_at, forward_says, reverse_says, left_or, left_says, left_from, left_at, onward}
+use Rattle.base.specs.declared.Refusal.{Refusal}
+use Rattle.base.specs.Refusals.{number_of}
+use Rattle.checkdoors.specs.Doors.{check_said, why_not, found, no_match, refuses, window, refusal, end_at, start_at, forward_says, reverse_says, left_or, left_says, left_from, left_at, onward}
 
 -- what a slice of bytes holds is below 256, each by its type
 pub all_bytes : (hay : List ℕ) → ((i : ℕ) → Fits w8 (get_or hay i 0)) → Bytes hay
@@ -32,6 +25,20 @@ all_bytes (b ∷ hay) h = ((h 0).fits, all_bytes hay (λ i. h (suc i)))
 -- a place of the same block, so many bytes on
 pub lies_on : (block o k n : ℕ) → k ≡ o + n → ◌≡◌ {A = ℕ × ℕ} (block, k) (onward (block, o) n)
 lies_on block o k n e = ap (λ (x : ℕ). (block, x)) e
+
+-- what `?` makes of a refusal
+pub refused_says : (r : Result (Found ℕ) Refusal) (why : Refusal) → IsErrAnd r (λ x. x ≡ why) → check_said r ≡ refuses (number_of why) 0
+refused_says (Ok x) why h = absurd h
+refused_says (Err x) why h = ap (λ (y : Refusal). refuses (number_of y) 0) h
+
+-- what is known of the tests from whether they refuse
+pub no_error : (r : Result Unit Refusal) → is_err r ≡ false → none ≡ why_not r
+no_error (Ok u) h = refl
+no_error (Err x) h = absurd (true≢false h)
+
+pub some_error : (r : Result Unit Refusal) → is_err r ≡ true → (k : ℕ) × (some k ≡ why_not r)
+some_error (Ok u) h = absurd (true≢false (sym h))
+some_error (Err x) h = (number_of x, refl)
 
 -- the tests, in their order
 module _ (ws : List ℕ) (n s e : ℕ) where
@@ -111,7 +118,7 @@ module _ (ws hay : List ℕ) (s e : ℕ) where
     unfolding left_says
     left_checked = rw (sym h)
 
-    module _ (g : Nothing ≡ answer (forward (prog ws) (window hay s e))) where
+    module _ (g : None ≡ answer (forward (prog ws) (window hay s e))) where
       pub forward_none : no_match ≡ forward_says ws hay s e
       forward_none = sym (ap (end_at e) (answer_none (forward (prog ws) (window hay s e)) g)) ∙ forward_checked
 
@@ -122,7 +129,7 @@ module _ (ws hay : List ℕ) (s e : ℕ) where
       pub left_none : [] ≡ left_says ws hay s e
       left_none = sym (ap left_or (answer_none (forward (prog ws) (window hay s e)) g)) ∙ left_checked
 
-    module _ (k : ℕ) (g : Left k ≡ answer (forward (prog ws) (window hay s e))) where
+    module _ (k : ℕ) (g : Some k ≡ answer (forward (prog ws) (window hay s e))) where
       pub left_below : k ≤ length (window hay s e)
       left_below = left_fits short (prog ws) (window hay s e) k g
 
@@ -147,10 +154,10 @@ module _ (ws hay : List ℕ) (s e : ℕ) where
       pub left_found : from (length (window hay s e) - k) (window hay s e) ≡ left_says ws hay s e
       left_found = to_end (length (window hay s e) - k) (window hay s e) ∙ sym (ap left_or (left_part short (prog ws) (window hay s e) k g)) ∙ left_checked
 
-    pub reverse_none : Nothing ≡ answer (backward (prog ws) (window hay s e)) → no_match ≡ reverse_says ws hay s e
+    pub reverse_none : None ≡ answer (backward (prog ws) (window hay s e)) → no_match ≡ reverse_says ws hay s e
     reverse_none g = sym (ap (start_at s) (answer_none (backward (prog ws) (window hay s e)) g)) ∙ reverse_checked
 
-    module _ (k : ℕ) (g : Left k ≡ answer (backward (prog ws) (window hay s e))) where
+    module _ (k : ℕ) (g : Some k ≡ answer (backward (prog ws) (window hay s e))) where
       pub start_below : s + k ≤ e
       start_below =
           let f = fine ws (length hay) s e h in

@@ -1,15 +1,8 @@
 -- What is known of the doors of the checks. Assumes nothing.
-use mathlib.Core.Path.{◌≡◌, refl, sym, ap, ap₂, ◌∙◌}
-use mathlib.Core.Bool.{true}
-use mathlib.Core.Logic.{◌↔◌}
-use mathlib.Core.Option.{Option, none, some}
-use mathlib.Core.List.{List, [], ◌∷◌, reverse, reverse-reverse}
-use Prim.Native.Nat.{ℕ, zero, suc, ◌+◌, ◌-◌, ◌≤◌, ◌<◌}
-use native.Mathlib.Omega.{arith}
-use borrow.Author.Tests.{le-leb}
-use lib.ListN.{length, take, drop, get_or, length-take, length-drop, length-reverse}
-use lib.Seq.{ext_get_or, get_or-take, get_or-drop, drop-drop}
-use denote.Ref.{Bor}
+use Rattle.std.proofs.Common.{◌≡◌, refl, sym, ap, ap₂, ◌∙◌, true, ◌↔◌, List, [], ◌∷◌, reverse, ℕ, zero, suc, ◌+◌, ◌-◌, ◌≤◌, ◌<◌, arith, le-leb, length, take, drop, get_or, length-take, length-drop, ext_get_or, get_or-take, get_or-drop, drop-drop, Bor, Result, Ok, Err, Some, None, Option as Found}
+use Rattle.std.proofs.Math.Option.{Option, none, some}
+use Rattle.std.proofs.lemmas.List.{reverse-reverse}
+use Rattle.std.proofs.Math.ListN.{length-reverse}
 use Rattle.base.proofs.RefusalLaws.{number_one}
 use Rattle.def_meaning.specs.Choices.{short, long, Nowhere, FirstForward, FirstReverse}
 use Rattle.def_meaning.specs.Rows.{forward, backward}
@@ -18,29 +11,28 @@ use Rattle.def_meaning.proofs.FirstLaws as first
 use Rattle.def_meaning.proofs.WordSpans.{sound_length}
 use Rattle.steps.specs.Steps.{answer}
 use Rattle.steps.proofs.Answers.{left_fits, left_part}
-use Rattle.checkdoors.specs.declared.Answer.{Answer}
-use Rattle.checkdoors.specs.declared.Answer.TheVariants.{At, NoMatch, Refused}
+use Rattle.base.specs.declared.Refusal.{Refusal}
 use Rattle.checkdoors.specs.Doors.{found, no_match, check_said, window, refusal, unless, end_at, start_at, forward_says, reverse_says, left_or, unless_empty, left_says, left_from, left_at, Answered, HandsBack}
 use Rattle.checkdoors.proofs.DoorLaws.{fine, window_length, passed, forward_checked, reverse_checked, left_checked}
 
 -- an answer is known by what it says
-pub said_one : (r q : Answer) → check_said r ≡ check_said q → r ≡ q
-said_one (At n) (At m) e = let z : n ≡ m = cc in ap At z
-said_one (At n) NoMatch e = let z : ◌≡◌ {A = ℕ} 0 1 = cc in absurd (omega arith)
-said_one (At n) (Refused x) e = let z : ◌≡◌ {A = ℕ} 0 1 = cc in absurd (omega arith)
-said_one NoMatch (At m) e = let z : ◌≡◌ {A = ℕ} 0 1 = cc in absurd (omega arith)
-said_one NoMatch NoMatch e = refl
-said_one NoMatch (Refused x) e = let z : ◌≡◌ {A = ℕ} 0 1 = cc in absurd (omega arith)
-said_one (Refused x) (At m) e = let z : ◌≡◌ {A = ℕ} 0 1 = cc in absurd (omega arith)
-said_one (Refused x) NoMatch e = let z : ◌≡◌ {A = ℕ} 0 1 = cc in absurd (omega arith)
-said_one (Refused x) (Refused y) e = ap Refused (number_one x y (cc))
+pub said_one : (r q : Result (Found ℕ) Refusal) → check_said r ≡ check_said q → r ≡ q
+said_one (Ok (Some n)) (Ok (Some m)) e = let z : n ≡ m = cc in ap (λ (k : ℕ). Ok (Some k)) z
+said_one (Ok (Some n)) (Ok None) e = let z : ◌≡◌ {A = ℕ} 0 1 = cc in absurd (omega arith)
+said_one (Ok (Some n)) (Err x) e = let z : ◌≡◌ {A = ℕ} 0 1 = cc in absurd (omega arith)
+said_one (Ok None) (Ok (Some m)) e = let z : ◌≡◌ {A = ℕ} 0 1 = cc in absurd (omega arith)
+said_one (Ok None) (Ok None) e = refl
+said_one (Ok None) (Err x) e = let z : ◌≡◌ {A = ℕ} 0 1 = cc in absurd (omega arith)
+said_one (Err x) (Ok (Some m)) e = let z : ◌≡◌ {A = ℕ} 0 1 = cc in absurd (omega arith)
+said_one (Err x) (Ok None) e = let z : ◌≡◌ {A = ℕ} 0 1 = cc in absurd (omega arith)
+said_one (Err x) (Err y) e = ap Err (number_one x y (cc))
 
 -- so each door's promise leaves one outcome; what is lent to it is only read
 module _ (ws hay : List ℕ) (s e : ℕ) where
-  pub forward_one : (r q : Answer) → Answered (forward_says ws hay s e) hay r → Answered (forward_says ws hay s e) hay q → r ≡ q
+  pub forward_one : (r q : Result (Found ℕ) Refusal) → Answered (forward_says ws hay s e) hay r → Answered (forward_says ws hay s e) hay q → r ≡ q
   forward_one r q a b = said_one r q (a.says ∙ sym b.says)
 
-  pub reverse_one : (r q : Answer) → Answered (reverse_says ws hay s e) hay r → Answered (reverse_says ws hay s e) hay q → r ≡ q
+  pub reverse_one : (r q : Result (Found ℕ) Refusal) → Answered (reverse_says ws hay s e) hay r → Answered (reverse_says ws hay s e) hay q → r ≡ q
   reverse_one r q a b = said_one r q (a.says ∙ sym b.says)
 
 -- the part that the second door hands back is one: there are no two with these bytes at this place

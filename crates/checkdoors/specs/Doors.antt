@@ -1,17 +1,14 @@
 -- What the doors of the checks answer, in 01's words. Assumes nothing: these are definitions.
 -- To be believed: `CheckSaid` `check_said` `window` `Answered` `onward` `HandsBack`.
-use Rattle.std.specs.Prelude.{◌≡◌, cond, ◌&&◌, List, [], ℕ, ◌+◌, ◌-◌, leb, length, take, drop}
+use Rattle.std.specs.Prelude.{◌≡◌, cond, ◌&&◌, List, [], ℕ, ◌+◌, ◌-◌, leb, length, take, drop, Option as Found, Some, None, Result, Ok, Err}
 use Rattle.std.proofs.Math.Option.{Option, none, some}
 use Rattle.std.specs.Borrow.{Bor}
+use Rattle.base.specs.declared.Refusal.{Refusal}
 use Rattle.base.specs.Refusals.{number_of}
 use Rattle.def_meaning.specs.Limits.{node_limit}
 use Rattle.def_meaning.specs.Values.{Bytes}
 use Rattle.def_meaning.specs.Rows.{forward, backward}
 use Rattle.def_meaning.specs.Words.{prog, sound}
-use Rattle.checkdoors.specs.declared.Answer.{Answer}
-use Rattle.checkdoors.specs.declared.Answer.TheVariants.{At, NoMatch, Refused}
-use Rattle.checkdoors.specs.declared.Admitted.{Admitted}
-use Rattle.checkdoors.specs.declared.Admitted.TheVariants.{Yes, No}
 
 -- 01's answers of a check: found at an offset, no match, refused under a number at a place (which is 0)
 pub data CheckSaid : Type 0 where
@@ -20,10 +17,10 @@ pub data CheckSaid : Type 0 where
   refuses : ℕ → ℕ → CheckSaid
 
 -- what each of the code's answers says
-abbrev pub check_said : Answer → CheckSaid
-check_said (At n) = found n
-check_said NoMatch = no_match
-check_said (Refused r) = refuses (number_of r) 0
+abbrev pub check_said : Result (Found ℕ) Refusal → CheckSaid
+check_said (Ok (Some n)) = found n
+check_said (Ok None) = no_match
+check_said (Err r) = refuses (number_of r) 0
 
 -- the part of the haystack inside the window
 abbrev pub window : List ℕ → ℕ → ℕ → List ℕ
@@ -33,9 +30,9 @@ window hay s e = take (e - s) (drop s hay)
 unfoldable pub refusal : List ℕ → ℕ → ℕ → ℕ → Option ℕ
 refusal ws n s e = cond (leb s e && leb e n) (cond (leb (length ws) node_limit) (cond (sound ws) none (some 15)) (some 13)) (some 16)
 
-abbrev pub why_not : Admitted → Option ℕ
-why_not Yes = none
-why_not (No r) = some (number_of r)
+abbrev pub why_not : Result Unit Refusal → Option ℕ
+why_not (Ok u) = none
+why_not (Err r) = some (number_of r)
 
 -- refused, or what the check says
 abbrev pub unless : Option ℕ → CheckSaid → CheckSaid
@@ -80,7 +77,7 @@ unfoldable pub left_at : List ℕ → List ℕ → ℕ → ℕ → ℕ
 left_at ws hay s e = left_from (forward_says ws hay s e)
 
 -- What the answer r of a check's door promises: it says o; and the haystack holds bytes, by its type.
-pub record Answered (o : CheckSaid) (hay : List ℕ) (r : Answer) : Type 0 where
+pub record Answered (o : CheckSaid) (hay : List ℕ) (r : Result (Found ℕ) Refusal) : Type 0 where
   pub says : check_said r ≡ o
   pub bytes : Bytes hay
 

@@ -8,70 +8,58 @@ ghost use Rattle.checkdoors.specs.Doors.{refusal, why_not, forward_says, reverse
 use base::{NODE_LIMIT, Refusal};
 use nodes::NodeWord;
 use sound::is_sound;
-use steps::Found;
 
-// Found at an offset of the haystack, no match, or refused.
-#[derive(Drop)]
-pub enum Answer {
-    At(usize),
-    NoMatch,
-    Refused(Refusal),
-}
-
-// Whether a check may run, or why not.
-#[derive(Drop)]
-pub enum Admitted {
-    Yes,
-    No(Refusal),
-}
-
-// 16, then 13, then 15, as 01 orders the tests of a check; `len` is the haystack's length.
-fn admit(words: &[NodeWord], len: usize, start: usize, end: usize) -> Admitted
+// Whether a check may run, or why not: 16, then 13, then 15, as 01 orders the tests of a check; `len` is the haystack's length.
+fn admit(words: &[NodeWord], len: usize, start: usize, end: usize) -> Result<(), Refusal>
     ensures { why_not result ≡ refusal words.now len start end }
 {
     if end < start {
-        return Admitted::No(Refusal::BadWindow);
+        return Err(Refusal::BadWindow);
     }
     if len < end {
-        return Admitted::No(Refusal::BadWindow);
+        return Err(Refusal::BadWindow);
     }
     if NODE_LIMIT < words.len() {
-        return Admitted::No(Refusal::TooManyNodes);
+        return Err(Refusal::TooManyNodes);
     }
-    if is_sound(words) {
-        return Admitted::Yes;
+    if !is_sound(words) {
+        return Err(Refusal::Unsound);
     }
-    Admitted::No(Refusal::Unsound)
+    Ok(())
 }
 
-// The forward check of the window from start to end: the end of the first choice that fits at its start.
-pub fn forward(words: &[NodeWord], hay: &[u8], start: usize, end: usize) -> Answer
+// The forward check of the window from start to end: the end of the first choice that fits at its start, or None where none fits.
+pub fn forward(
+    words: &[NodeWord],
+    hay: &[u8],
+    start: usize,
+    end: usize,
+) -> Result<Option<usize>, Refusal>
     ensures { Answered (forward_says words.now hay.now start end) hay.now result }
 {
-    let test = admit(words, hay.len(), start, end);
-    if let Admitted::No(why) = test {
-        return Answer::Refused(why);
-    }
-    let Found::Left(left) = forward::check(words, &hay[start..end]) else {
-        return Answer::NoMatch;
+    admit(words, hay.len(), start, end)?;
+    let Some(left) = forward::check(words, &hay[start..end]) else {
+        return Ok(None);
     };
     let after = end - left;
-    Answer::At(after)
+    Ok(Some(after))
 }
 
-// The reverse check of the window from start to end: the start of the first choice that fits at its end.
-pub fn reverse(words: &[NodeWord], hay: &[u8], start: usize, end: usize) -> Answer
+// The reverse check of the window from start to end: the start of the first choice that fits at its end, or None where none fits.
+pub fn reverse(
+    words: &[NodeWord],
+    hay: &[u8],
+    start: usize,
+    end: usize,
+) -> Result<Option<usize>, Refusal>
     ensures { Answered (reverse_says words.now hay.now start end) hay.now result }
 {
-    let test = admit(words, hay.len(), start, end);
-    if let Admitted::No(why) = test {
-        return Answer::Refused(why);
-    }
-    let Found::Left(left) = reverse::check(words, &hay[start..end]) else {
-        return Answer::NoMatch;
+    admit(words, hay.len(), start, end)?;
+    let Some(left) = reverse::check(words, &hay[start..end]) else {
+        return Ok(None);
     };
     let at = start + left;
-    Answer::At(at)
+    Ok(Some(at))
 }
 
 // The second forward door: what the match leaves of the window, as the caller's own bytes.
@@ -83,12 +71,11 @@ pub fn left_forward<'n, 'h>(
 ) -> &'h [u8]
     ensures { HandsBack words.now hay.entry start end result }
 {
-    let test = admit(words, hay.len(), start, end);
-    if let Admitted::No(_) = test {
+    if admit(words, hay.len(), start, end).is_err() {
         return &hay[0..0]; // refused
     }
     let window = &hay[start..end];
-    let Found::Left(left) = forward::check(words, window) else {
+    let Some(left) = forward::check(words, window) else {
         return &hay[0..0]; // no match
     };
     let used = window.len() - left;

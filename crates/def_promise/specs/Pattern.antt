@@ -1,12 +1,12 @@
 -- What the checks are to say of a pattern, from its text to the bytes of a haystack. Assumes nothing: these are definitions.
 -- To be believed: all.
-use Rattle.std.specs.Prelude.{◌≡◌, ◌↔◌, List, ℕ, ◌≤◌, length, take}
+use Rattle.std.specs.Prelude.{◌≡◌, ◌↔◌, List, ℕ, ◌≤◌, length, take, Option, Result}
+use Rattle.base.specs.declared.Refusal.{Refusal}
 use Rattle.def_meaning.specs.Tokens.{Tokens, Spans}
 use Rattle.def_meaning.specs.Programs.{Prog}
 use Rattle.def_meaning.specs.Choices.{FirstForward, FirstReverse}
 use Rattle.def_grammar.specs.Grammar.{Derives}
 use Rattle.compiledoor.specs.Door.{forward_leaves, reverse_leaves}
-use Rattle.checkdoors.specs.declared.Answer.{Answer}
 use Rattle.checkdoors.specs.Doors.{CheckSaid, found, no_match, refuses, check_said, window, forward_says, reverse_says, Answered}
 use Rattle.def_meaning.specs.NodeWords.{SoundWords}
 
@@ -46,10 +46,10 @@ pub record AnswersReverse (spans : List ℕ → Type 0) (ws hay : List ℕ) (s e
 
 -- Whatever the doors of the checks answer to the words ws about a window inside its haystack, they answer for some spans.
 abbrev pub ForwardDoor : (List ℕ → Type 0) → List ℕ → Type 0
-ForwardDoor spans ws = (hay : List ℕ) (s e : ℕ) (r : Answer) → s ≤ e → e ≤ length hay → Answered (forward_says ws hay s e) hay r → AnswersForward spans ws hay s e (check_said r)
+ForwardDoor spans ws = (hay : List ℕ) (s e : ℕ) (r : Result (Option ℕ) Refusal) → s ≤ e → e ≤ length hay → Answered (forward_says ws hay s e) hay r → AnswersForward spans ws hay s e (check_said r)
 
 abbrev pub ReverseDoor : (List ℕ → Type 0) → List ℕ → Type 0
-ReverseDoor spans ws = (hay : List ℕ) (s e : ℕ) (r : Answer) → s ≤ e → e ≤ length hay → Answered (reverse_says ws hay s e) hay r → AnswersReverse spans ws hay s e (check_said r)
+ReverseDoor spans ws = (hay : List ℕ) (s e : ℕ) (r : Result (Option ℕ) Refusal) → s ≤ e → e ≤ length hay → Answered (reverse_says ws hay s e) hay r → AnswersReverse spans ws hay s e (check_said r)
 
 -- The text t, which was read up to an offset and compiled into the pools p and q: it is a pattern, and the forward door, asked with the first n words
 -- of its pool, answers for the spans of its tokens; the reverse door, asked with the first m words of the other, likewise.

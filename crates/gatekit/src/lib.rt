@@ -7,7 +7,6 @@ ghost use Rattle.std.specs.Io.{ReadsAtMost};
 ghost use Rattle.std.specs.Io.BufRead.{strip_last};
 
 use base::Refusal;
-use checkdoors::Answer;
 use digits::Nibble;
 use nodes::NodeWord;
 use std::io::Read;
@@ -49,11 +48,11 @@ pub fn refused<P: Print>(rt: &P, why: Refusal, place: usize) -> io::Result<()> {
 }
 
 // What a check answers, after a blank.
-pub fn found<P: Print>(rt: &P, r: Answer) -> io::Result<()> {
+pub fn found<P: Print>(rt: &P, r: Result<Option<usize>, Refusal>) -> io::Result<()> {
     match r {
-        Answer::At(n) => tell(rt, b" ", n as u64),
-        Answer::NoMatch => rt.write_all(b" no"),
-        Answer::Refused(why) => tell(rt, b" refused ", why.number() as u64),
+        Ok(Some(n)) => tell(rt, b" ", n as u64),
+        Ok(None) => rt.write_all(b" no"),
+        Err(why) => tell(rt, b" refused ", why.number() as u64),
     }
 }
 

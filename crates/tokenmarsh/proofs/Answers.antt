@@ -1,17 +1,14 @@
 -- A struct tells which answer it stands for: a refusal's number is not 0. Assumes nothing.
-use Rattle.std.proofs.Common.{Result, Ok, Err}
+use Rattle.std.proofs.Common.{Option, Some, None, Result, Ok, Err}
 use mathlib.Core.Path.{◌≡◌, refl, sym, ap, ap₂, ◌∙◌}
 use mathlib.Core.Bool.{true, false}
 use Prim.Native.Nat.{ℕ}
 use native.Mathlib.Omega.{arith}
 use lib.Dec.{eqb}
-use Rattle.std.specs.Prelude.{Result, Ok, Err}
 use Rattle.base.specs.declared.Refusal.{Refusal}
 use Rattle.base.specs.declared.Refused.{Refused}
 use Rattle.base.specs.Refusals.{number_of}
 use Rattle.base.proofs.RefusalLaws.{number_one, number_some}
-use Rattle.std.specs.Prelude.{Result, Ok, Err}
-use Rattle.base.specs.declared.Refused.{Refused}
 use Rattle.readdoor.specs.declared.Reading.{Reading}
 use Rattle.readdoor.specs.Door as readdoor
 use Rattle.compiledoor.specs.declared.Compiled.{Compiled}
@@ -19,8 +16,6 @@ use Rattle.compiledoor.specs.Door as compiledoor
 use Rattle.literaldoor.specs.declared.Picked.{Picked}
 use Rattle.literaldoor.specs.Door as literaldoor
 use Rattle.mirror.specs.MirrorDoor as mirrordoor
-use Rattle.checkdoors.specs.declared.Answer.{Answer}
-use Rattle.checkdoors.specs.declared.Answer.TheVariants as check
 use Rattle.checkdoors.specs.Doors as doors
 use Rattle.tokenmarsh.specs.declared.ReadResult.{ReadResult}
 use Rattle.tokenmarsh.specs.declared.CompileResult.{CompileResult}
@@ -79,13 +74,13 @@ mirror_tells (Ok n) (Err c) h = some_number c (ap (λ (r : MirrorResult). r.refu
 mirror_tells (Err c) (Ok m) h = some_number c (sym (ap (λ (r : MirrorResult). r.refusal) h))
 mirror_tells (Err c) (Err d) h = ap Err (number_one c d (ap (λ (r : MirrorResult). r.refusal) h))
 
-pub check_tells : (a b : Answer) → check_told (doors.check_said a) ≡ check_told (doors.check_said b) → a ≡ b
-check_tells (check.At n) (check.At m) h = ap check.At (ap (λ (r : CheckResult). r.offset) h)
-check_tells (check.At n) check.NoMatch h = absurd (let z : ◌≡◌ {A = ℕ} 1 0 = ap (λ (r : CheckResult). r.found) h in omega arith)
-check_tells (check.At n) (check.Refused c) h = some_number c (ap (λ (r : CheckResult). r.refusal) h)
-check_tells check.NoMatch (check.At m) h = absurd (let z : ◌≡◌ {A = ℕ} 0 1 = ap (λ (r : CheckResult). r.found) h in omega arith)
-check_tells check.NoMatch check.NoMatch h = refl
-check_tells check.NoMatch (check.Refused c) h = some_number c (ap (λ (r : CheckResult). r.refusal) h)
-check_tells (check.Refused c) (check.At m) h = some_number c (sym (ap (λ (r : CheckResult). r.refusal) h))
-check_tells (check.Refused c) check.NoMatch h = some_number c (sym (ap (λ (r : CheckResult). r.refusal) h))
-check_tells (check.Refused c) (check.Refused d) h = ap check.Refused (number_one c d (ap (λ (r : CheckResult). r.refusal) h))
+pub check_tells : (a b : Result (Option ℕ) Refusal) → check_told (doors.check_said a) ≡ check_told (doors.check_said b) → a ≡ b
+check_tells (Ok (Some n)) (Ok (Some m)) h = ap (λ (k : ℕ). Ok (Some k)) (ap (λ (r : CheckResult). r.offset) h)
+check_tells (Ok (Some n)) (Ok None) h = absurd (let z : ◌≡◌ {A = ℕ} 1 0 = ap (λ (r : CheckResult). r.found) h in omega arith)
+check_tells (Ok (Some n)) (Err c) h = some_number c (ap (λ (r : CheckResult). r.refusal) h)
+check_tells (Ok None) (Ok (Some m)) h = absurd (let z : ◌≡◌ {A = ℕ} 0 1 = ap (λ (r : CheckResult). r.found) h in omega arith)
+check_tells (Ok None) (Ok None) h = refl
+check_tells (Ok None) (Err c) h = some_number c (ap (λ (r : CheckResult). r.refusal) h)
+check_tells (Err c) (Ok (Some m)) h = some_number c (sym (ap (λ (r : CheckResult). r.refusal) h))
+check_tells (Err c) (Ok None) h = some_number c (sym (ap (λ (r : CheckResult). r.refusal) h))
+check_tells (Err c) (Err d) h = ap Err (number_one c d (ap (λ (r : CheckResult). r.refusal) h))

@@ -11,7 +11,7 @@ ghost use Rattle.literaldoor.specs.Door.{literals_says, bytes_left, lengths_left
 ghost use Rattle.readdoor.specs.Door.{read_says, read_leaves};
 ghost use Rattle.tokenmarsh.specs.Results.{read_told, compile_told, literals_told, mirror_told, check_told, tail_told};
 
-use checkdoors::Answer;
+use base::Refusal;
 use nodes::NodeWord;
 
 // major * 65536 + minor * 256 + patch, of 0.4.0: a caller compares it with its header's TM_VERSION, since structs, words and refusals may differ between versions.
@@ -165,21 +165,21 @@ pub struct CheckResult {
 }
 
 // A check's answer as a struct: what has no meaning is 0.
-fn told(r: Answer) -> CheckResult
+fn told(r: Result<Option<usize>, Refusal>) -> CheckResult
     ensures { result ≡ check_told (check_said r) }
 {
     match r {
-        Answer::At(n) => CheckResult {
+        Ok(Some(n)) => CheckResult {
             refusal: 0,
             found: 1,
             offset: n as u64,
         },
-        Answer::NoMatch => CheckResult {
+        Ok(None) => CheckResult {
             refusal: 0,
             found: 0,
             offset: 0,
         },
-        Answer::Refused(why) => CheckResult {
+        Err(why) => CheckResult {
             refusal: why.number(),
             found: 0,
             offset: 0,
@@ -228,22 +228,19 @@ pub extern "C" fn tm_tail(
 ) -> TailResult
     ensures { result ≡ tail_told end (forward_says program.now haystack.now start end) }
 {
-    let r = checkdoors::forward(program, haystack, start, end);
-    match r {
-        Answer::At(n) => {
-            let left = end - n;
-            TailResult {
-                offset: n as u64,
-                length: left as u64,
-            }
-        }
-        Answer::NoMatch => TailResult {
-            offset: 0,
-            length: 0,
-        },
-        Answer::Refused(_) => TailResult {
-            offset: 0,
-            length: 0,
-        },
+    let nothing = TailResult {
+        offset: 0,
+        length: 0,
+    };
+    let Ok(found) = checkdoors::forward(program, haystack, start, end) else {
+        return nothing;
+    };
+    let Some(n) = found else {
+        return nothing;
+    };
+    let left = end - n;
+    TailResult {
+        offset: n as u64,
+        length: left as u64,
     }
 }

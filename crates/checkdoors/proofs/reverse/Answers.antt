@@ -1,84 +1,36 @@
 -- `checkdoors::reverse` meets its contract. Assumes nothing.
-use mathlib.Core.Path.{sym, ap, ◌∙◌}
-use lib.ListN.{length}
-use Rattle.checkdoors.specs.Doors.{why_not}
+use Rattle.std.proofs.Common.{sym, ◌∙◌, length, arith}
 use Rattle.checkdoors.proofs.DoorLaws as law
-use native.Mathlib.Omega.{arith}
 use Rattle.checkdoors.proofs.reverse.Goals as goal
 
-pub returns-in-No : goal.returns-in-No
-returns-in-No c =
-    let W = c.args.words.now in
-    let H = c.args.hay.now in
-    let S = c.args.start in
-    let E = c.args.end in
-    record { says = law.reverse_refused W H S E _ (sym (ap why_not c.in-No.is) ∙ c.admit-test.ensures); bytes = law.all_bytes H c.shared_slice_known-2-1.given }
+pub returns-in_err-admit : goal.returns-in_err-admit
+returns-in_err-admit c =
+    let a = c.args in
+    record { says = law.refused_says c.from_residual.result _ c.from_residual.ensures.1 ∙ law.reverse_refused a.words.now a.hay.now a.start a.end _ c.in_err-admit.ensures; bytes = law.all_bytes a.hay.now c.type_inv.hay }
 
 pub slice_bounds-check-count : goal.slice_bounds-check-count
-slice_bounds-check-count c =
-    let W = c.args.words.now in
-    let H = c.args.hay.now in
-    let S = c.args.start in
-    let E = c.args.end in
-    let ok = sym (ap why_not c.in_default.is) ∙ c.admit-test.ensures in
-    let fine = law.fine W (length H) S E ok in
-    fine.ordered
+slice_bounds-check-count c = let a = c.args in (law.fine a.words.now (length a.hay.now) a.start a.end c.in_ok-admit.ensures).ordered
 
 pub slice_bounds-check-start : goal.slice_bounds-check-start
-slice_bounds-check-start c =
-    let W = c.args.words.now in
-    let H = c.args.hay.now in
-    let S = c.args.start in
-    let E = c.args.end in
-    let ok = sym (ap why_not c.in_default.is) ∙ c.admit-test.ensures in
-    let fine = law.fine W (length H) S E ok in
-    fine.ordered
+slice_bounds-check-start c = let a = c.args in (law.fine a.words.now (length a.hay.now) a.start a.end c.in_ok-admit.ensures).ordered
 
 pub slice_bounds-check-end : goal.slice_bounds-check-end
-slice_bounds-check-end c =
-    let W = c.args.words.now in
-    let H = c.args.hay.now in
-    let S = c.args.start in
-    let E = c.args.end in
-    let ok = sym (ap why_not c.in_default.is) ∙ c.admit-test.ensures in
-    let fine = law.fine W (length H) S E ok in
-    fine.inside
+slice_bounds-check-end c = let a = c.args in (law.fine a.words.now (length a.hay.now) a.start a.end c.in_ok-admit.ensures).inside
 
 pub check-requires : goal.check-requires
-check-requires c =
-    let W = c.args.words.now in
-    let H = c.args.hay.now in
-    let S = c.args.start in
-    let E = c.args.end in
-    let ok = sym (ap why_not c.in_default.is) ∙ c.admit-test.ensures in
-    let fine = law.fine W (length H) S E ok in
-    law.fine_sound fine
+check-requires c = let a = c.args in law.fine_sound (law.fine a.words.now (length a.hay.now) a.start a.end c.in_ok-admit.ensures)
 
-pub returns-in_default-check : goal.returns-in_default-check
-returns-in_default-check c =
-    let W = c.args.words.now in
-    let H = c.args.hay.now in
-    let S = c.args.start in
-    let E = c.args.end in
-    let ok = sym (ap why_not c.in_default.is) ∙ c.admit-test.ensures in
-    record { says = law.reverse_none W H S E ok (sym c.in_default-check.is ∙ c.check.ensures); bytes = law.all_bytes H c.shared_slice_known-2-1.given }
+pub returns-in_default : goal.returns-in_default
+returns-in_default c =
+    let a = c.args in
+    record { says = law.reverse_none a.words.now a.hay.now a.start a.end c.in_ok-admit.ensures (sym c.in_default.is ∙ c.check.ensures); bytes = law.all_bytes a.hay.now c.type_inv.hay }
 
 pub overflow_add-at : goal.overflow_add-at
 overflow_add-at c =
-    let W = c.args.words.now in
-    let H = c.args.hay.now in
-    let S = c.args.start in
-    let E = c.args.end in
-    let ok = sym (ap why_not c.in_default.is) ∙ c.admit-test.ensures in
-    let got = sym c.in-Left.is ∙ c.check.ensures in
-    let below = law.start_below W H S E ok _ got in omega arith
+    let a = c.args in
+    let below = law.start_below a.words.now a.hay.now a.start a.end c.in_ok-admit.ensures _ (sym c.in-Some.is ∙ c.check.ensures) in omega arith
 
 pub returns : goal.returns
 returns c =
-    let W = c.args.words.now in
-    let H = c.args.hay.now in
-    let S = c.args.start in
-    let E = c.args.end in
-    let ok = sym (ap why_not c.in_default.is) ∙ c.admit-test.ensures in
-    let got = sym c.in-Left.is ∙ c.check.ensures in
-    record { says = law.reverse_found W H S E ok _ got; bytes = law.all_bytes H c.shared_slice_known-2-1.given }
+    let a = c.args in
+    record { says = law.reverse_found a.words.now a.hay.now a.start a.end c.in_ok-admit.ensures _ (sym c.in-Some.is ∙ c.check.ensures); bytes = law.all_bytes a.hay.now c.type_inv.hay }
