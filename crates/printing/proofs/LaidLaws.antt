@@ -2,13 +2,14 @@
 use mathlib.Core.Path.{◌≡◌, refl, sym, ap, ◌∙◌}
 use mathlib.Core.Bool.{Bool, true, false}
 use mathlib.Core.List.{List, [], ◌∷◌, ◌++◌, append_assoc, append-nil, flat_map}
-use Prim.Native.Nat.{ℕ, suc, ◌+◌, ◌-◌, ◌≤◌, ◌<◌}
+use Prim.Native.Nat.{ℕ, suc, ◌+◌, ◌-◌, ◌≤◌, ◌<◌, min}
 use native.Mathlib.Omega.{arith}
 use native.Mathlib.Numerals.{add-one}
-use lib.ListN.{length, take, drop, set, get_or, length-append, length-set}
-use lib.Dec.{ltb}
-use borrow.Author.Tests.{ltb-true, ltb-false}
-use lib.Seq.{take_all, take-nil, take-suc-set, set_out, sets, sets-eq, take-suc}
+use lib.ListN.{length, take, drop, set, get_or, length-append, length-set, length-drop, drop_of_length-le}
+use lib.Dec.{ltb, leb}
+use borrow.Author.Tests.{ltb-true, ltb-false, leb-true, leb-false}
+use borrow.Rule.Slice.PartMut.{put_mid}
+use lib.Seq.{take_all, drop-drop, take-nil, take-suc-set, set_out, sets, sets-eq, take-suc}
 use Rattle.printing.specs.Laid.{laid, Put}
 
 pub length_laid : (bs p : List ℕ) (at : ℕ) → length (laid p at bs) ≡ length p
@@ -61,6 +62,25 @@ laid_cut (b ∷ bs) p at h k = go (ltb at (length p)) refl (λ l. laid_cut bs (s
         ∙ append_assoc (take at p) (b ∷ []) (take (length p - (at + 1)) bs)
         ∙ ap (λ (n : ℕ). take at p ++ take n (b ∷ bs)) (sym m)
 
+-- as many of them as there is room for, copied into their place
+pub laid_copied : (bs p new : List ℕ) (at n : ℕ) → at < length p → n ≡ min (length bs) (length p - at) → new ≡ take n bs → put_mid at (at + n - at) p new ≡ laid p at bs
+laid_copied bs p new at n l h e = go (leb (at + length bs) (length p)) refl
+  where
+    go : (t : Bool) → leb (at + length bs) (length p) ≡ t → put_mid at (at + n - at) p new ≡ laid p at bs
+    go true k =
+        let b : at + length bs ≤ length p = leb-true (at + length bs) (length p) k in
+        let m : at + n - at ≡ length bs = omega arith in
+        ap (λ (x : List ℕ). take at p ++ (x ++ drop (at + n - at) (drop at p))) (e ∙ take_all n bs (omega arith))
+        ∙ ap (λ (x : List ℕ). take at p ++ (bs ++ x)) (ap (λ (j : ℕ). drop j (drop at p)) m ∙ drop-drop (length bs) at p)
+        ∙ sym (laid_fits bs p at b)
+    go false k =
+        let b : length p < at + length bs = leb-false (at + length bs) (length p) k in
+        let m : n ≡ length p - at = omega arith in
+        let z : length (drop at p) ≤ at + n - at = rw (length-drop at p) (omega arith) in
+        ap (λ (x : List ℕ). take at p ++ (new ++ x)) (drop_of_length-le (drop at p) z)
+        ∙ ap (λ (x : List ℕ). take at p ++ x) (append-nil new ∙ e ∙ ap (λ (j : ℕ). take j bs) m)
+        ∙ sym (laid_cut bs p at (omega arith) (omega arith))
+
 -- writers, one after another
 pub put_none : (p : List ℕ) (at : ℕ) → Put p at [] at p
 unfolding laid
@@ -104,9 +124,3 @@ flat_map_more f s i h =
 
 pub put_each : (f : ℕ → List ℕ) (s : List ℕ) (i : ℕ) {p q t : List ℕ} {at m r : ℕ} → i < length s → Put p at (flat_map f (take i s)) m q → Put q m (f (get_or s i 0)) r t → Put p at (flat_map f (take (i + 1) s)) r t
 put_each f s i h a b = put_same (flat_map f (take (i + 1) s)) (put_then a b) (flat_map_more f s i h)
-
--- a list whose elements are written as they are
-pub flat_map_itself : (s : List ℕ) → flat_map (λ b. b ∷ []) s ≡ s
-unfolding flat_map
-flat_map_itself [] = refl
-flat_map_itself (b ∷ s) = ap (λ (x : List ℕ). b ∷ x) (flat_map_itself s)

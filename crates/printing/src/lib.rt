@@ -11,10 +11,9 @@ pub fn put_byte(out: &mut [u8], at: usize, b: u8) -> usize
     requires { at + 1 < 2 ^ 64 }
     ensures { Put out.old at (b ∷ []) result out.new }
 {
-    if out.len() <= at {
-        return at + 1;
+    if at < out.len() {
+        out[at] = b;
     }
-    out[at] = b;
     at + 1
 }
 
@@ -23,13 +22,11 @@ pub fn put_bytes(out: &mut [u8], at: usize, s: &[u8]) -> usize
     requires { at + length s.now < 2 ^ 64 }
     ensures { Put out.old at s.now result out.new }
 {
-    let mut k = at;
-    let mut i = 0;
-    while i < s.len() {
-        k = put_byte(out, k, s[i]);
-        i += 1;
+    if at < out.len() {
+        let n = s.len().min(out.len() - at);
+        out[at..at + n].copy_from_slice(&s[..n]);
     }
-    k
+    at + s.len()
 }
 
 // What a letter has more than the value for which it stands.
@@ -57,10 +54,8 @@ pub fn put_hexes(out: &mut [u8], at: usize, s: &[u8]) -> usize
     ensures { Put out.old at (flat_map hex_of s.now) result out.new }
 {
     let mut k = at;
-    let mut i = 0;
-    while i < s.len() {
-        k = put_hex(out, k, s[i]);
-        i += 1;
+    for b in s {
+        k = put_hex(out, k, *b);
     }
     k
 }

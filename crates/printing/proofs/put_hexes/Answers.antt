@@ -1,21 +1,27 @@
--- What is written so far is what the elements before `i` give. Assumes nothing.
-use mathlib.Core.Path.{sym}
+-- What is written so far is what the bytes so far give. Assumes nothing.
+use Rattle.std.proofs.Common.{◌≡◌, length, take, sym, arith}
 use mathlib.Core.List.{[], flat_map}
+use Rattle.std.proofs.Math.Seq.{length-take-le}
 use Rattle.printing.specs.Numbers.{hex_of}
 use Rattle.printing.proofs.LaidLaws.{put_none, put_same, put_each, flat_map_none}
-use native.Mathlib.Omega.{arith}
+use Rattle.printing.proofs.NumberLaws.{length_hexes}
 use Rattle.printing.proofs.put_hexes.Goals as goal
 
-pub loop-i-init : goal.loop-i-init
-loop-i-init c =
+pub loop-b-init : goal.loop-b-init
+loop-b-init c =
     let a = c.args in
-    (omega arith, omega arith, put_same (flat_map hex_of []) (put_none a.out.now a.at) (sym (flat_map_none hex_of)))
+    put_same (flat_map hex_of []) (put_none a.out.now a.at) (sym (flat_map_none hex_of))
 
-pub loop-i-preserved : goal.loop-i-preserved
-unfolding hex_of
-loop-i-preserved c =
-    let l = c.loop-i in
+pub put_hex-k-requires : goal.put_hex-k-requires
+put_hex-k-requires c =
+    let l = c.loop-b in
     let s = c.args.s.now in
-    let w = c.put_hex-k.ensures in
-    let m = w.next in
-    (omega arith, omega arith, put_each hex_of s l.i c.loop-i-test.true l.invariant.2 w)
+    let n = l.invariant.next in
+    let e = length_hexes (take l.b-index s) in
+    let m : length (take l.b-index s) ≡ l.b-index = length-take-le l.b-index s (omega arith) in
+    omega arith
+
+pub loop-b-preserved : goal.loop-b-preserved
+loop-b-preserved c =
+    let l = c.loop-b in
+    put_each hex_of c.args.s.now l.b-index c.loop-b-test.true l.invariant c.put_hex-k.ensures
