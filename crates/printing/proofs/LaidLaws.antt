@@ -1,15 +1,8 @@
 -- Laws of bytes laid into a buffer: one writer after another, and what the buffer holds in the end. Assumes nothing.
-use mathlib.Core.Path.{◌≡◌, refl, sym, ap, ◌∙◌}
-use mathlib.Core.Bool.{Bool, true, false}
-use mathlib.Core.List.{List, [], ◌∷◌, ◌++◌, append_assoc, append-nil, flat_map}
-use Prim.Native.Nat.{ℕ, suc, ◌+◌, ◌-◌, ◌≤◌, ◌<◌, min}
-use native.Mathlib.Omega.{arith}
-use native.Mathlib.Numerals.{add-one}
-use lib.ListN.{length, take, drop, set, get_or, length-append, length-set, length-drop, drop_of_length-le}
-use lib.Dec.{ltb, leb}
-use borrow.Author.Tests.{ltb-true, ltb-false, leb-true, leb-false}
+use Rattle.std.proofs.Common.{◌≡◌, refl, sym, ap, ◌∙◌, Bool, true, false, List, [], ◌∷◌, ◌++◌, append_assoc, append-nil, ℕ, suc, ◌+◌, ◌-◌, ◌≤◌, ◌<◌, min, arith, add-one, length, take, drop, set, get_or, length-append, length-set, length-drop, drop_of_length-le, ltb, leb, ltb-true, ltb-false, leb-true, leb-false, take_all, drop-drop, take-suc-set, take-suc}
+use mathlib.Core.List.{flat_map}
 use borrow.Rule.Slice.PartMut.{put_mid}
-use lib.Seq.{take_all, drop-drop, take-nil, take-suc-set, set_out, sets, sets-eq, take-suc}
+use Rattle.std.proofs.Math.Seq.{take-nil, set_out, sets, sets-eq}
 use Rattle.printing.specs.Laid.{laid, Put}
 
 pub length_laid : (bs p : List ℕ) (at : ℕ) → length (laid p at bs) ≡ length p

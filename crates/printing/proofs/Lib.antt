@@ -1,2 +1,3 @@
 pub mod LaidLaws
 pub mod NumberLaws
+pub mod WriterLaws

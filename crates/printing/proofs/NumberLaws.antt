@@ -1,15 +1,9 @@
 -- Laws of numbers as text: what the decimal digits say, and how many there are. Assumes nothing.
-use mathlib.Core.Path.{◌≡◌, refl, sym, ap, ◌∙◌}
-use mathlib.Core.Bool.{Bool, true, false}
-use mathlib.Core.List.{List, [], ◌∷◌, ◌++◌, flat_map}
+use Rattle.std.proofs.Common.{◌≡◌, refl, sym, ap, ◌∙◌, Bool, true, false, List, [], ◌∷◌, ◌++◌, ℕ, zero, suc, ◌+◌, ◌-◌, ◌*◌, ◌/◌, ◌%◌, ◌^◌, ◌≤◌, ◌<◌, arith, pow-suc, ltb, ltb-true, ltb-false, lt-ltb, le-ltb, length, take, get_or, length-append, get_or-take, take-suc, take_all, length-take-le}
+use mathlib.Core.List.{flat_map}
 use Prim.Native.Char.{code}
-use Prim.Native.Nat.{ℕ, zero, suc, ◌+◌, ◌-◌, ◌*◌, ◌/◌, ◌%◌, ◌^◌, ◌≤◌, ◌<◌}
-use native.Mathlib.Omega.{arith}
-use native.Mathlib.Nat.{pow-suc}
-use lib.Dec.{ltb}
-use borrow.Author.Tests.{ltb-true, ltb-false, lt-ltb, le-ltb}
-use lib.ListN.{length, take, get_or, length-append, get_or-append}
-use lib.Seq.{get_or_at, get_or-take, take-suc, take_all, length-take-le}
+use Rattle.std.proofs.Math.ListN.{get_or-append}
+use Rattle.std.proofs.Math.Seq.{get_or_at}
 use Rattle.printing.specs.Numbers.{digit, hex_of, digits_in, decimal_of, value_after, Decimal}
 
 one_digit_lem : (f n : ℕ) → n < 10 → digits_in (suc f) n ≡ digit n ∷ []

@@ -1,5 +1,5 @@
 -- Each way is a case of the definition. Assumes nothing.
-use borrow.Author.Tests.{lt-ltb, le-ltb}
+use Rattle.std.proofs.Common.{lt-ltb, le-ltb}
 use Rattle.printing.specs.Numbers.{digit}
 use Rattle.printing.proofs.digit_of.Goals as goal
 
