@@ -1,27 +1,12 @@
 -- Laws of the lines: how long a node's line can be, and the literals taken one by one. Assumes nothing.
-use mathlib.Core.Path.{◌≡◌, refl, sym, ap, ◌∙◌}
-use mathlib.Core.Bool.{Bool, true, false, cond}
-use mathlib.Core.List.{List, [], ◌∷◌, ◌++◌, flat_map}
-use Prim.Native.Nat.{ℕ, suc, ◌+◌, ◌-◌, ◌*◌, ◌^◌, ◌≤◌, ◌<◌, min}
-use native.Mathlib.Omega.{arith}
-use native.Mathlib.Numerals.{add-one}
-use lib.Dec.{eqb, leb}
-use borrow.Author.Tests.{leb-true, leb-false}
-use lib.ListN.{length, take, drop, get_or, length-append, length-drop, drop_of_length-le}
-use lib.Seq.{drop-cons, take_all, drop-drop}
+use Rattle.std.proofs.Common.{◌≡◌, refl, sym, ap, ◌∙◌, Bool, true, false, cond, List, [], ◌∷◌, ◌++◌, ℕ, suc, ◌+◌, ◌*◌, ◌^◌, ◌≤◌, ◌<◌, min, arith, add-one, eqb, leb, leb-true, leb-false, length, take, drop, get_or, length-append, drop_of_length-le, drop-cons, take_all}
+use mathlib.Core.List.{flat_map}
 use Rattle.def_meaning.specs.Words.{field_size, kind_of, first_of, second_of, Shape, shape_by, shape}
-use Rattle.nodes.specs.declared.Node.{Node}
-use Rattle.nodes.specs.Nodes.{shape_of}
 use Rattle.base.specs.Text.{ascii}
 use Rattle.printing.specs.Numbers.{hex_of, decimal_of}
 use Rattle.lines.specs.Listed.{line_limit}
 use Rattle.lines.specs.Lines.{blank, line_end, number_line, numbers_line, byte_line, mask_line, shape_line, node_line, literal_line, literal_lines, cut}
 use Rattle.printing.proofs.NumberLaws.{decimal_length, length_hexes}
-
--- the line of the node that was read from a word
-pub node_line_lem : (w : ℕ) (n m : Node) → shape_of n ≡ shape w → n ≡ m → shape_line (shape_of m) ≡ node_line w
-unfolding node_line
-node_line_lem w n m e g = ap (λ (x : Node). shape_line (shape_of x)) (sym g) ∙ ap shape_line e
 
 pub length_number : (name : List ℕ) (k n : ℕ) → n < 10 ^ suc k → length (number_line name n) ≤ length name + suc k + 1
 unfolding number_line
@@ -92,15 +77,14 @@ pub literals_none : (lens bs : List ℕ) (i : ℕ) → length lens ≤ i → lit
 unfolding literal_lines cut
 literals_none lens bs i h = rw (drop_of_length-le lens h)
 
--- the next literal, where so many are behind and they end at `from`
-pub literals_step : (lens bs : List ℕ) (i from n : ℕ) → i < length lens → n ≡ min (get_or lens i 0) (length bs - from) → literal_line (take (from + n - from) (drop from bs)) ++ literal_lines (cut (drop (i + 1) lens) (drop (from + n) bs)) ≡ literal_lines (cut (drop i lens) (drop from bs))
+-- the next literal of those that are left
+pub literals_step : (lens bs : List ℕ) (i n : ℕ) → i < length lens → n ≡ min (get_or lens i 0) (length bs) → literal_line (take n bs) ++ literal_lines (cut (drop (i + 1) lens) (drop n bs)) ≡ literal_lines (cut (drop i lens) bs)
 unfolding literal_lines cut
-literals_step lens bs i from n h e =
-    let m : from + n - from ≡ min (get_or lens i 0) (length (drop from bs)) = rw (length-drop from bs) (omega arith) in
-    let k : n ≡ min (get_or lens i 0) (length (drop from bs)) = rw (length-drop from bs) e in
-    let x : take (from + n - from) (drop from bs) ≡ take (get_or lens i 0) (drop from bs) = ap (λ (j : ℕ). take j (drop from bs)) m ∙ take_least (get_or lens i 0) (drop from bs) in
-    let y : drop (from + n) bs ≡ drop (get_or lens i 0) (drop from bs) = sym (drop-drop n from bs) ∙ ap (λ (j : ℕ). drop j (drop from bs)) k ∙ drop_least (get_or lens i 0) (drop from bs) in
-    let z : drop i lens ≡ get_or lens i 0 ∷ drop (i + 1) lens = drop-cons lens i 0 h ∙ ap (λ (j : ℕ). get_or lens i 0 ∷ drop j lens) (sym (add-one i)) in
-    ap (λ (s : List ℕ). literal_line s ++ literal_lines (cut (drop (i + 1) lens) (drop (from + n) bs))) x
-    ∙ ap (λ (s : List ℕ). literal_line (take (get_or lens i 0) (drop from bs)) ++ literal_lines (cut (drop (i + 1) lens) s)) y
-    ∙ sym (ap (λ (s : List ℕ). literal_lines (cut s (drop from bs))) z)
+literals_step lens bs i n h e =
+    let k : ℕ = get_or lens i 0 in
+    let x : take n bs ≡ take k bs = ap (λ (j : ℕ). take j bs) e ∙ take_least k bs in
+    let y : drop n bs ≡ drop k bs = ap (λ (j : ℕ). drop j bs) e ∙ drop_least k bs in
+    let z : drop i lens ≡ k ∷ drop (i + 1) lens = drop-cons lens i 0 h ∙ ap (λ (j : ℕ). k ∷ drop j lens) (sym (add-one i)) in
+    ap (λ (s : List ℕ). literal_line s ++ literal_lines (cut (drop (i + 1) lens) (drop n bs))) x
+    ∙ ap (λ (s : List ℕ). literal_line (take k bs) ++ literal_lines (cut (drop (i + 1) lens) s)) y
+    ∙ sym (ap (λ (s : List ℕ). literal_lines (cut s bs)) z)

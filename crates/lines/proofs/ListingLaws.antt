@@ -1,15 +1,8 @@
 -- Laws of a whole listing: how long it can be, and the literals out of the picker's buffers. Assumes nothing.
-use mathlib.Core.Path.{◌≡◌, refl, ap, ◌∙◌}
-use mathlib.Core.Bool.{Bool, true, false}
-use mathlib.Core.List.{List, [], ◌∷◌, ◌++◌, map, append_assoc, flatten, flat_map}
-use Prim.Native.Nat.{ℕ, suc, ◌+◌, ◌*◌, ◌^◌, ◌≤◌, ◌<◌}
-use native.Mathlib.Omega.{arith}
-use lib.Dec.{leb}
-use borrow.Author.Tests.{leb-true}
-use lib.ListN.{length, take, drop, length-append}
-use lib.Seq.{take-append_seam, drop-append_seam}
-use Rattle.lines.specs.declared.Listed.{Listed}
-use Rattle.lines.specs.declared.Listed.TheVariants.{Wrote, NoRoom}
+use Rattle.std.proofs.Common.{Result, Ok, Err, ◌≡◌, refl, ap, ◌∙◌, Bool, true, false, List, [], ◌∷◌, ◌++◌, map, append_assoc, ℕ, suc, ◌+◌, ◌*◌, ◌^◌, ◌≤◌, ◌<◌, arith, leb, leb-true, length, take, drop, length-append}
+use mathlib.Core.List.{flatten, flat_map}
+use Rattle.std.proofs.Math.Seq.{take-append_seam, drop-append_seam}
+use Rattle.lines.specs.declared.NoRoom.{NoRoom}
 use Rattle.lines.specs.Listed.{line_limit, listed_of}
 use Rattle.base.specs.Text.{ascii}
 use Rattle.lines.specs.Lines.{number_line, node_line, numbers_line, program_lines, literal_line, literal_lines, literals_lines, cut, LiteralsGot, got, not_got, got_lines, literals_refused_line, refused_line, programs_lines, compiled, refused, listing}
@@ -26,7 +19,7 @@ cut_flatten (l ∷ ls) rest =
     ∙ ap (λ (x : List ℕ). l ∷ cut (map length ls) x) (drop-append_seam l (flatten ls ++ rest))
     ∙ ap (λ (x : List (List ℕ)). l ∷ x) (cut_flatten ls rest)
 
-length_nodes : (ws : List ℕ) → length (flat_map node_line ws) ≤ line_limit * length ws
+pub length_nodes : (ws : List ℕ) → length (flat_map node_line ws) ≤ line_limit * length ws
 unfolding flat_map
 length_nodes [] = omega arith
 length_nodes (w ∷ ws) =
@@ -83,9 +76,9 @@ refused_fits n place h k =
     omega arith
 
 -- what was written fits
-pub wrote_fits : (m room n : ℕ) (r : Listed) → r ≡ listed_of m room → r ≡ Wrote n → n ≤ room
+pub wrote_fits : (m room n : ℕ) (r : Result ℕ NoRoom) → r ≡ listed_of m room → r ≡ Ok n → n ≤ room
 wrote_fits m room n r e h = go (leb m room) refl
   where
     go : (t : Bool) → leb m room ≡ t → n ≤ room
-    go true g = let k : m ≤ room = leb-true m room g in let x : r ≡ Wrote m = rw g at e in let z : m ≡ n = cc in omega arith
-    go false g = let x : r ≡ NoRoom m = rw g at e in let z : ◌≡◌ {A = ℕ} 0 1 = cc in absurd (omega arith)
+    go true g = let k : m ≤ room = leb-true m room g in let x : r ≡ Ok m = rw g at e in let z : m ≡ n = cc in omega arith
+    go false g = let x : r ≡ Err (record { length = m }) = rw g at e in let z : ◌≡◌ {A = ℕ} 0 1 = cc in absurd (omega arith)

@@ -114,6 +114,3 @@ flat_map_more f s i h =
     ap (λ (x : List ℕ). flat_map f (take i s) ++ x) (sym (flat_map_one f (get_or s i 0)))
     ∙ sym (flat_map_append f (take i s) (get_or s i 0 ∷ []))
     ∙ ap (flat_map f) (sym (take-suc s i 0 h) ∙ ap (λ (n : ℕ). take n s) (sym (add-one i)))
-
-pub put_each : (f : ℕ → List ℕ) (s : List ℕ) (i : ℕ) {p q t : List ℕ} {at m r : ℕ} → i < length s → Put p at (flat_map f (take i s)) m q → Put q m (f (get_or s i 0)) r t → Put p at (flat_map f (take (i + 1) s)) r t
-put_each f s i h a b = put_same (flat_map f (take (i + 1) s)) (put_then a b) (flat_map_more f s i h)

@@ -1,14 +1,14 @@
--- What is written so far is what the elements before `i` give. Assumes nothing.
-use mathlib.Core.Path.{◌≡◌}
-use mathlib.Core.List.{List}
-use Prim.Native.Nat.{ℕ, ◌+◌, ◌*◌, ◌-◌, ◌≤◌}
-use lib.ListN.{length, drop}
-use Rattle.printing.specs.Laid.{Put}
+-- Once the literals that are left are written, all are. Assumes nothing.
+use Rattle.std.proofs.Common.{◌≡◌, ◌+◌, ◌*◌, ◌-◌, ◌≤◌, length, drop}
+use Rattle.printing.specs.declared.Writer.{Writer}
+use Rattle.printing.specs.Writing.{Writes}
 use Rattle.lines.specs.Lines.{literal_lines, cut}
 use Rattle.lines.proofs.put_each_literal.Given as goal
 
-abbrev pub invariant-loop-i : goal.invariant-loop-i
-invariant-loop-i l = (l.i ≤ length l.lens) × (l.from ≤ length l.bytes) × (l.k ≡ l.at + 2 * l.from + l.i) × (length l.out ≡ length l.initial.out) × ((r : ℕ) (t : List ℕ) → Put l.out l.k (literal_lines (cut (drop l.i l.lens) (drop l.from l.bytes))) r t → Put l.initial.out l.at (literal_lines (cut l.lens l.bytes)) r t)
-
-abbrev pub decreases-loop-i : goal.decreases-loop-i
-decreases-loop-i l = length l.lens - l.i
+abbrev pub invariant-loop-n : goal.invariant-loop-n
+invariant-loop-n l =
+    record {
+      left : length l.rest ≤ length l.bytes;
+      place : l.w.at ≡ l.fn.w.at + 2 * (length l.bytes - length l.rest) + l.n-index;
+      all : (t : Writer) → Writes l.w (literal_lines (cut (drop l.n-index l.lens) l.rest)) t → Writes l.fn.w (literal_lines (cut l.lens l.bytes)) t;
+    }

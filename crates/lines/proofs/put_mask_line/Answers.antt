@@ -1,21 +1,19 @@
--- One writer after another. Assumes nothing.
-use mathlib.Core.Path.{ap}
-use Prim.Native.Nat.{◌%◌}
+-- One run of bytes after another. Assumes nothing.
+use Rattle.std.proofs.Common.{◌%◌, ap, arith}
 use Rattle.def_meaning.specs.Words.{byte_size}
 use Rattle.printing.specs.Numbers.{hex_of}
 use Rattle.lines.specs.Lines.{mask_line}
-use Rattle.printing.proofs.LaidLaws.{put_same, put_three}
-use native.Mathlib.Omega.{arith}
+use Rattle.printing.proofs.WriterLaws.{writes_same, writes_three}
 use Rattle.lines.proofs.put_mask_line.Goals as goal
 
 pub put_byte_line-requires : goal.put_byte_line-requires
 unfolding hex_of
 put_byte_line-requires c =
-    let m = c.put_bytes-named.ensures.next in
-    let k = c.put_hex-told.ensures.next in
+    let m = c.put_bytes.ensures.put.next in
+    let k = c.put_hex.ensures.put.next in
     omega arith
 
 pub returns : goal.returns
 unfolding mask_line
 returns c =
-    put_three c.put_bytes-named.ensures (put_same (hex_of (c.args.v % byte_size)) c.put_hex-told.ensures (ap hex_of c.byte_of.ensures)) c.put_byte_line.ensures
+    writes_three c.put_bytes.ensures (writes_same (hex_of (c.args.v % byte_size)) c.put_hex.ensures (ap hex_of c.byte_of.ensures)) c.put_byte_line.ensures

@@ -1,41 +1,40 @@
--- One writer after another. Assumes nothing.
-use Rattle.lines.specs.Lines.{node_line}
-use Rattle.printing.proofs.LaidLaws.{put_none, put_same}
-use Rattle.lines.proofs.LineLaws.{node_line_lem}
+-- The line is that of the node that the word says. Assumes nothing.
+use Rattle.std.proofs.Common.{ap}
+use Rattle.lines.specs.Lines.{shape_line, node_line}
+use Rattle.printing.proofs.WriterLaws.{writes_none, writes_same}
 use Rattle.lines.proofs.put_node.Goals as goal
 
-pub returns-in-One : goal.returns-in-One
-returns-in-One c =
-    let a = c.args in
-    let n = c.node_of-node in
-    put_same (node_line a.w) c.put_test.ensures (node_line_lem a.w n.result _ n.ensures c.in-One.is)
+pub returns-in-Some-One : goal.returns-in-Some-One
+unfolding node_line
+returns-in-Some-One c =
+    let arm = c.in-Some-One in
+    writes_same (node_line c.args.word) c.put_test.ensures (ap shape_line (rw arm.field-0-is at arm.ensures))
 
-pub returns-in-Jump : goal.returns-in-Jump
-returns-in-Jump c =
-    let a = c.args in
-    let n = c.node_of-node in
-    put_same (node_line a.w) c.put_number_line.ensures (node_line_lem a.w n.result _ n.ensures c.in-Jump.is)
+pub returns-in-Some-Jump : goal.returns-in-Some-Jump
+unfolding node_line
+returns-in-Some-Jump c =
+    let arm = c.in-Some-Jump in
+    writes_same (node_line c.args.word) (rw c.from.ensures at c.put_number_line.ensures) (ap shape_line (rw arm.field-0-is at arm.ensures))
 
-pub returns-in-JumpRange : goal.returns-in-JumpRange
-returns-in-JumpRange c =
-    let a = c.args in
-    let n = c.node_of-node in
-    put_same (node_line a.w) c.put_numbers_line.ensures (node_line_lem a.w n.result _ n.ensures c.in-JumpRange.is)
+pub returns-in-Some-JumpRange : goal.returns-in-Some-JumpRange
+unfolding node_line
+returns-in-Some-JumpRange c =
+    let arm = c.in-Some-JumpRange in
+    writes_same (node_line c.args.word) (rw (c.from-in-Some-JumpRange.ensures, c.from-in-Some-JumpRange-2.ensures) at c.put_numbers_line.ensures) (ap shape_line (rw arm.field-0-is at arm.ensures))
 
-pub returns-in-Alternation : goal.returns-in-Alternation
-returns-in-Alternation c =
-    let a = c.args in
-    let n = c.node_of-node in
-    put_same (node_line a.w) c.put_number_line-in-Alternation.ensures (node_line_lem a.w n.result _ n.ensures c.in-Alternation.is)
+pub returns-in-Some-Alternation : goal.returns-in-Some-Alternation
+unfolding node_line
+returns-in-Some-Alternation c =
+    let arm = c.in-Some-Alternation in
+    writes_same (node_line c.args.word) (rw c.from-in-Some-Alternation.ensures at c.put_number_line-in-Some-Alternation.ensures) (ap shape_line (rw arm.field-0-is at arm.ensures))
 
-pub returns-in-AltBranch : goal.returns-in-AltBranch
-returns-in-AltBranch c =
-    let a = c.args in
-    let n = c.node_of-node in
-    put_same (node_line a.w) c.put_number_line-in-AltBranch.ensures (node_line_lem a.w n.result _ n.ensures c.in-AltBranch.is)
+pub returns-in-Some-AltBranch : goal.returns-in-Some-AltBranch
+unfolding node_line
+returns-in-Some-AltBranch c =
+    let arm = c.in-Some-AltBranch in
+    writes_same (node_line c.args.word) (rw c.from-in-Some-AltBranch.ensures at c.put_number_line-in-Some-AltBranch.ensures) (ap shape_line (rw arm.field-0-is at arm.ensures))
 
-pub returns-in-Bad : goal.returns-in-Bad
-returns-in-Bad c =
-    let a = c.args in
-    let n = c.node_of-node in
-    put_same (node_line a.w) (put_none a.out.now a.at) (node_line_lem a.w n.result _ n.ensures c.in-Bad.is)
+pub returns-in-None : goal.returns-in-None
+unfolding node_line
+returns-in-None c =
+    writes_same (node_line c.args.word) (writes_none c.args.w.now) (ap shape_line c.in-None.ensures)

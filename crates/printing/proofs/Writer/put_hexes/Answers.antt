@@ -24,4 +24,4 @@ put_hex-requires c =
 pub loop-b-preserved : goal.loop-b-preserved
 loop-b-preserved c =
     let l = c.loop-b in
-    writes_each hex_of c.args.s.now l.b-index c.loop-b-test.true l.invariant c.put_hex.ensures
+    writes_each [] hex_of c.args.s.now l.b-index c.loop-b-test.true l.invariant c.put_hex.ensures
