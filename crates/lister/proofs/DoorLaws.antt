@@ -1,20 +1,15 @@
 -- What the doors' answers mean for the listing. Assumes nothing.
-use mathlib.Core.Path.{◌≡◌, refl, sym, ap, ap₂, ◌∙◌}
-use mathlib.Core.Bool.{Bool, true, false, ◌&&◌}
-use mathlib.Core.List.{List, ◌++◌, map, flatten}
-use Prim.Native.Nat.{ℕ, ◌+◌, ◌-◌, ◌≤◌}
-use native.Mathlib.Omega.{arith}
-use lib.Dec.{leb}
-use borrow.Author.Tests.{leb-true}
-use lib.ListN.{length, take, drop, replicate, length-append, length-replicate, length-take, length-map}
-use lib.Seq.{take_at}
+use Rattle.std.proofs.Common.{◌≡◌, refl, sym, ap, ap₂, ◌∙◌, Bool, true, false, ◌&&◌, List, ◌++◌, map, ℕ, ◌+◌, ◌-◌, ◌≤◌, arith, leb, leb-true, length, take, drop, replicate, length-append, length-take, take_at}
+use mathlib.Core.List.{flatten}
+use Rattle.std.proofs.Math.ListN.{length-replicate, length-map}
 use Rattle.base.specs.Pools.{filled}
 use Rattle.def_reading.specs.Lists.{Verdict, accepted, rejected, reading}
 use Rattle.def_compiling.specs.Compile.{Compiled, compiled as programs, refused as uncompiled, compile}
 use Rattle.def_picking.specs.Candidates.{Picked, picked, unpicked, pick}
 use Rattle.def_meaning.specs.Limits.{node_pool}
 use Rattle.def_meaning.proofs.SoundLaws.{and_left}
-use Rattle.printing.specs.Laid.{Put}
+use Rattle.printing.specs.declared.Writer.{Writer}
+use Rattle.printing.specs.Writing.{Writes}
 use Rattle.lines.specs.Lines.{literals_lines, cut, refused_line, literals_refused_line, got, not_got, got_lines, compiled, refused, programs_lines, listing}
 use Rattle.lines.proofs.ListingLaws.{cut_flatten, programs_fit}
 use Rattle.base.specs.declared.Refusal.{Refusal}
@@ -151,24 +146,17 @@ unfolding made.compile_says
 refused_door t f r x a lf lr h e = says_refused (reading t) (number_of x.why) x.place (ap made.compile_said (sym h) ∙ (rw (lf, lr) at e))
 
 -- the parts that are handed to the writers
-pub taken_lines : {o : Verdict} {n rank : ℕ} {b l : List ℕ} → Taken o n rank b l → literals_lines rank (cut (take (n - 0) (drop 0 l)) b) ≡ got_lines (got_of o)
+pub taken_lines : {o : Verdict} {n rank : ℕ} {b l : List ℕ} → Taken o n rank b l → literals_lines rank (cut (take n l) b) ≡ got_lines (got_of o)
 unfolding got_lines
-taken_lines {o} {n} {rank} {b} {l} t =
-    let e : n - 0 ≡ n = omega arith in
-    ap (λ (x : ℕ). literals_lines rank (cut (take x l) b)) e ∙ sym (ap got_lines t.lists)
+taken_lines t = sym (ap got_lines t.lists)
 
 pub untaken_lines : (o : Verdict) (k : ℕ) → got_of o ≡ not_got k → literals_refused_line k ≡ got_lines (got_of o)
 unfolding got_lines
 untaken_lines o k e = sym (ap got_lines e)
 
-pub made_lines : (t : List ℕ) {n m : ℕ} {f r : List ℕ} → Made (reading t) n m f r → programs_lines (take (n - 0) (drop 0 f)) (take (m - 0) (drop 0 r)) ++ got_lines (got_of (reading t)) ≡ listing_of t
+pub made_lines : (t : List ℕ) {n m : ℕ} {f r : List ℕ} → Made (reading t) n m f r → programs_lines (take n f) (take m r) ++ got_lines (got_of (reading t)) ≡ listing_of t
 unfolding listing_of listing
-made_lines t {n} {m} {f} {r} d =
-    let e : n - 0 ≡ n = omega arith in
-    let h : m - 0 ≡ m = omega arith in
-    ap (λ (x : ℕ). programs_lines (take x f) (take (m - 0) r) ++ got_lines (got_of (reading t))) e
-    ∙ ap (λ (x : ℕ). programs_lines (take n f) (take x r) ++ got_lines (got_of (reading t))) h
-    ∙ sym (ap listing d.lists)
+made_lines t d = sym (ap listing d.lists)
 
 pub refused_lines : (t : List ℕ) (k place : ℕ) → contents (reading t) ≡ refused k place → refused_line k place ≡ listing_of t
 unfolding listing_of listing
@@ -181,18 +169,9 @@ zeros n = replicate n 0
 pub length_zeros : (n : ℕ) → length (zeros n) ≡ n
 length_zeros n = length-replicate n 0
 
-pub made_sizes : {o : Verdict} {n m : ℕ} {f r : List ℕ} → Made o n m f r → (length (take (n - 0) (drop 0 f)) ≤ node_pool) × (length (take (m - 0) (drop 0 r)) ≤ node_pool)
-made_sizes {o} {n} {m} {f} {r} d =
-    let a : n ≤ node_pool = d.forward_few in
-    let b : m ≤ node_pool = d.reverse_few in
-    (rw (length-take (n - 0) f) (omega arith), rw (length-take (m - 0) r) (omega arith))
-
 -- the lines of programs that small end early
-pub programs_end : {p q : List ℕ} (f r : List ℕ) {n : ℕ} → Put p 0 (programs_lines f r) n q → length f ≤ node_pool → length r ≤ node_pool → n ≤ 18456
-programs_end {p} {q} f r {n} w h k =
-    let l : length (programs_lines f r) ≤ 18456 = programs_fit f r h k in
-    let e : n ≡ 0 + length (programs_lines f r) = w.next in
+pub programs_end : {u v : Writer} (f r : List ℕ) (n m : ℕ) → Writes u (programs_lines (take n f) (take m r)) v → n ≤ node_pool → m ≤ node_pool → v.at ≤ u.at + 18456
+programs_end {u} {v} f r n m w h k =
+    let l : length (programs_lines (take n f) (take m r)) ≤ 18456 = programs_fit (take n f) (take m r) (rw (length-take n f) (omega arith)) (rw (length-take m r) (omega arith)) in
+    let e = w.put.next in
     omega arith
-
-pub taken_size : {o : Verdict} {n rank : ℕ} {b l : List ℕ} → Taken o n rank b l → length (take (n - 0) (drop 0 l)) ≤ lent_lengths
-taken_size {o} {n} {rank} {b} {l} t = let a : n ≤ lent_lengths = t.few in rw (length-take (n - 0) l) (omega arith)

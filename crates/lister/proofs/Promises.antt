@@ -1,12 +1,6 @@
 -- What listing promises: a single outcome, and that 86,016 bytes have room for the listing of every text. Assumes nothing.
-use mathlib.Core.Path.{◌≡◌, refl, sym, ap, ◌∙◌}
-use mathlib.Core.Bool.{Bool, true, false, cond, ◌&&◌}
-use mathlib.Core.List.{List, ◌++◌, flatten}
-use Prim.Native.Nat.{ℕ, ◌+◌, ◌^◌, ◌≤◌, ◌<◌}
-use native.Mathlib.Omega.{arith}
-use lib.Dec.{leb}
-use lib.ListN.{length, drop}
-use borrow.Author.Tests.{leb-true, le-leb}
+use Rattle.std.proofs.Common.{Result, Ok, Err, ◌≡◌, refl, sym, ap, ◌∙◌, Bool, true, false, cond, ◌&&◌, List, ◌++◌, ℕ, ◌+◌, ◌^◌, ◌≤◌, ◌<◌, arith, leb, length, drop, leb-true, le-leb}
+use mathlib.Core.List.{flatten}
 use Rattle.lister.specs.Listings.{listing_limit, lent_bytes, lent_lengths}
 use Rattle.base.specs.declared.Refusal.{Refusal}
 use Rattle.base.specs.declared.Refusal.TheVariants.{TextTooLong, Unexpected, NumberTooBig, JumpEmpty, JumpRangeInvalid, JumpAtBound, JumpUnboundedInAlternation, JumpTooBigInAlternation, CannotNegateMaskAll, HexStringTooDeep, TooManyTokens, NotSimple, TooManyNodes, BranchTooLong, Unsound, BadWindow, TooManyLiterals, NoRoom, NotPlain}
@@ -21,8 +15,7 @@ use Rattle.def_compiling.specs.Compiling.{forward_program, reverse_program, forw
 use Rattle.def_compiling.specs.Compile.{few, Compiled, compiled as programs, refused as uncompiled, compile}
 use Rattle.def_compiling.proofs.GivenLaws.{programs_tests}
 use Rattle.def_picking.specs.Candidates.{Picked, picked, unpicked, pick}
-use Rattle.lines.specs.declared.Listed.{Listed}
-use Rattle.lines.specs.declared.Listed.TheVariants.{Wrote, NoRoom as Short}
+use Rattle.lines.specs.declared.NoRoom.{NoRoom as Short}
 use Rattle.printing.specs.Laid.{laid}
 use Rattle.lines.specs.Listed.{listed_of}
 use Rattle.lines.specs.Lines.{got, not_got, listing}
@@ -105,19 +98,19 @@ listing_room t = go (reading t) refl
 -- ---- the door
 
 -- what the door states of a text, the lent bytes, its answer, and what it leaves
-abbrev pub Lists : List ℕ → List ℕ → Listed → List ℕ → Type 0
+abbrev pub Lists : List ℕ → List ℕ → Result ℕ Short → List ℕ → Type 0
 Lists t p r q = (r ≡ listed_of (length (listing_of t)) (length p)) × (q ≡ laid p 0 (listing_of t))
 
 -- this leaves one answer and one content
-pub list_single : (t p : List ℕ) (a b : Listed) (u v : List ℕ) → Lists t p a u → Lists t p b v → (a ≡ b) × (u ≡ v)
+pub list_single : (t p : List ℕ) (a b : Result ℕ Short) (u v : List ℕ) → Lists t p a u → Lists t p b v → (a ≡ b) × (u ≡ v)
 list_single t p a b u v h k = (h.0 ∙ sym k.0, h.1 ∙ sym k.1)
 
 -- and with 86,016 bytes lent, or more, the whole listing stands at their front
-pub list_whole : (t p : List ℕ) (r : Listed) (q : List ℕ) → listing_limit ≤ length p → Lists t p r q → (r ≡ Wrote (length (listing_of t))) × (q ≡ listing_of t ++ drop (length (listing_of t)) p)
+pub list_whole : (t p : List ℕ) (r : Result ℕ Short) (q : List ℕ) → listing_limit ≤ length p → Lists t p r q → (r ≡ Ok (length (listing_of t))) × (q ≡ listing_of t ++ drop (length (listing_of t)) p)
 list_whole t p r q h (a, b) =
     let l : length (listing_of t) ≤ listing_limit = listing_room t in
     let k : length (listing_of t) ≤ length p = omega arith in
-    (a ∙ ap (λ (x : Bool). cond x (Wrote (length (listing_of t))) (Short (length (listing_of t)))) (le-leb (length (listing_of t)) (length p) k), b ∙ laid_whole k)
+    (a ∙ ap (λ (x : Bool). cond x (Ok (length (listing_of t))) (Err (record { length = length (listing_of t) }))) (le-leb (length (listing_of t)) (length p) k), b ∙ laid_whole k)
   where
     laid_whole : length (listing_of t) ≤ length p → laid p 0 (listing_of t) ≡ listing_of t ++ drop (length (listing_of t)) p
     laid_whole k =
