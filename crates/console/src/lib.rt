@@ -7,7 +7,6 @@ ghost use Rattle.lister.specs.Listings.{listing_of, listing_limit};
 ghost use Rattle.console.specs.Inputs.{Within};
 
 use base::TEXT_LIMIT;
-use lines::Listed;
 use std::env::FillError;
 use std::fmt::{Display, Formatter};
 use std::io::{ErrorKind, Read, Write};
@@ -17,34 +16,28 @@ use std::{fmt, io};
 // Room for the listing of every text.
 const LISTING_LIMIT: usize = 86016;
 
-// How many bytes stand before the end of an input, or why a read of it failed.
-#[derive(Drop)]
-enum Input {
-    Bytes(usize),
-    Unreadable(io::Error),
-}
+const USAGE: &str =
+    "usage: listing < FILE (lists the pattern that FILE holds; takes no arguments)\n";
 
-// Reads until the buffer is full or the input ends. (Read::read_exact takes an input that ends before the buffer is full for an error.)
-fn fill<R: Read>(from: &mut R, buf: &mut [u8]) -> Input
+// Reads until the buffer is full or the input ends, and answers how many bytes stand before that. A reader gives as many at a time as it likes, so a
+// loop counts them. (Read::read_exact takes an input that ends before the buffer is full for an error.)
+fn fill<R: Read>(from: &mut R, buf: &mut [u8]) -> io::Result<usize>
     ensures { Within result (length buf.old) }
 {
     let mut done = 0;
     while done < buf.len() {
-        match from.read(&mut buf[done..]) {
-            Ok(0) => return Input::Bytes(done),
-            Ok(more) => done += more,
-            Err(why) => return Input::Unreadable(why),
+        match from.read(&mut buf[done..])? {
+            0 => break,
+            more => done += more,
         }
     }
-    Input::Bytes(done)
+    Ok(done)
 }
 
 // The words of the system, which the library ends with the error's number in brackets.
 fn words(said: &str) -> &str {
-    match said.split_once(" (os error ") {
-        Some((words, _)) => words,
-        None => said,
-    }
+    said.split_once(" (os error ")
+        .map_or(said, |(words, _)| words)
 }
 
 // Why a call of the system failed, in its words alone; whole, with the number, where they are longer than any system's or no text.
@@ -86,45 +79,36 @@ fn lay(text: &[u8], out: &mut [u8]) -> usize
     requires { listing_limit ≤ length out.old }
     ensures { (result ≤ listing_limit) × (take result out.new ≡ listing_of text.now) }
 {
-    let r = lister::list_pattern(text, out);
-    let Listed::Wrote(n) = r else {
-        return 0;
-    };
-    n
+    lister::list_pattern(text, out).unwrap()
 }
 
 // The listing of a text, written.
 pub fn show<W: Write, E: Eprint>(text: &[u8], to: &mut W, err: &E) {
     let mut out = [0u8; LISTING_LIMIT];
     let n = lay(text, &mut out);
-    write_out(to, &out[0..n], err);
+    write_out(to, &out[..n], err);
 }
 
 // The listing of what an input holds: one byte more than a text may have is read, so that a text that is too long shows.
 pub fn list<R: Read, W: Write, E: Eprint>(from: &mut R, to: &mut W, err: &E) {
     let mut text = [0u8; TEXT_LIMIT + 1];
     match fill(from, &mut text) {
-        Input::Bytes(n) => show(&text[0..n], to, err),
-        Input::Unreadable(why) => complain(err, "standard input cannot be read", why),
+        Ok(n) => show(&text[..n], to, err),
+        Err(why) => complain(err, "standard input cannot be read", why),
     }
 }
 
-// The line of usage: where it was asked for it is the program's output, else a complaint.
-fn explain<P: Print, E: Eprint>(is_asked: bool, rt: &P, err: &E) {
-    let usage = "usage: listing < FILE (lists the pattern that FILE holds; takes no arguments)\n";
-    if is_asked {
-        write_out(&mut io::writer(rt), usage.as_bytes(), err);
-    } else {
-        let _ = err.eprint(usage);
-    }
-}
-
-// The program. Whoever gives it an argument wants something else than a wait for standard input.
+// The program. Whoever gives it an argument wants something else than a wait for standard input: the line of usage, which is the program's output where
+// it was asked for, else a complaint.
 pub fn run<R: Env + io::Input + Print, E: Eprint>(rt: &R, err: &E) {
     let mut word = [0u8; 6];
     match rt.arg(1, &mut word) {
         Err(FillError::NotPresent) => list(&mut rt.reader(), &mut io::writer(rt), err),
-        Err(FillError::TooLong) => explain(false, rt, err),
-        Ok(n) => explain(&word[..n] == b"--help".as_slice(), rt, err),
+        Ok(n) if &word[..n] == b"--help".as_slice() => {
+            write_out(&mut io::writer(rt), USAGE.as_bytes(), err)
+        }
+        Ok(_) | Err(FillError::TooLong) => {
+            let _ = err.eprint(USAGE);
+        }
     }
 }

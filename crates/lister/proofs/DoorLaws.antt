@@ -12,7 +12,6 @@ use Rattle.printing.specs.declared.Writer.{Writer}
 use Rattle.printing.specs.Writing.{Writes}
 use Rattle.lines.specs.Lines.{literals_lines, cut, refused_line, literals_refused_line, got, not_got, got_lines, compiled, refused, programs_lines, listing}
 use Rattle.lines.proofs.ListingLaws.{cut_flatten, programs_fit}
-use Rattle.base.specs.declared.Refusal.{Refusal}
 use Rattle.base.specs.Refusals.{number_of}
 use Rattle.std.specs.Prelude.{Result, Ok, Err}
 use Rattle.base.specs.declared.Refused.{Refused}
