@@ -2,7 +2,7 @@
 #![tactic(auto)]
 
 ghost use Rattle.std.specs.Prelude.{◌≡◌, ◌++◌, ◌+◌, ◌*◌, ◌≤◌, length, drop, IfOk};
-ghost use Rattle.def_meaning.specs.Limits.{node_limit};
+ghost use Rattle.def_meaning.specs.Limits.{node_limit, node_pool};
 ghost use Rattle.def_meaning.specs.Tokens.{Tokens, Jump};
 ghost use Rattle.def_meaning.specs.Entries.{token_count, entries};
 ghost use Rattle.def_meaning.specs.Values.{Spelled};
@@ -143,15 +143,15 @@ fn make(
 // gives a word at most. They stand at the front of the pools, with zeros behind; a refusal leaves zeros alone.
 pub fn compile_tokens(
     tokens: &[u32],
-    forward: &mut [NodeWord; NODE_POOL],
-    reverse: &mut [NodeWord; NODE_POOL],
+    forward: &mut [NodeWord],
+    reverse: &mut [NodeWord],
 ) -> Result<Sizes, Refusal>
-    requires { Entered tokens.now }
+    requires { Entered tokens.now × (node_pool ≤ length forward.old) × (node_pool ≤ length reverse.old) }
     ensures { (ts : Tokens) → tokens.now ≡ entries ts → Spelled ts → Fills (compile ts) result
         forward.old forward.new reverse.old reverse.new }
 {
-    *forward = [0; NODE_POOL];
-    *reverse = [0; NODE_POOL];
+    forward[..NODE_POOL].fill(0);
+    reverse[..NODE_POOL].fill(0);
     let mut first = [0; ENTRY_LIMIT];
     let mut second = [0; ENTRY_LIMIT];
     let sizes = make(tokens, &mut first, &mut second)?;

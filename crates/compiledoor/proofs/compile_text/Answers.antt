@@ -30,7 +30,7 @@ slice_bounds-compile_tokens-end c =
 pub compile_tokens-requires : goal.compile_tokens-requires
 compile_tokens-requires c =
     let r = c.read in
-    (law.got c.args.text.now _ r.new.pool r.result r.ensures.0 r.ensures.1 (le_refl token_pool) c.in_ok-got.got c.in_ok-got.was).whole
+    ((law.got c.args.text.now _ r.new.pool r.result r.ensures.0 r.ensures.1 (le_refl token_pool) c.in_ok-got.got c.in_ok-got.was).whole, omega arith, omega arith)
 
 pub returns-in_err-sizes : goal.returns-in_err-sizes
 returns-in_err-sizes c =
