@@ -15,8 +15,7 @@ use Rattle.def_meaning.specs.NodeWords.{word}
 use Rattle.def_compiling.specs.ProgramWords.{opening, words_for, words_of, words_in}
 use Rattle.def_compiling.specs.Compiling.{jump_of, add}
 use Rattle.def_compiling.specs.Compile.{short_in, short_of}
-use Rattle.emit.specs.declared.Last.{Last}
-use Rattle.emit.specs.declared.Last.TheVariants.{Fixed}
+use Rattle.std.specs.Prelude.{Option, None}
 use Rattle.emit.specs.declared.Addend.{Addend}
 use Rattle.emit.specs.Items.{entry_item, addend_of, growing, last_of, put_count, put_last, put_out}
 use Rattle.emit.specs.Lists.{list_program, branches_at, FlatLists, alt_at, token_at, entry_at, item_count, item_last, item_out, size_at, Stands}
@@ -111,11 +110,11 @@ module _ (ws : List ℕ) (at : ℕ) where
         )
 
 -- the token, put
-abbrev pub Steps : List ℕ → ℕ → Last → Bool → Item → ℕ → Last → Bool → List ℕ → Type 0
+abbrev pub Steps : List ℕ → ℕ → Option ℕ → Bool → Item → ℕ → Option ℕ → Bool → List ℕ → Type 0
 Steps out n last long i count next longer now = (count ≡ item_count n last i) × (next ≡ item_last last i) × (longer ≡ (long || not (short_of i))) × (now ≡ item_out out n last i)
 
-module _ (out : List ℕ) (n : ℕ) (last : Last) (long : Bool) where
-  pub step_alt : (bs : Branches) (i : Item) (ys : List ℕ) (count : ℕ) (longs longer : Bool) → i ≡ alt bs → n ≤ length out → count ≡ length (words_for (alt bs)) → longs ≡ not (short_in bs) → longer ≡ (long || longs) → ys ≡ words_for (alt bs) ++ drop count (take (length out - n) (drop n out)) → Steps out n last long i (n + count) Fixed longer (put_mid n (length out - n) out ys)
+module _ (out : List ℕ) (n : ℕ) (last : Option ℕ) (long : Bool) where
+  pub step_alt : (bs : Branches) (i : Item) (ys : List ℕ) (count : ℕ) (longs longer : Bool) → i ≡ alt bs → n ≤ length out → count ≡ length (words_for (alt bs)) → longs ≡ not (short_in bs) → longer ≡ (long || longs) → ys ≡ words_for (alt bs) ++ drop count (take (length out - n) (drop n out)) → Steps out n last long i (n + count) None longer (put_mid n (length out - n) out ys)
   unfolding item_count item_last item_out short_of
   step_alt bs i ys count longs longer e r ec es el ey =
       let lit = words_for (alt bs) in
@@ -123,7 +122,7 @@ module _ (out : List ℕ) (n : ℕ) (last : Last) (long : Bool) where
       lent_rest (take n out) out lit out ys n (length-take-le n out r) (sym (take-append-drop n out)) (ey ∙ ap (λ (k : ℕ). lit ++ drop k (take (length out - n) (drop n out))) ec) in
       rw e (ap (λ (k : ℕ). n + k) ec, refl, el ∙ ap (λ (t : Bool). long || t) es, z ∙ append_assoc (take n out) lit (drop (n + length lit) out))
 
-  pub step_single : (i j : Item) (addend : Addend) (count : ℕ) (next : Last) (now : List ℕ) → i ≡ j → Single j → addend ≡ addend_of j → Puts out n last addend count next now → Steps out n last long i count next long now
+  pub step_single : (i j : Item) (addend : Addend) (count : ℕ) (next : Option ℕ) (now : List ℕ) → i ≡ j → Single j → addend ≡ addend_of j → Puts out n last addend count next now → Steps out n last long i count next long now
   unfolding item_count item_last item_out short_of
   step_single i j addend count next now e s f (x, y, z) = rw e (go j s (rw f at x) (rw f at y) (rw f at z))
     where
@@ -142,8 +141,8 @@ unfolding entry_at
 entry_addend_is ws at addend e = e
 
 -- a buffer that holds a program's words holds them with the item's
-module _ (p : Prog) (o out : List ℕ) (n : ℕ) (last : Last) (h : Holds p o out n last) where
-  alt_holds : (bs : Branches) → n ≤ length o → Holds (add p (alt bs)) o (take n out ++ (words_for (alt bs) ++ drop (n + length (words_for (alt bs))) out)) (n + length (words_for (alt bs))) Fixed
+module _ (p : Prog) (o out : List ℕ) (n : ℕ) (last : Option ℕ) (h : Holds p o out n last) where
+  alt_holds : (bs : Branches) → n ≤ length o → Holds (add p (alt bs)) o (take n out ++ (words_for (alt bs) ++ drop (n + length (words_for (alt bs))) out)) (n + length (words_for (alt bs))) None
   unfolding jump_of growing
   alt_holds bs r =
       let e : add p (alt bs) ≡ p ⧺ (alt bs ▹ end) = add_appends p (alt bs) refl in

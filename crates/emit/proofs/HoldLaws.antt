@@ -1,7 +1,7 @@
 -- A buffer that holds a program's words holds those of the program with one item more, after an addend is put. Assumes nothing.
 use mathlib.Core.Path.{◌≡◌, refl, sym, ap, ap₂, ◌∙◌}
 use mathlib.Core.Bool.{Bool, true, false, cond}
-use mathlib.Core.Option.{Option, none, some}
+use mathlib.Core.Option.{Option as Maybe, none, some}
 use mathlib.Core.List.{List, [], ◌∷◌, ◌++◌, append-nil, append_assoc}
 use Prim.Native.Nat.{ℕ, suc, ◌+◌, ◌*◌, ◌-◌, ◌%◌, ◌≤◌, ◌<◌}
 use native.Mathlib.Omega.{arith}
@@ -18,12 +18,11 @@ use Rattle.def_compiling.specs.ProgramWords.{words_for, words_of, nodes}
 use Rattle.def_compiling.specs.Compiling.{jump_of, pair_by, add}
 use Rattle.emit.specs.declared.Addend.{Addend}
 use Rattle.emit.specs.declared.Addend.TheVariants.{Word, Gap}
-use Rattle.emit.specs.declared.Last.{Last}
-use Rattle.emit.specs.declared.Last.TheVariants.{Grows, Fixed}
+use Rattle.std.specs.Prelude.{Option, Some, None}
 use Rattle.emit.specs.Items.{byte_in, mask_item, not_mask_item, jump_item, entry_item, addend_of, growing, last_of, Behind, put_count, put_last, put_out}
 
 -- the words of p stand at the front of what was o, there are n of them, and the last node is as told
-pub record Holds (p : Prog) (o out : List ℕ) (n : ℕ) (last : Last) : Type 0 where
+pub record Holds (p : Prog) (o out : List ℕ) (n : ℕ) (last : Option ℕ) : Type 0 where
   pub count : n ≡ nodes p
   pub tail : last ≡ last_of p
   pub front : out ≡ words_of p ++ drop n o
@@ -74,27 +73,27 @@ unfolding add ◌⧺◌ pair_by
 add_appends end j e = refl
 add_appends (i ▹ end) j e = go (jump_of i)
   where
-    go : (m : Option ℕ) → pair_by m (jump_of j) i j ≡ i ▹ j ▹ end
+    go : (m : Maybe ℕ) → pair_by m (jump_of j) i j ≡ i ▹ j ▹ end
     go none = refl
     go (some m) = rw e
 add_appends (i ▹ (k ▹ p)) j e = ap (λ (q : Prog). i ▹ q) (add_appends (k ▹ p) j e)
 
-add_fixed : (p : Prog) (m : ℕ) → last_of p ≡ Fixed → add p (jump m) ≡ p ⧺ (jump m ▹ end)
+add_fixed : (p : Prog) (m : ℕ) → last_of p ≡ None → add p (jump m) ≡ p ⧺ (jump m ▹ end)
 unfolding add ◌⧺◌ pair_by last_of growing jump_of
 add_fixed end m e = refl
 add_fixed (i ▹ end) m e = go (jump_of i) e
   where
-    go : (l : Option ℕ) → growing l ≡ Fixed → pair_by l (some m) i (jump m) ≡ i ▹ jump m ▹ end
+    go : (l : Maybe ℕ) → growing l ≡ None → pair_by l (some m) i (jump m) ≡ i ▹ jump m ▹ end
     go none f = refl
     go (some l) f = let z : ◌≡◌ {A = ℕ} 0 1 = cc in absurd (omega arith)
 add_fixed (i ▹ (k ▹ p)) m e = ap (λ (q : Prog). i ▹ q) (add_fixed (k ▹ p) m e)
 
-add_over : (p : Prog) (l m : ℕ) → last_of p ≡ Grows l → jump_limit < l + m → add p (jump m) ≡ p ⧺ (jump m ▹ end)
+add_over : (p : Prog) (l m : ℕ) → last_of p ≡ Some l → jump_limit < l + m → add p (jump m) ≡ p ⧺ (jump m ▹ end)
 unfolding add ◌⧺◌ pair_by last_of growing jump_of
 add_over end l m e h = let z : ◌≡◌ {A = ℕ} 0 1 = cc in absurd (omega arith)
 add_over (i ▹ end) l m e h = go (jump_of i) e
   where
-    go : (x : Option ℕ) → growing x ≡ Grows l → pair_by x (some m) i (jump m) ≡ i ▹ jump m ▹ end
+    go : (x : Maybe ℕ) → growing x ≡ Some l → pair_by x (some m) i (jump m) ≡ i ▹ jump m ▹ end
     go none f = refl
     go (some x) f = let z : x ≡ l = cc in rw (z, lt-leb (l + m) jump_limit h)
 add_over (i ▹ (k ▹ p)) l m e h = ap (λ (q : Prog). i ▹ q) (add_over (k ▹ p) l m e h)
@@ -103,14 +102,14 @@ add_over (i ▹ (k ▹ p)) l m e h = ap (λ (q : Prog). i ▹ q) (add_over (k �
 Grown : Prog → ℕ → ℕ → Type 0
 Grown p l m = (q : Prog) × (p ≡ q ⧺ (jump l ▹ end)) × (add p (jump m) ≡ q ⧺ (jump (l + m) ▹ end))
 
-a_jump : (i : Item) (l : ℕ) → growing (jump_of i) ≡ Grows l → i ≡ jump l
+a_jump : (i : Item) (l : ℕ) → growing (jump_of i) ≡ Some l → i ≡ jump l
 unfolding growing jump_of
 a_jump (one t) l e = let z : ◌≡◌ {A = ℕ} 0 1 = cc in absurd (omega arith)
 a_jump (jump n) l e = let z : n ≡ l = cc in ap jump z
 a_jump (range a b) l e = let z : ◌≡◌ {A = ℕ} 0 1 = cc in absurd (omega arith)
 a_jump (alt bs) l e = let z : ◌≡◌ {A = ℕ} 0 1 = cc in absurd (omega arith)
 
-add_grown : (p : Prog) (l m : ℕ) → last_of p ≡ Grows l → l + m ≤ jump_limit → Grown p l m
+add_grown : (p : Prog) (l m : ℕ) → last_of p ≡ Some l → l + m ≤ jump_limit → Grown p l m
 unfolding add ◌⧺◌ pair_by last_of jump_of Grown
 add_grown end l m e h = let z : ◌≡◌ {A = ℕ} 0 1 = cc in absurd (omega arith)
 add_grown (i ▹ end) l m e h = let j : i ≡ jump l = a_jump i l e in (end, ap (λ (x : Item). x ▹ end) j, rw (j, le-leb (l + m) jump_limit h))
@@ -118,7 +117,7 @@ add_grown (i ▹ (k ▹ p)) l m e h =
     let (q, f, g) = add_grown (k ▹ p) l m e h in
     (i ▹ q, ap (λ (x : Prog). i ▹ x) f, ap (λ (x : Prog). i ▹ x) g)
 
-grown_behind : (p : Prog) (n l : ℕ) → n ≡ nodes p → last_of p ≡ Grows l → 1 ≤ n
+grown_behind : (p : Prog) (n l : ℕ) → n ≡ nodes p → last_of p ≡ Some l → 1 ≤ n
 unfolding last_of words_of
 grown_behind end n l e f = let z : ◌≡◌ {A = ℕ} 0 1 = cc in absurd (omega arith)
 grown_behind (i ▹ p) n l e f = omega (arith, e, length-append (words_for i) (words_of p), some_word i)
@@ -129,7 +128,7 @@ grown_behind (i ▹ p) n l e f = omega (arith, e, length-append (words_for i) (w
     some_word (range a b) = omega arith
     some_word (alt bs) = omega arith
 
-module _ (p : Prog) (o out : List ℕ) (n : ℕ) (last : Last) (h : Holds p o out n last) where
+module _ (p : Prog) (o out : List ℕ) (n : ℕ) (last : Option ℕ) (h : Holds p o out n last) where
   room : n < length out → n < length o
   room r = let e = h.count in omega (arith, ap length h.front, length-append (words_of p) (drop n o), length-drop n o)
 
@@ -149,7 +148,7 @@ module _ (p : Prog) (o out : List ℕ) (n : ℕ) (last : Last) (h : Holds p o ou
       }
 
   -- a jump that grows
-  grown_holds : (l m : ℕ) → last ≡ Grows l → l + m ≤ jump_limit → Holds (add p (jump m)) o (set out (n - 1) (word 3 (l + m) 0)) n (Grows (l + m))
+  grown_holds : (l m : ℕ) → last ≡ Some l → l + m ≤ jump_limit → Holds (add p (jump m)) o (set out (n - 1) (word 3 (l + m) 0)) n (Some (l + m))
   unfolding Grown words_of growing jump_of
   grown_holds l m e b =
       let (q, f, g) = add_grown p l m (sym h.tail ∙ e) b in
@@ -171,16 +170,16 @@ module _ (p : Prog) (o out : List ℕ) (n : ℕ) (last : Last) (h : Holds p o ou
   unfolding Grown words_of
   holds_behind = go last h.tail
     where
-      go : (x : Last) → x ≡ last_of p → Behind n x
-      go Fixed e = tt
-      go (Grows l) e = grown_behind p n l h.count (sym e)
+      go : (x : Option ℕ) → x ≡ last_of p → Behind n x
+      go None e = tt
+      go (Some l) e = grown_behind p n l h.count (sym e)
 
-  put_jump : (m : ℕ) (x : Last) → x ≡ last → n < length out → Holds (add p (jump m)) o (put_out out n x (Gap m)) (put_count n x (Gap m)) (put_last x (Gap m))
+  put_jump : (m : ℕ) (x : Option ℕ) → x ≡ last → n < length out → Holds (add p (jump m)) o (put_out out n x (Gap m)) (put_count n x (Gap m)) (put_last x (Gap m))
   unfolding put_out put_count put_last words_of growing jump_of
-  put_jump m Fixed e r = append_holds (jump m) (word 3 m 0) (add_fixed p m (sym h.tail ∙ sym e)) refl r
-  put_jump m (Grows l) e r = go (leb (l + m) jump_limit) refl
+  put_jump m None e r = append_holds (jump m) (word 3 m 0) (add_fixed p m (sym h.tail ∙ sym e)) refl r
+  put_jump m (Some l) e r = go (leb (l + m) jump_limit) refl
     where
-      go : (t : Bool) → leb (l + m) jump_limit ≡ t → Holds (add p (jump m)) o (put_out out n (Grows l) (Gap m)) (put_count n (Grows l) (Gap m)) (put_last (Grows l) (Gap m))
+      go : (t : Bool) → leb (l + m) jump_limit ≡ t → Holds (add p (jump m)) o (put_out out n (Some l) (Gap m)) (put_count n (Some l) (Gap m)) (put_last (Some l) (Gap m))
       go true f = rw f (grown_holds l m (sym e) (leb-true (l + m) jump_limit f))
       go false f = rw f (append_holds (jump m) (word 3 m 0) (add_over p l m (sym h.tail ∙ sym e) (leb-false (l + m) jump_limit f)) refl r)
 
@@ -191,16 +190,16 @@ module _ (p : Prog) (o out : List ℕ) (n : ℕ) (last : Last) (h : Holds p o ou
   put_holds (range a b) s r = append_holds (range a b) (word 4 a b) (add_appends p (range a b) refl) refl r
   put_holds (alt bs) s r = absurd s
 
-pub put_count_le : (n : ℕ) (last : Last) (q : Addend) → put_count n last q ≤ n + 1
+pub put_count_le : (n : ℕ) (last : Option ℕ) (q : Addend) → put_count n last q ≤ n + 1
 unfolding put_count
 put_count_le n last (Word w) = omega arith
-put_count_le n Fixed (Gap m) = omega arith
-put_count_le n (Grows l) (Gap m) = go (leb (l + m) jump_limit)
+put_count_le n None (Gap m) = omega arith
+put_count_le n (Some l) (Gap m) = go (leb (l + m) jump_limit)
   where
     go : (t : Bool) → cond t n (n + 1) ≤ n + 1
     go true = omega arith
     go false = omega arith
 
-pub nothing_held : (o : List ℕ) → Holds end o o 0 Fixed
+pub nothing_held : (o : List ℕ) → Holds end o o 0 None
 unfolding words_of last_of
 nothing_held o = record { count = refl; tail = refl; front = refl }

@@ -12,8 +12,7 @@ use Rattle.def_meaning.specs.Programs.{Item, Prog, one, jump, range, alt, end, �
 use Rattle.def_compiling.specs.ProgramWords.{nodes}
 use Rattle.def_compiling.specs.Compiling.{jump_of, pair_by, add}
 use Rattle.def_compiling.specs.Compile.{short_of, short}
-use Rattle.emit.specs.declared.Last.{Last}
-use Rattle.emit.specs.declared.Last.TheVariants.{Fixed}
+use Rattle.std.specs.Prelude.{Option, None}
 use Rattle.emit.specs.Items.{place_of}
 use Rattle.emit.specs.Lists.{added_to, item_count, item_last, item_out, token_at, token_item, tokens_program, size_at, Outlined}
 use Rattle.emit.proofs.HoldLaws.{Holds, nothing_held}
@@ -42,17 +41,17 @@ short_add (i ▹ end) j = pair_short i j ∙ ap (λ (t : Bool). t && short_of j)
 short_add (i ▹ (k ▹ p)) j = ap (λ (t : Bool). short_of i && t) (short_add (k ▹ p) j) ∙ sym (and_assoc (short_of i) (short (k ▹ p)) (short_of j))
 
 -- k tokens are done
-pub record Done (b : Bool) (ws st o out : List ℕ) (n : ℕ) (last : Last) (long : Bool) (k : ℕ) : Type 0 where
+pub record Done (b : Bool) (ws st o out : List ℕ) (n : ℕ) (last : Option ℕ) (long : Bool) (k : ℕ) : Type 0 where
   pub sofar : k ≤ length st
   pub same : length out ≡ length o
   pub held : Holds (added_to (token_item b ws st) k) o out n last
   pub longs : long ≡ not (short (added_to (token_item b ws st) k))
 
-pub done_none : (b : Bool) (ws st o : List ℕ) → Done b ws st o o 0 Fixed false 0
+pub done_none : (b : Bool) (ws st o : List ℕ) → Done b ws st o o 0 None false 0
 unfolding added_to short
 done_none b ws st o = record { sofar = omega arith; same = refl; held = nothing_held o; longs = refl }
 
-module _ (b : Bool) (ws st o out : List ℕ) (n : ℕ) (last : Last) (long : Bool) (k : ℕ) (h : Done b ws st o out n last long k) where
+module _ (b : Bool) (ws st o out : List ℕ) (n : ℕ) (last : Option ℕ) (long : Bool) (k : ℕ) (h : Done b ws st o out n last long k) where
   pub done_all : length st ≤ k → (n ≡ nodes (tokens_program b ws st)) × (long ≡ not (short (tokens_program b ws st))) × Holds (tokens_program b ws st) o out n last
   unfolding tokens_program
   done_all l =
@@ -69,7 +68,7 @@ module _ (b : Bool) (ws st o out : List ℕ) (n : ℕ) (last : Last) (long : Boo
     unfolding token_item
     the_token = ap (token_at b ws) (sym e)
 
-    pub done_more : (count : ℕ) (next : Last) (longer : Bool) (now : List ℕ) → length now ≡ length out → Steps out n last long (token_at b ws at) count next longer now → Done b ws st o now count next longer (k + 1)
+    pub done_more : (count : ℕ) (next : Option ℕ) (longer : Bool) (now : List ℕ) → length now ≡ length out → Steps out n last long (token_at b ws at) count next longer now → Done b ws st o now count next longer (k + 1)
     unfolding added_to
     done_more count next longer now m q =
         let i = token_at b ws at in

@@ -8,8 +8,7 @@ use Rattle.def_meaning.specs.Programs.{Item, Prog, Branches, one, jump, range, a
 use Rattle.def_compiling.specs.ProgramWords.{words_for}
 use Rattle.def_compiling.specs.Compiling.{add}
 use Rattle.def_compiling.specs.Compile.{flat_branches, simple}
-use Rattle.emit.specs.declared.Last.{Last}
-use Rattle.emit.specs.declared.Last.TheVariants.{Fixed}
+use Rattle.std.specs.Prelude.{Option, None}
 use Rattle.emit.specs.Items.{entry_item, addend_of, place_of, put_count, put_last, put_out}
 
 -- the items f 0, f 1, .. added one by one, k of them
@@ -55,19 +54,19 @@ unfoldable pub tokens_program : Bool → List ℕ → List ℕ → Prog
 tokens_program b ws st = added_to (token_item b ws st) (length st)
 
 -- an item more after n words: the words then, the last node, and the buffer
-unfoldable pub item_count : ℕ → Last → Item → ℕ
+unfoldable pub item_count : ℕ → Option ℕ → Item → ℕ
 item_count n last (one t) = put_count n last (addend_of (one t))
 item_count n last (jump m) = put_count n last (addend_of (jump m))
 item_count n last (range a b) = put_count n last (addend_of (range a b))
 item_count n last (alt bs) = n + length (words_for (alt bs))
 
-unfoldable pub item_last : Last → Item → Last
+unfoldable pub item_last : Option ℕ → Item → Option ℕ
 item_last last (one t) = put_last last (addend_of (one t))
 item_last last (jump m) = put_last last (addend_of (jump m))
 item_last last (range a b) = put_last last (addend_of (range a b))
-item_last last (alt bs) = Fixed
+item_last last (alt bs) = None
 
-unfoldable pub item_out : List ℕ → ℕ → Last → Item → List ℕ
+unfoldable pub item_out : List ℕ → ℕ → Option ℕ → Item → List ℕ
 item_out out n last (one t) = put_out out n last (addend_of (one t))
 item_out out n last (jump m) = put_out out n last (addend_of (jump m))
 item_out out n last (range a b) = put_out out n last (addend_of (range a b))

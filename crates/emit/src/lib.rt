@@ -2,73 +2,63 @@
 // The words of one program, made from token entries, forwards or from every list read backwards.
 #![tactic(auto)]
 
-ghost use Rattle.std.specs.Prelude.{◌≡◌, true, not, ◌||◌, leb, ◌++◌, ◌+◌, ◌*◌, ◌-◌, ◌≤◌, ◌<◌, length, get_or, drop, set};
+ghost use Rattle.std.specs.Prelude.{◌≡◌, true, false, not, ◌||◌, leb, ◌++◌, ◌+◌, ◌*◌, ◌-◌, ◌≤◌, ◌<◌, Some, None, length, get_or, drop, set};
 ghost use Rattle.def_meaning.specs.Limits.{branch_limit, token_pool};
 ghost use Rattle.def_meaning.specs.Programs.{alt};
 ghost use Rattle.def_meaning.specs.NodeWords.{word};
+ghost use Rattle.nodes.specs.Nodes.{test_word};
 ghost use Rattle.def_compiling.specs.ProgramWords.{words_for, words_of, words_in, nodes};
-ghost use Rattle.emit.specs.declared.Last.TheVariants.{Grows};
-ghost use Rattle.emit.specs.declared.Addend.TheVariants.{Gap};
-ghost use Rattle.emit.specs.Items.{byte_in, entry_item, mask_item, not_mask_item, jump_item, addend_of, Behind, put_count, put_last, put_out, place_of};
+ghost use Rattle.emit.specs.declared.Addend.TheVariants.{Word, Gap};
+ghost use Rattle.emit.specs.Items.{byte_in, entry_item, half_of, jump_item, addend_of, Behind, grown_of, put_count, put_last, put_out, place_of};
 ghost use Rattle.def_compiling.specs.Compile.{short_in, short_of, short};
 ghost use Rattle.emit.specs.Lists.{list_program, branches_at, FlatLists, alt_at, token_at, item_count, item_last, item_out, size_at, Stands, tokens_program, Outlined};
 
-use base::{BRANCH_LIMIT, JUMP_LIMIT};
+use base::BRANCH_LIMIT;
 use nodes::{ByteTest, Field, Node, NodeWord, branch_word, field};
 
 // What a token of one entry adds: a node's word, or a jump, which may grow the last node.
-#[derive(Drop)]
+#[derive(Clone, Copy, Debug, PartialEq, Eq)]
 pub enum Addend {
     Word(NodeWord),
     Gap(Field),
 }
 
-// The last node of a list: a jump, and its length, or anything else.
-#[derive(Drop)]
-pub enum Last {
-    Grows(Field),
-    Fixed,
+impl From<ByteTest> for Addend {
+    ghost from_gives = { λ t addend. addend ≡ Word (test_word t) };
+
+    fn from(t: ByteTest) -> Self {
+        Self::Word(t.into())
+    }
 }
 
-// The words written so far, and the last node.
-#[derive(Drop)]
-pub struct Tail {
+// What is written of a program: how many words, the length of the last node where that is a jump, which may grow, and whether a branch is above
+// 255 nodes.
+#[derive(Clone, Copy, Debug, PartialEq, Eq)]
+pub struct Written {
     pub count: usize,
-    pub last: Last,
+    pub last: Option<Field>,
+    pub long: bool,
 }
 
-// `?X`, `X?` and `??`. The values that a text can spell are below 16: the remainder spares a requirement.
-fn mask_addend(a: u32, b: u32) -> Addend
-    ensures { result ≡ addend_of (mask_item a b) }
+// The value and the mask of `?X` and `X?`; `??` has none. The values that a text can spell are below 16: the remainder spares a requirement.
+#[tactic(auto, unfolding(crate::specs::Items::half_of))]
+fn half(a: u32, b: u32) -> Option<(Field, Field)>
+    ensures { result ≡ half_of a b }
 {
     let v = (a % 16) as Field;
-    if b == 0 {
-        return Addend::Word(NodeWord::from(ByteTest::Mask(v, 0x0F)));
+    match b {
+        0 => Some((v, 0x0F)),
+        1 => Some((16 * v, 0xF0)),
+        _ => None,
     }
-    if b == 1 {
-        return Addend::Word(NodeWord::from(ByteTest::Mask(16 * v, 0xF0)));
-    }
-    Addend::Gap(1)
 }
 
-fn not_mask_addend(a: u32, b: u32) -> Addend
-    ensures { result ≡ addend_of (not_mask_item a b) }
-{
-    let v = (a % 16) as Field;
-    if b == 0 {
-        return Addend::Word(NodeWord::from(ByteTest::NegatedMask(v, 0x0F)));
-    }
-    if b == 1 {
-        return Addend::Word(NodeWord::from(ByteTest::NegatedMask(16 * v, 0xF0)));
-    }
-    Addend::Word(NodeWord::from(ByteTest::NegatedMask(0, 0)))
-}
-
+#[tactic(auto, unfolding(crate::specs::Items::jump_item, crate::specs::Items::addend_of))]
 fn jump_addend(a: Field, b: Field) -> Addend
     ensures { result ≡ addend_of (jump_item a b) }
 {
     if a < b {
-        return Addend::Word(NodeWord::from(Node::JumpRange(a, b)));
+        return Addend::Word(Node::JumpRange(a, b).into());
     }
     Addend::Gap(a)
 }
@@ -80,80 +70,115 @@ fn byte_in(value: u32) -> Field
     (value % 256) as Field
 }
 
-// What a token of one entry adds, by its kind and its first two values.
+// What a token of one entry adds, by its kind and its first two values. Kinds stay numbers: entries are the words of a pool that 01 lends, and any
+// word may stand there.
+#[tactic(auto, unfolding(crate::specs::Items::entry_item, crate::specs::Items::mask_item, crate::specs::Items::not_mask_item, crate::specs::Items::half_of, crate::specs::Items::addend_of))]
 pub fn entry_addend(kind: u32, a: u32, b: u32) -> Addend
     ensures { result ≡ addend_of (entry_item kind a b) }
 {
-    let v = byte_in(a);
     match kind {
-        0 => Addend::Word(NodeWord::from(ByteTest::Byte(v))),
-        1 => Addend::Word(NodeWord::from(ByteTest::NegatedMask(v, 0xFF))),
-        2 => mask_addend(a, b),
-        3 => not_mask_addend(a, b),
+        0 => ByteTest::Byte(byte_in(a)).into(),
+        1 => ByteTest::NegatedMask(byte_in(a), 0xFF).into(),
+        2 => match half(a, b) {
+            Some((value, mask)) => ByteTest::Mask(value, mask).into(),
+            None => Addend::Gap(1),
+        },
+        3 => {
+            let (value, mask) = half(a, b).unwrap_or((0, 0));
+            ByteTest::NegatedMask(value, mask).into()
+        }
         _ => jump_addend(field(a), field(b)),
     }
 }
 
-// A jump at the end.
-fn append_jump(out: &mut [NodeWord], n: usize, len: Field) -> Tail
-    requires { n < length out.old }
-    ensures { (result.count ≡ n + 1) × (result.last ≡ Grows len) × (out.new ≡ set out.old n (word 3 len 0)) }
-{
-    out[n] = NodeWord::from(Node::Jump(len));
-    Tail {
-        count: n + 1,
-        last: Last::Grows(len),
-    }
-}
-
-// Adding a jump enlarges the last node if that is a jump and the sum is within the limit, else appends.
-fn add_jump(out: &mut [NodeWord], n: usize, last: Last, len: Field) -> Tail
-    requires { (n < length out.old) × Behind n last }
-    ensures { (result.count ≡ put_count n last (Gap len)) × (result.last ≡ put_last last (Gap len))
-        × (out.new ≡ put_out out.old n last (Gap len)) }
-{
-    let Last::Grows(old) = last else {
-        return append_jump(out, n, len);
-    };
-    let sum = old as u32 + len as u32;
-    if JUMP_LIMIT < sum {
-        return append_jump(out, n, len);
-    }
-    let at = n - 1;
-    out[at] = NodeWord::from(Node::Jump(sum as Field));
-    Tail {
-        count: n,
-        last: Last::Grows(sum as Field),
-    }
-}
-
-// One addend more after n words.
-fn add_one(out: &mut [NodeWord], n: usize, last: Last, addend: Addend) -> Tail
-    requires { (n < length out.old) × Behind n last }
-    ensures { (result.count ≡ put_count n last addend) × (result.last ≡ put_last last addend)
-        × (out.new ≡ put_out out.old n last addend) }
-{
-    match addend {
-        Addend::Word(w) => {
-            out[n] = w;
-            Tail {
-                count: n + 1,
-                last: Last::Fixed,
-            }
+impl Written {
+    fn nothing() -> Self
+        ensures { (result.count ≡ 0) × (result.last ≡ None) × (result.long ≡ false) }
+    {
+        Self {
+            count: 0,
+            last: None,
+            long: false,
         }
-        Addend::Gap(len) => add_jump(out, n, last, len),
+    }
+
+    // The length of the last node with so much more, if that is a jump and the sum is within the limit, which is the most that a field holds.
+    fn grown(self, len: Field) -> Option<Field>
+        ensures { result ≡ grown_of self.last len }
+    {
+        self.last?.checked_add(len)
+    }
+
+    // Adding a jump enlarges the last node where it may grow, else appends.
+    fn add_jump(self, out: &mut [NodeWord], len: Field) -> Self
+        requires { (self.count < length out.old) × Behind self.count self.last }
+        ensures { (result.count ≡ put_count self.count self.last (Gap len)) × (result.last ≡ put_last self.last (Gap len))
+            × (out.new ≡ put_out out.old self.count self.last (Gap len)) × (result.long ≡ self.long) }
+    {
+        if let Some(sum) = self.grown(len) {
+            out[self.count - 1] = Node::Jump(sum).into();
+            return Self {
+                last: Some(sum),
+                ..self
+            };
+        }
+        out[self.count] = Node::Jump(len).into();
+        Self {
+            count: self.count + 1,
+            last: Some(len),
+            ..self
+        }
+    }
+
+    // One addend more.
+    #[tactic(auto, unfolding(crate::specs::Items::put_count, crate::specs::Items::put_last, crate::specs::Items::put_out))]
+    fn add(self, out: &mut [NodeWord], addend: Addend) -> Self
+        requires { (self.count < length out.old) × Behind self.count self.last }
+        ensures { (result.count ≡ put_count self.count self.last addend) × (result.last ≡ put_last self.last addend)
+            × (out.new ≡ put_out out.old self.count self.last addend) × (result.long ≡ self.long) }
+    {
+        match addend {
+            Addend::Word(w) => {
+                out[self.count] = w;
+                Self {
+                    count: self.count + 1,
+                    last: None,
+                    ..self
+                }
+            }
+            Addend::Gap(len) => self.add_jump(out, len),
+        }
+    }
+
+    // The token at a place.
+    fn add_token(self, tokens: &[u32], at: usize, backwards: bool, out: &mut [NodeWord]) -> Self
+        requires { Stands tokens.now at × (length tokens.now ≤ token_pool)
+            × (4 * self.count + size_at tokens.now at ≤ 4 * length out.old) × Behind self.count self.last }
+        ensures { (result.count ≡ item_count self.count self.last (token_at backwards tokens.now at))
+            × (result.last ≡ item_last self.last (token_at backwards tokens.now at))
+            × (result.long ≡ (self.long || not (short_of (token_at backwards tokens.now at))))
+            × (out.new ≡ item_out out.old self.count self.last (token_at backwards tokens.now at)) }
+    {
+        let kind = tokens[at];
+        if kind == 5 {
+            let b = add_alternation(tokens, at, backwards, &mut out[self.count..]);
+            return Self {
+                count: self.count + b.count,
+                last: None,
+                long: self.long | b.long,
+            };
+        }
+        self.add(out, entry_addend(kind, tokens[at + 1], tokens[at + 2]))
     }
 }
 
-// Which of n tokens comes k-th.
+// Which of n tokens comes k-th. Which way is a flag, since a slice's iterator and its `rev` are two types, and the lists inside go the same way.
+#[tactic(auto, unfolding(crate::specs::Items::place_of))]
 fn place(backwards: bool, n: usize, k: usize) -> usize
     requires { k < n }
     ensures { (result ≡ place_of backwards n k) × (result < n) }
 {
-    if backwards {
-        return n - 1 - k;
-    }
-    k
+    if backwards { n - 1 - k } else { k }
 }
 
 // A list of tokens of one entry each, as a branch is: its words at the front of `out`, and their number.
@@ -163,34 +188,20 @@ pub fn add_list(entries: &[u32], backwards: bool, out: &mut [NodeWord]) -> usize
         × (out.new ≡ words_of (list_program backwards entries.now) ++ drop result out.old) }
 {
     let count = entries.len() / 4;
-    let mut n = 0;
-    let mut last = Last::Fixed;
-    let mut k = 0;
-    while k < count {
+    let mut written = Written::nothing();
+    for k in 0..count {
         let at = 4 * place(backwards, count, k);
         let addend = entry_addend(entries[at], entries[at + 1], entries[at + 2]);
-        let tail = add_one(out, n, last, addend);
-        n = tail.count;
-        last = tail.last;
-        k += 1;
+        written = written.add(out, addend);
     }
-    n
+    written.count
 }
 
-// The words of branches, and whether one of them is above 255 nodes.
-#[derive(Drop)]
+// The words of branches, and whether one of them is above 255 nodes. That is no error here: what is written is promised of such branches too.
+#[derive(Clone, Copy, Debug, PartialEq, Eq)]
 pub struct Branched {
     pub count: usize,
     pub long: bool,
-}
-
-fn longer(long: bool, n: usize) -> bool
-    ensures { result ≡ (long || not (leb n branch_limit)) }
-{
-    if BRANCH_LIMIT < n {
-        return true;
-    }
-    long
 }
 
 // Lists behind their marks: each is a branch, with its own mark before its nodes.
@@ -202,23 +213,17 @@ pub fn add_lists(entries: &[u32], lists: usize, backwards: bool, out: &mut [Node
 {
     let mut x = 0;
     let mut n = 0;
-    let mut l = 0;
     let mut long = false;
-    while l < lists {
-        let count = entries[x + 1] as usize;
+    for _l in 0..lists {
         let from = x + 4;
-        let to = from + 4 * count;
+        let to = from + 4 * (entries[x + 1] as usize);
         let m = add_list(&entries[from..to], backwards, &mut out[n + 1..]);
         out[n] = branch_word(m);
-        long = longer(long, m);
+        long |= BRANCH_LIMIT < m;
         n = n + 1 + m;
         x = to;
-        l += 1;
     }
-    Branched {
-        count: n,
-        long: long,
-    }
+    Branched { count: n, long }
 }
 
 // The alternatives at a place: their Alternation, and their branches behind it.
@@ -234,63 +239,11 @@ fn add_alternation(tokens: &[u32], at: usize, backwards: bool, out: &mut [NodeWo
     let to = from + 4 * (tokens[at + 2] as usize);
     let b = add_lists(&tokens[from..to], lists, backwards, &mut out[1..]);
     let count = b.count;
-    out[0] = NodeWord::from(Node::Alternation(count as Field));
+    out[0] = Node::Alternation(count as Field).into();
     Branched {
         count: count + 1,
         long: b.long,
     }
-}
-
-// The words written so far, the last node, and whether some branch is above 255 nodes.
-#[derive(Drop)]
-pub struct Step {
-    pub count: usize,
-    pub last: Last,
-    pub long: bool,
-}
-
-// The token at a place, after n words.
-fn add_token(
-    tokens: &[u32],
-    at: usize,
-    backwards: bool,
-    out: &mut [NodeWord],
-    n: usize,
-    last: Last,
-    long: bool,
-) -> Step
-    requires { Stands tokens.now at × (length tokens.now ≤ token_pool) × (4 * n + size_at tokens.now at ≤ 4 * length out.old) × Behind n last }
-    ensures { (result.count ≡ item_count n last (token_at backwards tokens.now at))
-        × (result.last ≡ item_last last (token_at backwards tokens.now at))
-        × (result.long ≡ (long || not (short_of (token_at backwards tokens.now at))))
-        × (out.new ≡ item_out out.old n last (token_at backwards tokens.now at)) }
-{
-    let kind = tokens[at];
-    if kind == 5 {
-        let b = add_alternation(tokens, at, backwards, &mut out[n..]);
-        return Step {
-            count: n + b.count,
-            last: Last::Fixed,
-            long: either(long, b.long),
-        };
-    }
-    let addend = entry_addend(kind, tokens[at + 1], tokens[at + 2]);
-    let tail = add_one(out, n, last, addend);
-    let next = tail.last;
-    Step {
-        count: tail.count,
-        last: next,
-        long: long,
-    }
-}
-
-fn either(a: bool, b: bool) -> bool
-    ensures { result ≡ (a || b) }
-{
-    if a {
-        return true;
-    }
-    b
 }
 
 // The tokens of the outer list, which start at `starts`: their words at the front of `out`, and their number.
@@ -301,21 +254,13 @@ pub fn add_tokens(tokens: &[u32], starts: &[u16], backwards: bool, out: &mut [No
         × (out.new ≡ words_of (tokens_program backwards tokens.now starts.now) ++ drop result.count out.old) }
 {
     let count = starts.len();
-    let mut n = 0;
-    let mut last = Last::Fixed;
-    let mut long = false;
-    let mut k = 0;
-    while k < count {
-        let i = place(backwards, count, k);
-        let at = starts[i] as usize;
-        let step = add_token(tokens, at, backwards, out, n, last, long);
-        n = step.count;
-        last = step.last;
-        long = step.long;
-        k += 1;
+    let mut written = Written::nothing();
+    for k in 0..count {
+        let at = usize::from(starts[place(backwards, count, k)]);
+        written = written.add_token(tokens, at, backwards, out);
     }
     Branched {
-        count: n,
-        long: long,
+        count: written.count,
+        long: written.long,
     }
 }

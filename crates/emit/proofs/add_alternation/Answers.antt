@@ -1,7 +1,7 @@
 -- `emit::add_alternation` meets its contract. Assumes nothing.
 use Rattle.emit.proofs.AltLaws as law
 use lib.ListN.{length-take, length-drop}
-use native.Mathlib.Omega.{arith}
+use Rattle.std.proofs.Common.{arith}
 use Rattle.emit.proofs.add_alternation.Goals as goal
 
 pub bounds-tokens-at : goal.bounds-tokens-at
@@ -48,5 +48,5 @@ returns c =
     let f = law.alt_fits c.args.tokens.now c.args.at c.requires.0 c.requires.1 in
     let s = law.size_five c.args.tokens.now c.args.at c.requires.1 in
     let pre = c.requires in law.alternation c.args.tokens.now c.args.at c.requires.0 c.requires.1 c.args.backwards c.args.out.now
-    c.add_lists-b.new.out c.add_lists-b.result.count c.from.result c.add_lists-b.result.long (omega arith) c.add_lists-b.ensures.0 c.add_lists-b.ensures.1
-    c.add_lists-b.ensures.2 c.from.ensures
+    c.add_lists-b.new.out c.add_lists-b.result.count c.into.result c.add_lists-b.result.long (omega arith) c.add_lists-b.ensures.0 c.add_lists-b.ensures.1
+    c.add_lists-b.ensures.2 c.into.ensures

@@ -1,10 +1,6 @@
 -- `emit::add_lists` meets its contract. Assumes nothing.
 use Rattle.emit.proofs.BranchLaws as law
-use Prim.Native.Nat.{◌-◌}
 use Rattle.emit.proofs.add_lists.Given as goal
 
 abbrev pub invariant-loop-l : goal.invariant-loop-l
-invariant-loop-l l = law.Left l.backwards l.lists l.entries l.initial.out l.out l.x l.n l.l l.long
-
-abbrev pub decreases-loop-l : goal.decreases-loop-l
-decreases-loop-l l = l.lists - l.l
+invariant-loop-l l = law.Left l.backwards l.lists l.entries l.initial.out l.out l.x l.n l._l l.long
