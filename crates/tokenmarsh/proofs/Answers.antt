@@ -1,10 +1,5 @@
 -- A struct tells which answer it stands for: a refusal's number is not 0. Assumes nothing.
-use Rattle.std.proofs.Common.{Option, Some, None, Result, Ok, Err}
-use mathlib.Core.Path.{◌≡◌, refl, sym, ap, ap₂, ◌∙◌}
-use mathlib.Core.Bool.{true, false}
-use Prim.Native.Nat.{ℕ}
-use native.Mathlib.Omega.{arith}
-use lib.Dec.{eqb}
+use Rattle.std.proofs.Common.{Option, Some, None, Result, Ok, Err, ◌≡◌, refl, sym, ap, ap₂, ◌∙◌, true≢false, ℕ, arith, eqb}
 use Rattle.base.specs.declared.Refusal.{Refusal}
 use Rattle.base.specs.declared.Refused.{Refused}
 use Rattle.base.specs.Refusals.{number_of}
@@ -25,10 +20,7 @@ use Rattle.tokenmarsh.specs.declared.CheckResult.{CheckResult}
 use Rattle.tokenmarsh.specs.Results.{read_told, compile_told, literals_told, mirror_told, check_told}
 
 some_number : {A : Type 0} (why : Refusal) → 0 ≡ number_of why → A
-some_number {A} why e = absurd (apart (ap (λ (n : ℕ). eqb n 0) e ∙ number_some why))
-  where
-    apart : true ≡ false → ⊥
-    apart h = let z : ◌≡◌ {A = ℕ} 0 1 = cc in omega arith
+some_number {A} why e = absurd (true≢false (ap (λ (n : ℕ). eqb n 0) e ∙ number_some why))
 
 pub read_tells : (a b : Result Reading Refused) → read_told (readdoor.read_said a) ≡ read_told (readdoor.read_said b) → a ≡ b
 read_tells (Ok x) (Ok y) h = ap₂ readdoor.reads (ap (λ (r : ReadResult). r.reached) h) (ap (λ (r : ReadResult). r.words) h)

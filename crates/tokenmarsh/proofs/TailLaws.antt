@@ -1,10 +1,6 @@
 -- The part that tm_tail names is the one that the second forward door hands back. Assumes nothing.
-use mathlib.Core.Path.{◌≡◌, refl, sym, ap, ◌∙◌}
-use mathlib.Core.Option.{Option, none, some}
-use mathlib.Core.List.{List}
-use Prim.Native.Nat.{ℕ, ◌-◌, ◌≤◌}
-use native.Mathlib.Omega.{arith}
-use lib.ListN.{length}
+use Rattle.std.proofs.Common.{◌≡◌, refl, sym, ap, ◌∙◌, List, ℕ, ◌-◌, ◌≤◌, arith, length}
+use Rattle.std.proofs.Math.Option.{Option, none, some}
 use Rattle.def_meaning.specs.Rows.{forward}
 use Rattle.def_meaning.specs.Words.{prog}
 use Rattle.checkdoors.specs.Doors.{CheckSaid, found, no_match, refuses, window, refusal, unless, end_at, forward_says, left_says, left_from, left_at}
