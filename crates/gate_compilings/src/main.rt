@@ -13,37 +13,37 @@ fn left<P: Print>(rt: &P, name: &[u8], pool: &[NodeWord], used: usize) -> io::Re
     rt.write_all(b"\n")
 }
 
-// Compiles a text into pools of so many words.
-fn line<P: Print, const FORWARD: usize, const REVERSE: usize>(
+// Compiles a text into pools, and tells what is left in them.
+fn line<P: Print>(
     rt: &P,
     text: &[u8],
+    forward: &mut [NodeWord],
+    reverse: &mut [NodeWord],
 ) -> io::Result<()> {
-    let mut forward = [gatekit::OLD; FORWARD];
-    let mut reverse = [gatekit::OLD; REVERSE];
-    match compiledoor::compile(text, &mut forward, &mut reverse) {
+    match compiledoor::compile(text, forward, reverse) {
         Ok(made) => {
-            left(rt, b"forward ", &forward, made.forward)?;
-            left(rt, b"reverse ", &reverse, made.reverse)
+            left(rt, b"forward ", forward, made.forward)?;
+            left(rt, b"reverse ", reverse, made.reverse)
         }
         Err(refused) => {
             gatekit::refused(rt, refused.why, refused.place)?;
-            left(rt, b" forward ", &forward, 0)?;
-            left(rt, b" reverse ", &reverse, 0)
+            left(rt, b" forward ", forward, 0)?;
+            left(rt, b" reverse ", reverse, 0)
         }
     }
 }
 
-// The words that a call may write, and four beyond, which must stay; and a word less than a call wants.
-const LONG: usize = 516;
+// A pool of the words that a call may write and four beyond, which must stay; and one of a word less than a call wants.
+const LONG: [NodeWord; 516] = [gatekit::OLD; 516];
 
-const SHORT: usize = 511;
+const SHORT: [NodeWord; 511] = [gatekit::OLD; 511];
 
 fn main(rt: HostRuntime) -> io::Result<()> {
     let mut input = [0u8; 32768];
     let n = gatekit::read_full(&mut rt.reader(), &mut input)?;
     for text in input[..n].split_inclusive(|c| *c == b'\n') {
-        line::<_, LONG, LONG>(&rt, gatekit::without_end(text))?;
+        line(&rt, gatekit::without_end(text), &mut LONG, &mut LONG)?;
     }
-    line::<_, LONG, SHORT>(&rt, b"{ AB }")?;
-    line::<_, SHORT, LONG>(&rt, b"{ AG }")
+    line(&rt, b"{ AB }", &mut LONG, &mut SHORT)?;
+    line(&rt, b"{ AG }", &mut SHORT, &mut LONG)
 }
