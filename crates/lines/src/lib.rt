@@ -3,14 +3,12 @@
 
 ghost use Rattle.std.specs.Prelude.{◌≡◌, ◌+◌, ◌*◌, ◌%◌, length};
 ghost use mathlib.Core.List.{flat_map};
-ghost use Rattle.base.specs.Refusals.{number_of};
 ghost use Rattle.def_meaning.specs.Words.{byte_size};
 ghost use Rattle.nodes.specs.Nodes.{test_of};
 ghost use Rattle.printing.specs.Writing.{Room, Writes};
 ghost use Rattle.lines.specs.Lines.{number_line, numbers_line, byte_line, mask_line, test_line, node_line, program_lines, literal_line, literal_lines, literals_lines, cut, refused_line, literals_refused_line, programs_lines};
 ghost use Rattle.lines.specs.Listed.{line_limit, listed_of};
 
-use base::{Refusal, Refused};
 use nodes::{ByteTest, Field, Node, NodeWord, byte_of};
 use printing::Writer;
 
@@ -125,32 +123,28 @@ fn put_each_literal(w: &mut Writer<'_>, lens: &[u16], bytes: &[u8])
 }
 
 // The literals: their count, their rank, and their lines.
-pub fn put_literals(w: &mut Writer<'_>, rank: u32, lens: &[u16], bytes: &[u8])
+pub fn put_literals(w: &mut Writer<'_>, rank: usize, lens: &[u16], bytes: &[u8])
     requires { Room w.old (56 + length lens.now + 2 * length bytes.now) }
     ensures { Writes w.old (literals_lines rank (cut lens.now bytes.now)) w.new }
 {
-    // `as`: the library has no From<u32> for usize.
-    put_numbers_line(w, b"literals ", lens.len(), b" rank ", rank as usize);
+    put_numbers_line(w, b"literals ", lens.len(), b" rank ", rank);
     put_each_literal(w, lens, bytes);
 }
 
-// A refused text or compiling.
-pub fn put_refused(w: &mut Writer<'_>, refused: Refused)
+// A refused text or compiling. The number is no Refusal, since what may not change is the line that is promised for each number.
+pub fn put_refused(w: &mut Writer<'_>, number: usize, place: usize)
     requires { Room w.old 53 }
-    ensures { Writes w.old (refused_line (number_of refused.why) refused.place) w.new }
+    ensures { Writes w.old (refused_line number place) w.new }
 {
-    // `as`: the library has no From<u32> for usize.
-    let number = refused.why.number() as usize;
-    put_numbers_line(w, b"refused ", number, b" at ", refused.place);
+    put_numbers_line(w, b"refused ", number, b" at ", place);
 }
 
-// Refused literals.
-pub fn put_literals_refused(w: &mut Writer<'_>, why: Refusal)
+// Refused literals, by a number for the same reason.
+pub fn put_literals_refused(w: &mut Writer<'_>, number: usize)
     requires { Room w.old 38 }
-    ensures { Writes w.old (literals_refused_line (number_of why)) w.new }
+    ensures { Writes w.old (literals_refused_line number) w.new }
 {
-    // `as`: the library has no From<u32> for usize.
-    put_number_line(w, b"literals refused ", why.number() as usize);
+    put_number_line(w, b"literals refused ", number);
 }
 
 // Too little room for a listing, and how long it is.

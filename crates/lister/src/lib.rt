@@ -22,8 +22,8 @@ fn put_picked(w: &mut Writer<'_>, text: &[u8])
     let mut bytes = [0u8; LENT_BYTES];
     let mut lens = [0u16; LENT_LENGTHS];
     match literaldoor::literals(text, &mut bytes, &mut lens) {
-        Ok(picked) => lines::put_literals(w, picked.rank, &lens[..picked.count], &bytes),
-        Err(refused) => lines::put_literals_refused(w, refused.why),
+        Ok(picked) => lines::put_literals(w, picked.rank as usize, &lens[..picked.count], &bytes),
+        Err(refused) => lines::put_literals_refused(w, refused.why.number() as usize),
     }
 }
 
@@ -39,7 +39,7 @@ fn put_listing(w: &mut Writer<'_>, text: &[u8])
             lines::put_programs(w, &forward[..made.forward], &reverse[..made.reverse]);
             put_picked(w, text);
         }
-        Err(refused) => lines::put_refused(w, refused),
+        Err(refused) => lines::put_refused(w, refused.why.number() as usize, refused.place),
     }
 }
 

@@ -10,8 +10,8 @@ ghost use Rattle.printing.specs.Numbers.{digit, hex_of, decimal_of};
 // Lent bytes, and the place where the next byte goes.
 #[derive(Drop)]
 pub struct Writer<'a> {
-    out: &'a mut [u8],
-    at: usize,
+    pub out: &'a mut [u8],
+    pub at: usize,
 }
 
 // What a letter has more than the value for which it stands.

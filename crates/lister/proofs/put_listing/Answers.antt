@@ -1,8 +1,9 @@
 -- What the compiling door answers is what the definition compiles. Assumes nothing.
-use Rattle.std.proofs.Common.{◌∙◌, length-take, arith}
+use Rattle.std.proofs.Common.{ℕ, ap, ◌∙◌, length-take, arith}
 use Rattle.def_meaning.specs.Limits.{node_pool}
 use Rattle.base.specs.Refusals.{number_of}
 use Rattle.printing.proofs.WriterLaws.{writes_then, writes_same}
+use Rattle.lines.specs.Lines.{refused_line}
 use Rattle.lister.specs.Listings.{listing_of}
 use Rattle.lister.proofs.DoorLaws.{made_door, refused_door, made_lines, refused_lines, programs_end, zeros, length_zeros}
 use Rattle.lister.proofs.put_listing.Goals as goal
@@ -68,4 +69,4 @@ returns-in-Err c =
     let k = c.compile in
     let r = c.in-Err.refused in
     let e = refused_door a.text.now (zeros node_pool) (zeros node_pool) r k.result (length_zeros node_pool) (length_zeros node_pool) c.in-Err.is k.ensures.0 in
-    writes_same (listing_of a.text.now) c.put_refused.ensures (refused_lines a.text.now (number_of r.why) r.place e)
+    writes_same (listing_of a.text.now) c.put_refused.ensures (ap (λ (n : ℕ). refused_line n r.place) c.number.ensures ∙ refused_lines a.text.now (number_of r.why) r.place e)

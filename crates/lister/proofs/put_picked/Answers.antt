@@ -1,8 +1,8 @@
 -- What the picking door answers is what the definition picks. Assumes nothing.
-use Rattle.std.proofs.Common.{length-take, arith}
+use Rattle.std.proofs.Common.{ap, ◌∙◌, length-take, arith}
 use Rattle.base.specs.Refusals.{number_of}
 use Rattle.def_reading.specs.Lists.{reading}
-use Rattle.lines.specs.Lines.{got_lines}
+use Rattle.lines.specs.Lines.{got_lines, literals_refused_line}
 use Rattle.printing.proofs.WriterLaws.{writes_same}
 use Rattle.lister.specs.Listings.{got_of, lent_bytes, lent_lengths}
 use Rattle.lister.proofs.DoorLaws.{taken_door, untaken_door, taken_lines, untaken_lines, zeros, length_zeros}
@@ -38,4 +38,4 @@ returns-in-Err c =
     let k = c.literals in
     let r = c.in-Err.refused in
     let e = untaken_door (zeros lent_bytes) (zeros lent_lengths) (length_zeros lent_bytes) (length_zeros lent_lengths) a.text.now r k.result c.in-Err.is k.ensures.0 in
-    writes_same (got_lines (got_of (reading a.text.now))) c.put_literals_refused.ensures (untaken_lines (reading a.text.now) (number_of r.why) e)
+    writes_same (got_lines (got_of (reading a.text.now))) c.put_literals_refused.ensures (ap literals_refused_line c.number.ensures ∙ untaken_lines (reading a.text.now) (number_of r.why) e)
