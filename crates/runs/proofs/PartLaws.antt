@@ -3,12 +3,14 @@ use mathlib.Core.Path.{◌≡◌, refl, sym, ap, ap₂, ◌∙◌, subst}
 use mathlib.Core.Bool.{Bool, true, false, cond, ◌&&◌}
 use mathlib.Core.Option.{none as nowhere}
 use mathlib.Core.List.{List, [], ◌∷◌, ◌++◌}
-use Prim.Native.Nat.{ℕ, zero, suc, ◌+◌, ◌≤◌, ◌<◌, ◌%◌}
+use Prim.Native.Nat.{ℕ, zero, suc, ◌+◌, ◌*◌, ◌/◌, ◌≤◌, ◌<◌, ◌%◌}
 use native.Mathlib.Omega.{arith}
 use native.Mathlib.Nat.{le_refl}
 use lib.Dec.{eqb, ltb}
 use lib.ListN.{length, get_or, take, drop, length-drop}
-use lib.Seq.{drop-drop, take-add}
+use lib.Seq.{drop-drop, take-add, get_or-take}
+use Rattle.std.specs.Simd.{first_chunks}
+use Rattle.std.specs.List.{prefix_len}
 use borrow.Author.Tests.{eqb-true, eqb-false, eq-eqb, ne_eqb, ltb-true, ltb-false}
 use Rattle.def_meaning.specs.Tokens.{Token, Tokens, NotByte, MaskedByte, NotMaskedByte, Jump, nothing, ◌then◌, ◌⊕◌}
 use Rattle.def_picking.specs.Literals.{is_byte}
@@ -215,3 +217,18 @@ part_end_bytes ws e = rw (eq-eqb (get_or ws 0 0) 0 e)
 pub part_end_token : (ws : List ℕ) → (get_or ws 0 0 ≡ 0 → ⊥) → width ws ≡ part_end ws
 unfolding part_end
 part_end_token ws f = rw (ne_eqb (get_or ws 0 0) 0 f)
+
+-- the entries of bytes at the front, counted
+counted_step : (b : Bool) (m k l : ℕ) → (4 * m ≡ k) × (k ≤ l) → (4 * cond b (1 + m) 0 ≡ cond b (4 + k) 0) × (cond b (4 + k) 0 ≤ 4 + l)
+counted_step true m k l h = (omega arith, omega arith)
+counted_step false m k l h = (omega arith, omega arith)
+
+pub byte_entries : (n : ℕ) (ws : List ℕ) → n ≡ length ws / 4 → (4 * prefix_len (λ e. eqb (get_or e 0 0) 0) (first_chunks 4 n ws) ≡ byte_end ws) × (byte_end ws ≤ length ws)
+byte_entries zero ws e = let z = byte_end_none ws (omega arith) in (omega arith, omega arith)
+byte_entries (suc n) ws e =
+    let h : 4 ≤ length ws = omega arith in
+    let d = length-drop 4 ws in
+    let l : 4 + length (drop 4 ws) ≡ length ws = omega arith in
+    let f = byte_entries n (drop 4 ws) (omega arith) in
+    let g : get_or (take 4 ws) 0 0 ≡ get_or ws 0 0 = get_or-take 4 ws 0 0 (omega arith) in
+    rw (byte_end_step ws h, ← l, g) (counted_step (eqb (get_or ws 0 0) 0) _ _ _ f)

@@ -11,16 +11,8 @@ ghost use Rattle.runs.specs.Whole.{byte_end, part_end, run_end};
 pub fn byte_words(ws: &[u32]) -> usize
     ensures { (result ≡ byte_end ws.now) × (result ≤ length ws.now) }
 {
-    let mut rest = ws;
-    let mut n = 0;
-    while 4 <= rest.len() {
-        if rest[0] != 0 {
-            return n;
-        }
-        n += 4;
-        rest = &rest[4..];
-    }
-    n
+    let (entries, _) = ws.as_chunks::<4>();
+    4 * entries.iter().take_while(|e| e[0] == 0).count()
 }
 
 // The words of the part at the front: successive bytes, or one token.

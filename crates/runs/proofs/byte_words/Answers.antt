@@ -1,21 +1,18 @@
 -- `runs::byte_words` meets its contract. Assumes nothing.
+use Rattle.std.proofs.Common.{◌≡◌, refl, eqb, get_or, ap, ◌*◌, ◌∙◌, ◌/◌, length, List, ℕ, rules, tests}
+use Rattle.std.specs.Simd.{first_chunks}
+use Rattle.std.proofs.lemmas.Iterator.{YieldsList-from_slice}
+use Rattle.std.proofs.lemmas.Iterator.Consumers.{count_from_yields_List}
+use Rattle.std.proofs.lemmas.Iterator.Search.{YieldsList-from_take_while}
+use Rattle.std.proofs.lemmas.List.Folds.{length-prefix_len}
 use Rattle.runs.specs.Whole.{byte_end}
 use Rattle.runs.proofs.PartLaws as parts
-use mathlib.Core.Path.{sym, ap, ◌∙◌}
-use mathlib.Core.List.{List}
-use Prim.Native.Nat.{ℕ, ◌+◌}
-use native.Mathlib.Omega.{arith}
-use Rattle.def_meaning.proofs.PartLaws.{length_from, to_end}
 use Rattle.runs.proofs.byte_words.Goals as goal
-
-pub returns-then-rest-ne0 : goal.returns-then-rest-ne0
-returns-then-rest-ne0 c =
-    (omega (arith, c.loop-rest.invariant.1, parts.byte_end_other c.loop-rest.rest.now c.loop-rest-test.true c.if-rest-ne0.true), omega (arith, c.loop-rest.invariant.0))
-
-pub loop-rest-preserved : goal.loop-rest-preserved
-loop-rest-preserved c =
-    (omega (arith, c.loop-rest.invariant.0, length_from 4 c.loop-rest.rest.now, c.loop-rest-test.true), c.loop-rest.invariant.1 ∙ parts.byte_turn c.loop-rest.n c.loop-rest.rest.now c.loop-rest-test.true c.if-rest-ne0.false ∙ ap (λ (l : List ℕ). c.loop-rest.n + 4 + byte_end l) (sym (to_end 4 c.loop-rest.rest.now)))
 
 pub returns : goal.returns
 returns c =
-    (omega (arith, c.loop-rest.invariant.1, parts.byte_end_none c.loop-rest.rest.now (omega (arith, c.loop-rest-test.false))), omega (arith, c.loop-rest.invariant.0))
+    let n =
+    count_from_yields_List c.take_while.result _ c.count.ensures.ran
+    (YieldsList-from_take_while _ (λ e. eqb (get_or e 0 0) 0) (YieldsList-from_slice (first_chunks 4 (length c.args.ws.now / 4) c.args.ws.now) (cc (c.take_while.ensures.source, c.iter.ensures.rest, c.as_chunks.ensures.front))) c.take_while.ensures.closure c.take_while.ensures.done (λ x b q k. search (rules, tests))) in
+    let k : 4 * c.count.result ≡ byte_end c.args.ws.now = ap (λ (x : ℕ). 4 * x) (n ∙ length-prefix_len (λ (e : List ℕ). eqb (get_or e 0 0) 0) (first_chunks 4 (length c.args.ws.now / 4) c.args.ws.now)) ∙ (parts.byte_entries _ c.args.ws.now refl).0 in
+    (k, rw k (parts.byte_entries _ c.args.ws.now refl).1)
