@@ -10,15 +10,14 @@ ghost use Rattle.def_picking.specs.Numbers.{count, literal_at};
 ghost use Rattle.entries.specs.Words.{tokens_in};
 ghost use Rattle.generator.specs.Output.{over, Generated};
 
-use base::{ENTRY_LIMIT, Refusal};
+use base::Refusal;
 
-// A literal has at most as many bytes as there are entries.
+// It is no more than the entries there are.
 fn length_at(ws: &[u32], k: usize) -> usize
     requires { (length ws.now ≤ token_pool) × (k < count (tokens_in ws.now)) × (count (tokens_in ws.now) ≤ literal_limit) }
     ensures { (result ≡ length (literal_at (tokens_in ws.now) k)) × (result ≤ entry_limit) }
 {
-    let mut scratch = [0u8; ENTRY_LIMIT];
-    spelling::write_literal(ws, k, &mut scratch)
+    spelling::with_literal(ws, k, |literal| literal.len())
 }
 
 // The bytes of all n literals. Known before the first is written, for a refusal leaves the buffers as they were.

@@ -11,17 +11,14 @@ ghost use Rattle.def_picking.specs.Candidates.{least, penalty, rank, ranked};
 ghost use Rattle.entries.specs.Words.{tokens_in};
 ghost use Rattle.picks.specs.Ranks.{Settles};
 
-use base::{COMBINATION_LIMIT, ENTRY_LIMIT, LITERAL_LIMIT};
+use base::{COMBINATION_LIMIT, LITERAL_LIMIT};
 use picks::{Pick, TooMany};
 
-// A literal has at most as many bytes as there are entries.
 pub fn score_at(ws: &[u32], k: usize) -> u32
     requires { (length ws.now ≤ token_pool) × (k < count (tokens_in ws.now)) × (count (tokens_in ws.now) ≤ literal_limit) }
     ensures { result ≡ literal_score (literal_at (tokens_in ws.now) k) }
 {
-    let mut scratch = [0u8; ENTRY_LIMIT];
-    let n = spelling::write_literal(ws, k, &mut scratch);
-    atoms::literal_score(&scratch[..n])
+    spelling::with_literal(ws, k, atoms::literal_score)
 }
 
 fn penalty_of(n: usize) -> u32

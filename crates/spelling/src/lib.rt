@@ -3,10 +3,13 @@
 #![tactic(auto)]
 
 ghost use Rattle.std.specs.Prelude.{◌≤◌, ◌<◌, length};
-ghost use Rattle.def_meaning.specs.Limits.{literal_limit};
+ghost use Rattle.std.specs.Fn.{FnOnceReturnsAt};
+ghost use Rattle.def_meaning.specs.Limits.{literal_limit, token_pool};
 ghost use Rattle.def_picking.specs.Numbers.{count, count_in, ending_of, ending_in, literal_at};
 ghost use Rattle.entries.specs.Words.{branch_in, lists_in, token_in, tokens_in};
 ghost use Rattle.spelling.specs.Writing.{Written, Writable};
+
+use base::ENTRY_LIMIT;
 
 // Writes literal number k of a list without alternatives.
 fn write_list(ws: &[u32], k: usize, dst: &mut [u8]) -> usize
@@ -84,4 +87,16 @@ pub fn write_literal(ws: &[u32], k: usize, dst: &mut [u8]) -> usize
         rest = &rest[e..];
     }
     i
+}
+
+// Literal number k of tokens, spelled into bytes of the stack and handed on. It has at most as many bytes as there are entries.
+pub fn with_literal<R, F: FnOnce(&[u8]) -> R>(ws: &[u32], k: usize, f: F) -> R
+    requires number { (k < count (tokens_in ws.now)) × (count (tokens_in ws.now) ≤ literal_limit) }
+    requires few { length ws.now ≤ token_pool }
+    requires callable { F.IsAlwaysCallable f }
+    ensures { FnOnceReturnsAt F.FnOnce f (literal_at (tokens_in ws.now) k) result }
+{
+    let mut scratch = [0u8; ENTRY_LIMIT];
+    let n = write_literal(ws, k, &mut scratch);
+    f(&scratch[..n])
 }
