@@ -34,8 +34,10 @@ module _ {test part : List ℕ → Bool} {inside : ℕ → Option ℕ} (s : Step
       told : test L ≡ (leb n (length ws) && (part (take n ws) && test (drop n ws)))
       told = ap test e ∙ s.fit w n ws (i ∙ ap Some (sym same))
 
-      pub turn_long : length ws < n → false ≡ test L
-      turn_long l = sym (told ∙ rw (lt-leb n (length ws) l))
+      -- what a `get` of the first n of the words says where it gives none
+      pub turn_long : (n < 0) ⊎ (length ws < n) → false ≡ test L
+      turn_long (inl l) = absurd (omega arith)
+      turn_long (inr l) = sym (told ∙ rw (lt-leb n (length ws) l))
 
       module _ {own : List ℕ} (l : n ≤ length ws) (cut : own ≡ slice_range ws 0 n) where
         seen : take n ws ≡ own

@@ -23,7 +23,7 @@ use readdoor::Reading;
 pub extern "C" fn tm_version() -> u32
     ensures { result ≡ 0 * 65536 + 4 * 256 + 0 }
 {
-    1024
+    4 * 256
 }
 
 #[repr(C)]

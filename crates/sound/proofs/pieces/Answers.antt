@@ -1,5 +1,5 @@
 -- The answer for all words is the answer for those that are left. Assumes nothing.
-use Rattle.std.proofs.Common.{refl, sym, ◌∙◌, ⊎_elim, arith}
+use Rattle.std.proofs.Common.{refl, sym, ◌∙◌}
 use Rattle.sound.proofs.SoundSteps as law
 use Rattle.sound.proofs.pieces.Goals as goal
 
@@ -13,7 +13,7 @@ pub returns-in_default-get : goal.returns-in_default-get
 returns-in_default-get g c test allows tells s i p =
     let first = c.in-Some.ensures.cases.0 in
     let inside = sym (i _ _ c.inside.ensures) ∙ c.in-Some-inside.is in
-    law.turn_long s _ _ _ first _ _ inside c.from-n.ensures (⊎_elim (λ z. absurd (omega arith)) (λ z. z) c.in_default-get.ensures.lookup.0) ∙ c.loop-w.invariant test allows tells s i p
+    law.turn_long s _ _ _ first _ _ inside c.from-n.ensures c.in_default-get.ensures.lookup.0 ∙ c.loop-w.invariant test allows tells s i p
 
 pub returns-then-not-part : goal.returns-then-not-part
 returns-then-not-part g c test allows tells s i p =
