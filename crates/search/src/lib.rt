@@ -7,8 +7,8 @@ ghost use Rattle.std.specs.Prelude.{◌≡◌, true, ◌⊎◌, ◌∷◌, ◌�
 ghost use Rattle.def_meaning.specs.Choices.{Order};
 ghost use Rattle.def_meaning.specs.Programs.{range, alt, ◌▹◌};
 ghost use Rattle.def_meaning.specs.Rows.{run};
-ghost use Rattle.def_meaning.specs.Words.{kind_of, prog, branches_of, Sound, SoundBranches, flat_words};
-ghost use Rattle.steps.specs.Steps.{answer, seen, length_at};
+ghost use Rattle.def_meaning.specs.Words.{kind_of, shape, proper, prog, branches_of, Sound, SoundBranches, flat_words};
+ghost use Rattle.steps.specs.Steps.{answer, seen, length_at, is_test, Leaves};
 
 use nodes::{Field, JUMP, JUMP_RANGE, NodeWord, count, first, kind, second};
 use steps::{tests_byte, word_passes};
@@ -32,6 +32,32 @@ pub trait Way {
         ensures { result ≡ length_at order least most n };
 }
 
+// What a word that tests a byte leaves of the window.
+fn test<W: Way>(w: NodeWord, window: &[u8]) -> Option<&[u8]>
+    requires { (proper w ≡ true) × (is_test (shape w) ≡ true) }
+    ensures { Leaves W.order w (seen W.order window.now) result }
+{
+    let Some((&b, left)) = W::next(window) else {
+        return None;
+    };
+    if !word_passes(w, b) {
+        return None;
+    }
+    Some(left)
+}
+
+// What a jump leaves of it.
+fn jump<W: Way>(w: NodeWord, window: &[u8]) -> Option<&[u8]>
+    requires { kind_of w ≡ 3 }
+    ensures { Leaves W.order w (seen W.order window.now) result }
+{
+    let n = usize::from(first(w));
+    if window.len() < n {
+        return None;
+    }
+    Some(W::without(window, n))
+}
+
 // A branch, which holds nodes of fixed length only: what it leaves of mem.
 fn flat<W: Way>(branch: &[NodeWord], mem: &[u8]) -> Option<usize>
     requires { flat_words branch.now ≡ true }
@@ -45,19 +71,9 @@ fn flat<W: Way>(branch: &[NodeWord], mem: &[u8]) -> Option<usize>
         };
         ns = rest;
         if kind(w) == JUMP {
-            let n = usize::from(first(w));
-            if m.len() < n {
-                return None;
-            }
-            m = W::without(m, n);
+            m = jump::<W>(w, m)?;
         } else {
-            let Some((&b, left)) = W::next(m) else {
-                return None;
-            };
-            m = left;
-            if !word_passes(w, b) {
-                return None;
-            }
+            m = test::<W>(w, m)?;
         }
     }
 }
@@ -74,24 +90,14 @@ pub fn check<W: Way>(nodes: &[NodeWord], mem: &[u8]) -> Option<usize>
         let Some((&w, rest)) = ns.split_first() else {
             return Some(m.len());
         };
-        ns = rest;
         if tests_byte(w) {
-            let Some((&b, left)) = W::next(m) else {
-                return None;
-            };
-            m = left;
-            if !word_passes(w, b) {
-                return None;
-            }
+            m = test::<W>(w, m)?;
         } else if kind(w) == JUMP {
-            let n = usize::from(first(w));
-            if m.len() < n {
-                return None;
-            }
-            m = W::without(m, n);
+            m = jump::<W>(w, m)?;
         } else {
-            return choices::<W>(w, ns, m);
+            return choices::<W>(w, rest, m);
         }
+        ns = rest;
     }
 }
 
@@ -133,7 +139,8 @@ fn jumps<W: Way>(rest: &[NodeWord], mem: &[u8], from: Field, to: Field) -> Optio
     }
 }
 
-// Alternatives, a range and the rest: the first branch and then the first length for which the rest fits.
+// Alternatives, a range and the rest: the first branch and then the first length for which the rest fits. The loop over lengths leaves that
+// over branches by its label, which 01 names, and so is not the one in jumps.
 #[cycle(branches_check_choices_jumps)]
 fn branches<W: Way>(
     alts: &[NodeWord],

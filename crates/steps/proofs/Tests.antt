@@ -32,8 +32,8 @@ module _ (w : ℕ) (h : proper w ≡ true) where
 abbrev pub IsTest : ℕ → Type 0
 IsTest w = (t : Test) × (shape w ≡ item (one t))
 
-pub is_test_lem : (w : ℕ) → true ≡ is_test (shape w) → IsTest w
-is_test_lem w h = go (shape w) refl h
+pub is_test_lem : (w : ℕ) → is_test (shape w) ≡ true → IsTest w
+is_test_lem w h = go (shape w) refl (sym h)
   where
     go : (s : Shape) → shape w ≡ s → true ≡ is_test s → IsTest w
     go (item (one t)) e f = (t, e)

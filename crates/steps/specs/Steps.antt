@@ -1,10 +1,12 @@
 -- What the steps of a check answer, in the terms of the definitions. Assumes nothing: these are definitions.
 -- To be believed: nothing.
-use Rattle.std.specs.Prelude.{Bool, true, false, List, reverse, ℕ, ◌+◌, ◌-◌, length, Option, Some, None}
+use Rattle.std.specs.Borrow.{Bor}
+use Rattle.std.specs.Prelude.{◌≡◌, Bool, true, false, List, ◌∷◌, reverse, ℕ, ◌+◌, ◌-◌, length, Option, Some, None}
 use Rattle.std.proofs.Math.Option.{Option as Maybe, none, some}
 use Rattle.def_meaning.specs.Choices.{Order, short, long}
 use Rattle.def_meaning.specs.Programs.{pass, Item, one, jump, range, alt}
-use Rattle.def_meaning.specs.Words.{Shape, item, opens, mark, wrong}
+use Rattle.def_meaning.specs.Rows.{run}
+use Rattle.def_meaning.specs.Words.{Shape, item, opens, mark, wrong, prog}
 
 -- a check's answer tells how much of the window is left
 abbrev pub answer : Maybe (List ℕ) → Option ℕ
@@ -45,3 +47,8 @@ pass_shape (item i) c = pass_item i c
 pass_shape (opens n) c = false
 pass_shape (mark n) c = false
 pass_shape wrong c = false
+
+-- what comes of a word at a window that is read as M: nothing fits from it on, or what fits the rest of the words after what is left fits from it on
+abbrev pub Leaves : Order → ℕ → List ℕ → Option (Bor (List ℕ)) → Type 0
+Leaves o w M None = (R : List ℕ) → run o (prog (w ∷ R)) M ≡ none
+Leaves o w M (Some m) = (R : List ℕ) → run o (prog (w ∷ R)) M ≡ run o (prog R) (seen o m.now)

@@ -1,13 +1,14 @@
 -- The cycle of calls {branches, check, choices, jumps} meets its contracts. Every loop keeps: the answer for the whole is the
 -- answer for what is left. Each call is at fewer words, or at as many on the way from check to choices to jumps or branches. Assumes nothing.
-use Rattle.std.proofs.Common.{◌≡◌, sym, ap, subst, ◌∙◌, ℕ, ◌-◌, min, arith, Some, length, drop, length-take-le}
+use Rattle.std.proofs.Common.{◌≡◌, List, refl, sym, ap, subst, ◌∙◌, ℕ, ◌-◌, min, arith, Some, length, drop, length-take-le}
 use Rattle.def_meaning.specs.Programs.{range, ◌▹◌}
+use Rattle.def_meaning.specs.Rows.{run}
 use Rattle.def_meaning.specs.Words.{prog, Sound}
 use Rattle.def_meaning.proofs.KindLaws.{kind_jump}
 use Rattle.def_meaning.proofs.PartLaws.{length_from}
 use Rattle.steps.specs.Steps.{answer, seen}
 use Rattle.steps.proofs.Heads.{length_seen}
-use Rattle.steps.proofs.Tests.{is_test_lem, passes_as}
+use Rattle.steps.proofs.Tests.{is_test_lem}
 use Rattle.steps.proofs.Answers.{left_fits}
 use Rattle.steps.proofs.Turns as turns
 use Rattle.steps.proofs.Ranges as ranges
@@ -105,67 +106,34 @@ check-returns-in_default g t c =
     let M = c.loop-w.m.now in
     ap Some (sym (length_seen o M)) ∙ ap answer (sym (c.loop-w.invariant.2 ∙ turns.end_left o _ (seen o M) c.in_default.ensures.cases))
 
-pub check-returns-in_default-next : goal.check-returns-in_default-next
-check-returns-in_default-next g t c =
-    let o = g.W.Way.order in
-    let W = c.in-Some.field-0-0.now in
-    let M = c.loop-w.m.now in
-    let test = is_test_lem W (sym c.if-tests_byte.true ∙ c.tests_byte.ensures) in
-    ap answer (sym (c.loop-w.invariant.2 ∙ turns.stop_short W _ c.in-Some.ensures.cases.0 o (seen o M) test.0 test.1 (length_seen o M ∙ c.in_default-next.ensures)))
+pub check-test-requires : goal.check-test-requires
+check-test-requires g t c =
+    let sound = subst Sound c.in-Some.ensures.cases.0 c.loop-w.invariant.1 in
+    (turns.head_proper c.in-Some.field-0-0.now _ sound, sym c.tests_byte.ensures ∙ c.if-tests_byte.true)
 
-pub check-word_passes-requires : goal.check-word_passes-requires
-check-word_passes-requires g t c = turns.head_proper c.in-Some.field-0-0.now _ c.in-Some.ensures.cases.0 c.loop-w.invariant.1
-
-pub check-returns-then-not-word_passes : goal.check-returns-then-not-word_passes
-check-returns-then-not-word_passes g t c =
-    let o = g.W.Way.order in
-    let W = c.in-Some.field-0-0.now in
-    let M = c.loop-w.m.now in
-    let test = is_test_lem W (sym c.if-tests_byte.true ∙ c.tests_byte.ensures) in
-    let B = c.in-Some-next.field-0-0.now in
-    ap answer (sym (c.loop-w.invariant.2 ∙ turns.stop_one W _ c.in-Some.ensures.cases.0 o (seen o M) test.0 B test.1 c.in-Some-next.ensures (passes_as W B test.0 test.1 (sym c.if-not-word_passes.true ∙ c.word_passes.ensures))))
-
-pub check-loop-w-preserved-else-not-word_passes : goal.check-loop-w-preserved-else-not-word_passes
-check-loop-w-preserved-else-not-word_passes g t c =
-    let o = g.W.Way.order in
-    let W = c.in-Some.field-0-0.now in
+pub check-loop-w-preserved-in_ok-m : goal.check-loop-w-preserved-in_ok-m
+check-loop-w-preserved-in_ok-m g t c =
     let e = c.in-Some.ensures.cases.0 in
-    let M = c.loop-w.m.now in
-    let test = is_test_lem W (sym c.if-tests_byte.true ∙ c.tests_byte.ensures) in
-    let B = c.in-Some-next.field-0-0.now in (
+    let test = is_test_lem c.in-Some.field-0-0.now (sym c.tests_byte.ensures ∙ c.if-tests_byte.true) in (
       omega (arith, c.in-Some.ensures.cases.1, c.loop-w.invariant.0),
-      turns.tail_sound W _ e test.1 c.loop-w.invariant.1,
-      c.loop-w.invariant.2 ∙ turns.turn_one W _ e o (seen o M) test.0 B test.1 c.in-Some-next.ensures (passes_as W B test.0 test.1 (sym c.if-not-word_passes.false ∙ c.word_passes.ensures)),
+      turns.tail_sound c.in-Some.field-0-0.now _ test.1 (subst Sound e c.loop-w.invariant.1),
+      c.loop-w.invariant.2 ∙ ap (λ (l : List ℕ). run g.W.Way.order (prog l) (seen g.W.Way.order c.loop-w.m.now)) e ∙ c.in_ok-m.ensures c.in-Some.rest.now,
     )
-
-pub check-returns-then-m-n : goal.check-returns-then-m-n
-check-returns-then-m-n g t c =
-    let o = g.W.Way.order in
-    let W = c.in-Some.field-0-0.now in
-    let M = c.loop-w.m.now in
-    let kind = kind_jump W (sym c.kind.ensures ∙ c.if-kind-eq-JUMP.true) (c.from-n.ensures ∙ c.first.ensures) in
-    ap answer (sym (c.loop-w.invariant.2 ∙ turns.stop_jump W _ c.in-Some.ensures.cases.0 o (seen o M) _ kind (omega (arith, c.if-m-n.true, length_seen o M))))
 
 pub check-loop-w-preserved : goal.check-loop-w-preserved
 check-loop-w-preserved g t c =
-    let o = g.W.Way.order in
-    let W = c.in-Some.field-0-0.now in
     let e = c.in-Some.ensures.cases.0 in
-    let M = c.loop-w.m.now in
-    let kind = kind_jump W (sym c.kind.ensures ∙ c.if-kind-eq-JUMP.true) (c.from-n.ensures ∙ c.first.ensures) in (
+    let jump = kind_jump c.in-Some.field-0-0.now (sym c.kind.ensures ∙ c.if-kind-eq-JUMP.true) refl in (
       omega (arith, c.in-Some.ensures.cases.1, c.loop-w.invariant.0),
-      turns.tail_sound W _ e kind c.loop-w.invariant.1,
-      c.loop-w.invariant.2 ∙ turns.turn_jump W _ e o (seen o M) _ c.without-m.ensures kind (omega (arith, c.if-m-n.false, length_seen o M)),
+      turns.tail_sound c.in-Some.field-0-0.now _ jump (subst Sound e c.loop-w.invariant.1),
+      c.loop-w.invariant.2 ∙ ap (λ (l : List ℕ). run g.W.Way.order (prog l) (seen g.W.Way.order c.loop-w.m.now)) e ∙ c.in_ok-m-2.ensures c.in-Some.rest.now,
     )
 
 pub check-choices-requires : goal.check-choices-requires
 check-choices-requires g t c κs within =
-    let W = c.in-Some.field-0-0.now in
-    let e = c.in-Some.ensures.cases.0 in
-    let sound = c.loop-w.invariant.1 in (
-      omega (arith, c.in-Some.ensures.cases.1, c.loop-w.invariant.0),
-      (within, (subst Sound e sound, turns.choice_kind W _ e sound (sym c.if-tests_byte.false ∙ c.tests_byte.ensures) (λ z. c.if-kind-eq-JUMP.false (c.kind.ensures ∙ z)))),
-    )
+    let sound = subst Sound c.in-Some.ensures.cases.0 c.loop-w.invariant.1 in
+    let kind = turns.choice_kind c.in-Some.field-0-0.now _ sound (sym c.if-tests_byte.false ∙ c.tests_byte.ensures) (λ z. c.if-kind-eq-JUMP.false (c.kind.ensures ∙ z)) in
+    (omega (arith, c.in-Some.ensures.cases.1, c.loop-w.invariant.0), (within, (sound, kind)))
 
 pub choices-jumps-requires : goal.choices-jumps-requires
 choices-jumps-requires g t c κs within = (omega arith, (within, choice.range_after c.args.w c.args.rest.now (sym c.kind.ensures ∙ c.if-kind-eq-JUMP_RANGE.true) c.requires.0))
