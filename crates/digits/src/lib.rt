@@ -2,37 +2,29 @@
 // The small readers. Each one answers where it stopped, and where the blanks after that end.
 #![tactic(auto)]
 
-ghost use Rattle.std.specs.Prelude.{◌≡◌, ◌&&◌, ◌+◌, ◌<◌, get_or, eqb, ltb};
-ghost use Rattle.def_meaning.specs.Limits.{inner_jump_limit};
+ghost use Rattle.std.specs.Prelude.{◌≡◌, ℕ, drop, get_or};
 ghost use Rattle.def_reading.specs.Blanks.{blank, skip};
-ghost use Rattle.def_reading.specs.Pieces.{within, digit, byte_at, masked_at, hex_at, not_at, number_at, checked, closed_at, dash_at, range_at, jump_token, jumped, hex_token, leaf_at, ◌else◌};
-ghost use Rattle.digits.specs.Answers.{value_of, spelled, token_of, leaf_seen, numbered, ranged, upper_of};
+ghost use Rattle.def_reading.specs.Pieces.{digit, decimal, byte_at, masked_at, hex_at, not_at, number_at, checked, closed_at, dash_at, range_at, jump_token, jumped, found, hex_token, leaf_at, ◌else◌};
+ghost use Rattle.digits.specs.Answers.{value_of, hex_of, ending, spelled, token_of, leaf_seen, numbered, bounded, ranged};
 
-use base::{INNER_JUMP_LIMIT, NUMBER_LIMIT, Refusal};
+use base::{INNER_JUMP_LIMIT, NUMBER_LIMIT, Refusal, Refused};
 
-#[derive(Drop)]
-pub enum Nibble {
-    Is(u8),
-    Not,
-}
-
-#[derive(Drop)]
+#[derive(Clone, Copy)]
 pub enum Mask {
     Left,
     Right,
     All,
 }
 
-// A byte, whole or masked, with where it stopped before and after blanks.
-#[derive(Drop)]
-pub enum Spelling {
-    Whole(u8, usize, usize),
-    Masked(u8, Mask, usize, usize),
-    Absent,
+// A byte as it is spelled, whole or masked.
+#[derive(Clone, Copy)]
+pub enum HexByte {
+    Whole(u8),
+    Masked(u8, Mask),
 }
 
 // A leaf is the original's token without its alternatives, which only the readers above know.
-#[derive(Drop)]
+#[derive(Clone, Copy)]
 pub enum Leaf {
     Byte(u8),
     NotByte(u8),
@@ -42,77 +34,61 @@ pub enum Leaf {
     OpenJump(u32),
 }
 
-#[derive(Drop)]
-pub enum LeafGot {
-    Found(Leaf, usize, usize),
-    Absent,
-    Refused(Refusal, usize),
+impl From<HexByte> for Leaf {
+    ghost from_gives = { λ h r. (s e : ℕ) → hex_token (found (hex_of h) s e) ≡ found (token_of r) s e };
+
+    fn from(h: HexByte) -> Self {
+        match h {
+            HexByte::Whole(v) => Self::Byte(v),
+            HexByte::Masked(v, m) => Self::MaskedByte(v, m),
+        }
+    }
 }
 
-#[derive(Drop)]
-pub enum Numeral {
-    Number(u32, usize, usize),
-    Absent,
-    TooBig,
+// A jump's bounds, of which the upper one may be missing.
+#[derive(Clone, Copy)]
+pub struct Bounds {
+    pub from: u32,
+    pub to: Option<u32>,
 }
 
-// A jump's upper bound, where there is one.
-#[derive(Drop)]
-pub enum Upper {
-    To(u32),
-    Open,
+// What was read: where it stopped, and where the blanks after that end.
+#[derive(Clone, Copy)]
+pub struct Read<T> {
+    pub value: T,
+    pub stop: usize,
+    pub end: usize,
 }
 
-#[derive(Drop)]
-pub enum Bounds {
-    Between(u32, Upper, usize, usize),
-    Absent,
-    Refused(Refusal, usize),
-}
+// A number above 4,294,967,295.
+#[derive(Clone, Copy, Debug, PartialEq, Eq)]
+pub struct TooBig;
 
 // The byte at an offset, and 0 past the end: no reader takes 0 for anything.
 pub fn peek(text: &[u8], at: usize) -> u8
     ensures { result ≡ get_or text.now at 0 }
 {
-    if at < text.len() { text[at] } else { 0 }
+    text.get(at).copied().unwrap_or(0)
 }
 
 pub fn is_blank(c: u8) -> bool
     ensures { result ≡ blank c }
 {
-    if c == b' ' {
-        return true;
-    }
-    if c == b'\t' {
-        return true;
-    }
-    if c == b'\r' {
-        return true;
-    }
-    c == b'\n'
+    matches!(c, b' ' | b'\t' | b'\r' | b'\n')
+}
+
+// The text from an offset on, of which nothing is left past the end.
+fn rest(text: &[u8], at: usize) -> &[u8]
+    ensures { result.now ≡ drop at text.now }
+{
+    text.get(at..).unwrap_or(&[])
 }
 
 pub fn skip_blanks(text: &[u8], at: usize) -> usize
     ensures { result ≡ skip text.now at }
 {
-    let mut i = at;
-    loop {
-        let c = peek(text, i);
-        if !is_blank(c) {
-            return i;
-        }
-        i += 1;
-    }
-}
-
-// Whether a byte lies between two others.
-fn in_range(low: u8, high: u8, c: u8) -> bool
-    ensures { result ≡ within low high c }
-{
-    if c < low {
-        return false;
-    }
-    c <= high
+    let blanks = rest(text, at).iter().take_while(|c| is_blank(**c));
+    at + blanks.count()
 }
 
 // What a letter has more than the value for which it stands.
@@ -120,243 +96,264 @@ const UPPER: u8 = b'A' - 10;
 
 const LOWER: u8 = b'a' - 10;
 
-pub fn hex_digit(c: u8) -> Nibble
+pub fn hex_digit(c: u8) -> Option<u8>
     ensures { value_of result ≡ digit c }
 {
-    if in_range(b'0', b'9', c) {
-        return Nibble::Is(c - b'0');
+    match c {
+        b'0'..=b'9' => Some(c - b'0'),
+        b'A'..=b'F' => Some(c - UPPER),
+        b'a'..=b'f' => Some(c - LOWER),
+        _ => None,
     }
-    if in_range(b'A', b'F', c) {
-        return Nibble::Is(c - UPPER);
-    }
-    if in_range(b'a', b'f', c) {
-        return Nibble::Is(c - LOWER);
-    }
-    Nibble::Not
 }
 
-pub fn byte(text: &[u8], at: usize) -> Spelling
+// A value that is spelled up to `stop`.
+fn up_to<T>(text: &[u8], value: T, stop: usize) -> Read<T>
+    ensures { result ≡ ending text.now value stop }
+{
+    Read {
+        value,
+        stop,
+        end: skip_blanks(text, stop),
+    }
+}
+
+pub fn byte(text: &[u8], at: usize) -> Option<Read<HexByte>>
     ensures { spelled result ≡ byte_at text.now at }
 {
-    let Nibble::Is(high) = hex_digit(peek(text, at)) else {
-        return Spelling::Absent;
-    };
-    let Nibble::Is(low) = hex_digit(peek(text, at + 1)) else {
-        return Spelling::Absent;
-    };
-    Spelling::Whole(16 * high + low, at + 2, skip_blanks(text, at + 2))
+    let high = hex_digit(peek(text, at))?;
+    let low = hex_digit(peek(text, at + 1))?;
+    Some(up_to(text, HexByte::Whole(16 * high + low), at + 2))
 }
 
-pub fn masked_byte(text: &[u8], at: usize) -> Spelling
+pub fn masked_byte(text: &[u8], at: usize) -> Option<Read<HexByte>>
     ensures { spelled result ≡ masked_at text.now at }
 {
     let first = peek(text, at);
     if first == b'?' {
         let second = peek(text, at + 1);
         if second == b'?' {
-            return Spelling::Masked(0, Mask::All, at + 2, skip_blanks(text, at + 2));
+            return Some(up_to(text, HexByte::Masked(0, Mask::All), at + 2));
         }
-        let Nibble::Is(low) = hex_digit(second) else {
-            return Spelling::Absent;
-        };
-        return Spelling::Masked(low, Mask::Left, at + 2, skip_blanks(text, at + 2));
+        let low = hex_digit(second)?;
+        return Some(up_to(text, HexByte::Masked(low, Mask::Left), at + 2));
     }
-    let Nibble::Is(high) = hex_digit(first) else {
-        return Spelling::Absent;
-    };
+    let high = hex_digit(first)?;
     if peek(text, at + 1) != b'?' {
-        return Spelling::Absent;
+        return None;
     }
-    Spelling::Masked(high, Mask::Right, at + 2, skip_blanks(text, at + 2))
+    Some(up_to(text, HexByte::Masked(high, Mask::Right), at + 2))
 }
 
-pub fn hex_byte(text: &[u8], at: usize) -> Spelling
+pub fn hex_byte(text: &[u8], at: usize) -> Option<Read<HexByte>>
     ensures { spelled result ≡ hex_at text.now at }
 {
-    let b = byte(text, at);
-    match b {
-        Spelling::Absent => masked_byte(text, at),
-        Spelling::Whole(v, stop, end) => Spelling::Whole(v, stop, end),
-        Spelling::Masked(v, m, stop, end) => Spelling::Masked(v, m, stop, end),
-    }
+    byte(text, at).or_else(|| masked_byte(text, at))
 }
 
-pub fn not_token(text: &[u8], at: usize) -> LeafGot
+pub fn not_token(text: &[u8], at: usize) -> Result<Option<Read<Leaf>>, Refused>
     ensures { leaf_seen result ≡ not_at text.now at }
 {
     if peek(text, at) != b'~' {
-        return LeafGot::Absent;
+        return Ok(None);
     }
-    let h = hex_byte(text, at + 1);
-    match h {
-        Spelling::Whole(v, stop, end) => LeafGot::Found(Leaf::NotByte(v), stop, end),
-        Spelling::Masked(v, m, stop, end) => match m {
-            Mask::Left => LeafGot::Found(Leaf::NotMaskedByte(v, Mask::Left), stop, end),
-            Mask::Right => LeafGot::Found(Leaf::NotMaskedByte(v, Mask::Right), stop, end),
-            Mask::All => LeafGot::Refused(Refusal::CannotNegateMaskAll, at),
+    let Some(h) = hex_byte(text, at + 1) else {
+        return Err(Refused {
+            why: Refusal::Unexpected,
+            place: at + 1,
+        });
+    };
+    let value = match h.value {
+        HexByte::Whole(v) => Leaf::NotByte(v),
+        HexByte::Masked(v, m) => match m {
+            Mask::Left | Mask::Right => Leaf::NotMaskedByte(v, m),
+            Mask::All => {
+                return Err(Refused {
+                    why: Refusal::CannotNegateMaskAll,
+                    place: at,
+                });
+            }
         },
-        Spelling::Absent => LeafGot::Refused(Refusal::Unexpected, at + 1),
-    }
+    };
+    Ok(Some(Read {
+        value,
+        stop: h.stop,
+        end: h.end,
+    }))
 }
 
 // Stops at the digit by which the number grows too big: nothing after it can mend that.
-pub fn number(text: &[u8], at: usize) -> Numeral
+pub fn number(text: &[u8], at: usize) -> Result<Option<Read<u32>>, TooBig>
     ensures { numbered at result ≡ number_at text.now at }
 {
-    let first = peek(text, at);
-    if !in_range(b'0', b'9', first) {
-        return Numeral::Absent;
-    }
     let mut value: u64 = 0;
-    let mut i = at;
-    loop {
-        let c = peek(text, i);
-        if !in_range(b'0', b'9', c) {
-            return Numeral::Number(value as u32, i, skip_blanks(text, i));
+    let mut stop = at;
+    for c in rest(text, at) {
+        if !c.is_ascii_digit() {
+            break;
         }
-        value = 10 * value + wide(c - b'0');
+        value = 10 * value + u64::from(c - b'0');
         if NUMBER_LIMIT < value {
-            return Numeral::TooBig;
+            return Err(TooBig);
         }
-        i += 1;
+        stop += 1;
     }
+    if stop == at {
+        return Ok(None);
+    }
+    Ok(Some(up_to(text, value as u32, stop)))
 }
 
-fn wide(c: u8) -> u64
-    ensures { result ≡ c }
+// A number of a jump, which is refused at its first digit.
+fn bound(text: &[u8], at: usize) -> Result<Option<Read<u32>>, Refused>
+    ensures { bounded result ≡ number_at text.now at }
 {
-    c as u64
-}
-
-fn both_are(a: u32, b: u32, v: u32) -> bool
-    ensures { result ≡ eqb a v && eqb b v }
-{
-    if a != v {
-        return false;
-    }
-    b == v
-}
-
-// Alternatives have no jump above their own limit.
-fn inside_too_big(inside: bool, to: u32) -> bool
-    ensures { result ≡ inside && ltb inner_jump_limit to }
-{
-    if inside {
-        return INNER_JUMP_LIMIT < to;
-    }
-    false
+    number(text, at).map_err(|_| Refused {
+        why: Refusal::NumberTooBig,
+        place: at,
+    })
 }
 
 // A jump from the `[` at `at`, whose `]` ends at `stop`.
-fn checked_jump(text: &[u8], at: usize, from: u32, to: Upper, stop: usize) -> Bounds
-    ensures { ranged result ≡ checked text.now at from (upper_of to) stop }
+fn checked_jump(
+    text: &[u8],
+    at: usize,
+    bounds: Bounds,
+    stop: usize,
+) -> Result<Option<Read<Bounds>>, Refused>
+    ensures { ranged result ≡ checked text.now at bounds.from (value_of bounds.to) stop }
 {
-    let Upper::To(last) = to else {
-        return Bounds::Between(from, Upper::Open, stop, skip_blanks(text, stop));
-    };
-    if both_are(from, last, 0) {
-        return Bounds::Refused(Refusal::JumpEmpty, at);
+    if let Some(to) = bounds.to {
+        if bounds.from == 0 && to == 0 {
+            return Err(Refused {
+                why: Refusal::JumpEmpty,
+                place: at,
+            });
+        }
+        if to < bounds.from {
+            return Err(Refused {
+                why: Refusal::JumpRangeInvalid,
+                place: at,
+            });
+        }
     }
-    if last < from {
-        return Bounds::Refused(Refusal::JumpRangeInvalid, at);
-    }
-    Bounds::Between(from, Upper::To(last), stop, skip_blanks(text, stop))
+    Ok(Some(up_to(text, bounds, stop)))
 }
 
-fn closed_jump(text: &[u8], at: usize, from: u32, to: Upper, x: usize) -> Bounds
-    ensures { ranged result ≡ closed_at text.now at from (upper_of to) x }
+fn closed_jump(
+    text: &[u8],
+    at: usize,
+    bounds: Bounds,
+    x: usize,
+) -> Result<Option<Read<Bounds>>, Refused>
+    ensures { ranged result ≡ closed_at text.now at bounds.from (value_of bounds.to) x }
 {
     if peek(text, x) != b']' {
-        return Bounds::Absent;
+        return Ok(None);
     }
-    checked_jump(text, at, from, to, x + 1)
+    checked_jump(text, at, bounds, x + 1)
 }
 
-fn dashed_jump(text: &[u8], at: usize, from: u32, x: usize) -> Bounds
+fn dashed_jump(text: &[u8], at: usize, from: u32, x: usize) -> Result<Option<Read<Bounds>>, Refused>
     ensures { ranged result ≡ dash_at text.now at from x }
 {
     if peek(text, x) != b'-' {
-        return Bounds::Absent;
+        return Ok(None);
     }
     let y = skip_blanks(text, x + 1);
-    let to = number(text, y);
-    match to {
-        Numeral::Number(n, _, end) => closed_jump(text, at, from, Upper::To(n), end),
-        Numeral::Absent => closed_jump(text, at, from, Upper::Open, y),
-        Numeral::TooBig => Bounds::Refused(Refusal::NumberTooBig, y),
+    match bound(text, y)? {
+        Some(to) => closed_jump(
+            text,
+            at,
+            Bounds {
+                from,
+                to: Some(to.value),
+            },
+            to.end,
+        ),
+        None => closed_jump(text, at, Bounds { from, to: None }, y),
     }
 }
 
-pub fn range(text: &[u8], at: usize) -> Bounds
+pub fn range(text: &[u8], at: usize) -> Result<Option<Read<Bounds>>, Refused>
     ensures { ranged result ≡ range_at text.now at }
 {
     if peek(text, at) != b'[' {
-        return Bounds::Absent;
+        return Ok(None);
     }
     let x = skip_blanks(text, at + 1);
-    let from = number(text, x);
-    match from {
-        Numeral::Number(n, _, end) => {
-            if peek(text, end) == b']' {
-                return checked_jump(text, at, n, Upper::To(n), end + 1);
-            }
-            dashed_jump(text, at, n, end)
-        }
-        Numeral::Absent => dashed_jump(text, at, 0, x),
-        Numeral::TooBig => Bounds::Refused(Refusal::NumberTooBig, x),
+    let Some(from) = bound(text, x)? else {
+        return dashed_jump(text, at, 0, x);
+    };
+    if peek(text, from.end) != b']' {
+        return dashed_jump(text, at, from.value, from.end);
     }
+    let bounds = Bounds {
+        from: from.value,
+        to: Some(from.value),
+    };
+    checked_jump(text, at, bounds, from.end + 1)
 }
 
-pub fn jump(text: &[u8], at: usize, inside: bool) -> LeafGot
+pub fn jump(text: &[u8], at: usize, inside: bool) -> Result<Option<Read<Leaf>>, Refused>
     ensures { leaf_seen result ≡ jumped inside at (range_at text.now at) }
 {
-    let b = range(text, at);
-    match b {
-        Bounds::Between(from, to, stop, end) => {
-            let Upper::To(last) = to else {
-                if inside {
-                    return LeafGot::Refused(Refusal::JumpUnboundedInAlternation, at);
-                }
-                return LeafGot::Found(Leaf::OpenJump(from), stop, end);
-            };
-            if inside_too_big(inside, last) {
-                return LeafGot::Refused(Refusal::JumpTooBigInAlternation, at);
-            }
-            LeafGot::Found(one_jump(from, last), stop, end)
+    let Some(b) = range(text, at)? else {
+        return Ok(None);
+    };
+    let value = match b.value.to {
+        None if inside => {
+            return Err(Refused {
+                why: Refusal::JumpUnboundedInAlternation,
+                place: at,
+            });
         }
-        Bounds::Absent => LeafGot::Absent,
-        Bounds::Refused(code, place) => LeafGot::Refused(code, place),
-    }
+        None => Leaf::OpenJump(b.value.from),
+        // Alternatives have no jump above their own limit.
+        Some(to) if inside && INNER_JUMP_LIMIT < to => {
+            return Err(Refused {
+                why: Refusal::JumpTooBigInAlternation,
+                place: at,
+            });
+        }
+        Some(to) => one_jump(b.value.from, to),
+    };
+    Ok(Some(Read {
+        value,
+        stop: b.stop,
+        end: b.end,
+    }))
 }
 
 fn one_jump(from: u32, to: u32) -> Leaf
     ensures { token_of result ≡ jump_token from to }
 {
-    if both_are(from, to, 1) {
-        return Leaf::MaskedByte(0, Mask::All);
+    if from == 1 && to == 1 {
+        Leaf::MaskedByte(0, Mask::All)
+    } else {
+        Leaf::Jump(from, to)
     }
-    Leaf::Jump(from, to)
 }
 
-fn byte_or_jump(text: &[u8], at: usize, inside: bool) -> LeafGot
+fn byte_or_jump(text: &[u8], at: usize, inside: bool) -> Result<Option<Read<Leaf>>, Refused>
     ensures { leaf_seen result ≡ hex_token (hex_at text.now at) else jumped inside at (range_at text.now at) }
 {
-    let h = hex_byte(text, at);
-    match h {
-        Spelling::Whole(v, stop, end) => LeafGot::Found(Leaf::Byte(v), stop, end),
-        Spelling::Masked(v, m, stop, end) => LeafGot::Found(Leaf::MaskedByte(v, m), stop, end),
-        Spelling::Absent => jump(text, at, inside),
-    }
+    let Some(h) = hex_byte(text, at) else {
+        return jump(text, at, inside);
+    };
+    Ok(Some(Read {
+        value: h.value.into(),
+        stop: h.stop,
+        end: h.end,
+    }))
 }
 
 // A token other than alternatives.
-pub fn leaf_token(text: &[u8], at: usize, inside: bool) -> LeafGot
+pub fn leaf_token(text: &[u8], at: usize, inside: bool) -> Result<Option<Read<Leaf>>, Refused>
     ensures { leaf_seen result ≡ leaf_at text.now inside at }
 {
-    let n = not_token(text, at);
-    match n {
-        LeafGot::Found(tok, stop, end) => LeafGot::Found(tok, stop, end),
-        LeafGot::Absent => byte_or_jump(text, at, inside),
-        LeafGot::Refused(code, place) => LeafGot::Refused(code, place),
-    }
+    let Some(not) = not_token(text, at)? else {
+        return byte_or_jump(text, at, inside);
+    };
+    Ok(Some(not))
 }

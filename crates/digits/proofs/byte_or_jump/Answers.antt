@@ -1,21 +1,18 @@
 -- Each way out gives what the definition gives there. Assumes nothing.
-use mathlib.Core.Path.{sym, ap, ◌∙◌}
+use Rattle.std.proofs.Common.{sym, ap, ◌∙◌}
 use Rattle.def_reading.specs.Pieces.{hex_token, range_at, jumped, ◌else◌}
-use Rattle.digits.specs.Answers.{spelled}
 use Rattle.def_reading.proofs.PieceSteps.{byte_else}
+use Rattle.digits.specs.Answers.{spelled}
 use Rattle.digits.proofs.byte_or_jump.Goals as goal
 
-pub returns-in-Whole : goal.returns-in-Whole
+pub returns-in_default : goal.returns-in_default
 unfolding hex_token ◌else◌
-returns-in-Whole c =
-    sym (byte_else c.args.text.now c.args.at (sym c.hex_byte-h.ensures ∙ ap spelled c.in-Whole.is) (jumped c.args.inside c.args.at (range_at c.args.text.now c.args.at)))
+returns-in_default c =
+    c.jump.ensures ∙ sym (byte_else c.args.text.now c.args.at (sym c.hex_byte.ensures ∙ ap spelled c.in_default.is) (jumped c.args.inside c.args.at (range_at c.args.text.now c.args.at)))
 
-pub returns-in-Masked : goal.returns-in-Masked
-unfolding hex_token ◌else◌
-returns-in-Masked c =
-    sym (byte_else c.args.text.now c.args.at (sym c.hex_byte-h.ensures ∙ ap spelled c.in-Masked.is) (jumped c.args.inside c.args.at (range_at c.args.text.now c.args.at)))
-
-pub returns-in-Absent : goal.returns-in-Absent
-unfolding hex_token ◌else◌
-returns-in-Absent c =
-    c.jump.ensures ∙ sym (byte_else c.args.text.now c.args.at (sym c.hex_byte-h.ensures ∙ ap spelled c.in-Absent.is) (jumped c.args.inside c.args.at (range_at c.args.text.now c.args.at)))
+pub returns : goal.returns
+unfolding ◌else◌
+returns c =
+    let h = c.in-Some.h in
+    sym (byte_else c.args.text.now c.args.at (sym c.hex_byte.ensures ∙ ap spelled c.in-Some.is) (jumped c.args.inside c.args.at (range_at c.args.text.now c.args.at))
+    ∙ ap (λ x. x else jumped c.args.inside c.args.at (range_at c.args.text.now c.args.at)) (c.into.ensures h.stop h.end))

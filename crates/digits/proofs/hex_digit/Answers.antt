@@ -1,39 +1,46 @@
--- Each way out gives what the definition gives there. Assumes nothing.
-use mathlib.Core.Path.{sym, ◌∙◌}
+-- The value of a digit of either case. Assumes nothing.
+use Rattle.std.proofs.Common.{◌≡◌, ℕ, ◌-◌, ◌≤◌, refl, arith, le-leb}
+use Rattle.std.proofs.lemmas.Bool.{lt-leb}
+use Rattle.std.proofs.Math.Option.{some}
+use Rattle.std.proofs.lemmas.Bool.Decides.{nat_tests}
 use Prim.Native.Char.{code}
-use Rattle.def_reading.specs.Pieces.{digit}
-use Rattle.def_reading.proofs.PieceLaws.{within_true}
-use native.Mathlib.Omega.{arith}
+use Rattle.def_reading.specs.Pieces.{digit, within}
 use Rattle.digits.proofs.hex_digit.Goals as goal
 
-pub overflow_sub-result : goal.overflow_sub-result
-overflow_sub-result c =
-    omega (arith, within_true (code "0") (code "9") c.args.c (sym c.in_range.ensures ∙ c.if-in_range.true))
+module _ (c : ℕ) where
+  decimal_digit : code "0" ≤ c → c ≤ code "9" → some (c - code "0") ≡ digit c
+  unfolding digit within
+  decimal_digit a b = rw (le-leb (code "0") c a, le-leb c (code "9") b) refl
 
-pub returns-then-in_range : goal.returns-then-in_range
-unfolding digit
-returns-then-in_range c =
-    sym (rw (sym c.in_range.ensures ∙ c.if-in_range.true))
+  upper_digit : code "A" ≤ c → c ≤ code "F" → some (c - 55) ≡ digit c
+  unfolding digit within
+  upper_digit a b = rw (le-leb (code "0") c (omega arith), lt-leb c (code "9") (omega arith), le-leb (code "A") c a, le-leb c (code "F") b) refl
 
-pub overflow_sub-result-then-in_range-2 : goal.overflow_sub-result-then-in_range-2
-overflow_sub-result-then-in_range-2 c =
-    omega (arith, within_true (code "A") (code "F") c.args.c (sym c.in_range-2.ensures ∙ c.if-in_range-2.true))
+  lower_digit : code "a" ≤ c → c ≤ code "f" → some (c - 87) ≡ digit c
+  unfolding digit within
+  lower_digit a b = rw (le-leb (code "0") c (omega arith), lt-leb c (code "9") (omega arith), le-leb (code "A") c (omega arith), lt-leb c (code "F") (omega arith), le-leb (code "a") c a, le-leb c (code "f") b) refl
 
-pub returns-then-in_range-2 : goal.returns-then-in_range-2
-unfolding digit
-returns-then-in_range-2 c =
-    sym (rw ((sym c.in_range.ensures ∙ c.if-in_range.false), (sym c.in_range-2.ensures ∙ c.if-in_range-2.true)))
+pub returns-in-48-to-57 : goal.returns-in-48-to-57
+returns-in-48-to-57 c = decimal_digit c.args.c (omega arith) (omega arith)
 
-pub overflow_sub-result-then-in_range-3 : goal.overflow_sub-result-then-in_range-3
-overflow_sub-result-then-in_range-3 c =
-    omega (arith, within_true (code "a") (code "f") c.args.c (sym c.in_range-3.ensures ∙ c.if-in_range-3.true))
+pub returns-in-65-to-70 : goal.returns-in-65-to-70
+returns-in-65-to-70 c = upper_digit c.args.c (omega arith) (omega arith)
 
-pub returns-then-in_range-3 : goal.returns-then-in_range-3
-unfolding digit
-returns-then-in_range-3 c =
-    sym (rw ((sym c.in_range.ensures ∙ c.if-in_range.false), (sym c.in_range-2.ensures ∙ c.if-in_range-2.false), (sym c.in_range-3.ensures ∙ c.if-in_range-3.true)))
+pub returns-in-97-to-102 : goal.returns-in-97-to-102
+returns-in-97-to-102 c = lower_digit c.args.c (omega arith) (omega arith)
 
-pub returns : goal.returns
-unfolding digit
-returns c =
-    sym (rw ((sym c.in_range.ensures ∙ c.if-in_range.false), (sym c.in_range-2.ensures ∙ c.if-in_range-2.false), (sym c.in_range-3.ensures ∙ c.if-in_range-3.false)))
+pub returns-in_default : goal.returns-in_default
+unfolding digit within
+returns-in_default c = grind (arith, nat_tests)
+
+pub returns-in_default-2 : goal.returns-in_default-2
+unfolding digit within
+returns-in_default-2 c = grind (arith, nat_tests)
+
+pub returns-in_default-3 : goal.returns-in_default-3
+unfolding digit within
+returns-in_default-3 c = grind (arith, nat_tests)
+
+pub returns-in_default-4 : goal.returns-in_default-4
+unfolding digit within
+returns-in_default-4 c = grind (arith, nat_tests)

@@ -1,25 +1,25 @@
--- Each way out gives what the definition gives there. Assumes nothing.
+-- The four blanks, and no other byte. Assumes nothing.
+use Rattle.std.proofs.Common.{◌≡◌, ℕ, false, inl, inr, refl, arith, ne_eqb, rules}
+use Rattle.std.proofs.lemmas.Bool.Decides.{nat_tests}
 use Prim.Native.Char.{code}
-use borrow.Author.Tests.{ne_eqb}
 use Rattle.def_reading.specs.Blanks.{blank}
 use Rattle.digits.proofs.is_blank.Goals as goal
 
-pub returns-then-c-eq32 : goal.returns-then-c-eq32
+none_of : (c : ℕ) → (c ≡ 32 → ⊥) → (c ≡ 9 → ⊥) → (c ≡ 13 → ⊥) → (c ≡ 10 → ⊥) → false ≡ blank c
 unfolding blank
-returns-then-c-eq32 c =
-    rw c.if-c-eq32.true
+none_of c h i j k = simp (ne_eqb c (code " ") h, ne_eqb c (code "\t") i, ne_eqb c (code "\r") j, ne_eqb c (code "\n") k)
 
-pub returns-then-c-eq9 : goal.returns-then-c-eq9
-unfolding blank
-returns-then-c-eq9 c =
-    rw c.if-c-eq9.true
+pub returns-in_default : goal.returns-in_default
+returns-in_default c = none_of c.args.c (λ e. omega arith) (λ e. omega arith) (λ e. omega arith) (λ e. omega arith)
 
-pub returns-then-c-eq13 : goal.returns-then-c-eq13
+pub returns-in-32 : goal.returns-in-32
 unfolding blank
-returns-then-c-eq13 c =
-    rw c.if-c-eq13.true
+returns-in-32 c = elim c.in-32.is [ inl e ↦ rw e refl | inr e ↦ rw e refl ]
 
-pub returns : goal.returns
+pub returns-in-32-2 : goal.returns-in-32-2
 unfolding blank
-returns c =
-    simp (ne_eqb c.args.c (code " ") c.if-c-eq32.false, ne_eqb c.args.c (code "\t") c.if-c-eq9.false, ne_eqb c.args.c (code "\r") c.if-c-eq13.false)
+returns-in-32-2 c = search rules
+
+pub returns-in_default-2 : goal.returns-in_default-2
+unfolding blank
+returns-in_default-2 c = grind (arith, nat_tests)

@@ -1,21 +1,22 @@
 -- Each way out gives what the definition gives there. Assumes nothing.
-use mathlib.Core.Path.{sym, ap, ◌∙◌}
+use Rattle.std.proofs.Common.{Ok, Err, sym, ap, ◌∙◌}
+use Rattle.std.proofs.lemmas.Result.{err_from_is_err_and}
 use Rattle.def_reading.specs.Pieces.{◌else◌}
-use Rattle.digits.specs.Answers.{leaf_seen}
 use Rattle.def_reading.proofs.PieceSteps.{leaf_not}
+use Rattle.digits.specs.Answers.{leaf_seen}
 use Rattle.digits.proofs.leaf_token.Goals as goal
 
-pub returns-in-Found : goal.returns-in-Found
+pub returns-in_err-not : goal.returns-in_err-not
 unfolding ◌else◌
-returns-in-Found c =
-    sym (leaf_not c.args.text.now c.args.at c.args.inside (sym c.not_token-n.ensures ∙ ap leaf_seen c.in-Found.is))
+returns-in_err-not c =
+    let p = err_from_is_err_and c.from_residual.result c.from_residual.ensures.1 in
+    ap leaf_seen (p.1 ∙ ap Err p.2) ∙ sym (leaf_not c.args.text.now c.args.at c.args.inside (sym c.not_token.ensures ∙ ap leaf_seen c.in_err-not.was))
 
-pub returns-in-Absent : goal.returns-in-Absent
+pub returns-in_default : goal.returns-in_default
 unfolding ◌else◌
-returns-in-Absent c =
-    c.byte_or_jump.ensures ∙ sym (leaf_not c.args.text.now c.args.at c.args.inside (sym c.not_token-n.ensures ∙ ap leaf_seen c.in-Absent.is))
+returns-in_default c =
+    c.byte_or_jump.ensures ∙ sym (leaf_not c.args.text.now c.args.at c.args.inside (sym c.not_token.ensures ∙ ap leaf_seen (c.in_ok-not.was ∙ ap Ok c.in_default.is)))
 
-pub returns-in-Refused : goal.returns-in-Refused
+pub returns : goal.returns
 unfolding ◌else◌
-returns-in-Refused c =
-    sym (leaf_not c.args.text.now c.args.at c.args.inside (sym c.not_token-n.ensures ∙ ap leaf_seen c.in-Refused.is))
+returns c = sym (leaf_not c.args.text.now c.args.at c.args.inside (sym c.not_token.ensures ∙ ap leaf_seen (c.in_ok-not.was ∙ ap Ok c.in-Some.is)))

@@ -1,65 +1,84 @@
 -- The digits from here spell, after the value so far, what all of them spell. Assumes nothing.
-use mathlib.Core.Path.{◌≡◌, sym, ap, ◌∙◌}
 use Prim.Native.Char.{code}
-use Prim.Native.Nat.{ℕ, ◌+◌, ◌-◌, ◌*◌, ◌<◌}
-use lib.ListN.{drop, get_or}
-use Rattle.def_reading.specs.Pieces.{found, decimals, numeral, decimal}
-use Rattle.def_reading.proofs.PieceLaws.{here_in, within_true, number_none, number_next, numeral_from}
-use Rattle.def_reading.proofs.PieceSteps.{number_absent, number_found, number_big}
+use Rattle.std.proofs.Common.{◌≡◌, ℕ, ◌+◌, ◌-◌, ◌*◌, ◌≤◌, ◌<◌, Bool, true, false, List, length, get_or, drop, Ok, Some, refl, sym, ap, ◌∙◌, arith, get_or-drop}
+use Rattle.std.proofs.Math.ListN.{get_or-eq_default}
+use Rattle.std.specs.Char.{is_ascii_digit}
 use Rattle.def_meaning.specs.Limits.{number_limit}
-use native.Mathlib.Omega.{arith}
+use Rattle.def_reading.specs.Pieces.{within, decimals, numeral, decimal}
+use Rattle.def_reading.proofs.PieceLaws.{number_none, number_next, numeral_from}
+use Rattle.def_reading.proofs.PieceSteps.{number_absent, number_found, number_big}
+use Rattle.digits.specs.Answers.{numbered}
+use Rattle.digits.proofs.number.Goals.{else-loop-c-test, then-loop-c-test+then-not-is_ascii_digit}
 use Rattle.digits.proofs.number.Goals as goal
 
-pub returns-then-not-in_range : goal.returns-then-not-in_range
-returns-then-not-in_range c =
-    sym (number_absent c.args.text.now c.args.at (ap decimal (sym c.peek-first.ensures) ∙ sym c.in_range.ensures ∙ c.if-not-in_range.true))
+is_decimal : (c : ℕ) → is_ascii_digit c ≡ decimal c
+unfolding within
+is_decimal c = refl
 
-pub returns-then-not-in_range-2 : goal.returns-then-not-in_range-2
-returns-then-not-in_range-2 c =
-    let z = number_none c.args.text.now c.loop-at.value c.loop-at.i
-    (ap decimal (sym c.peek-c.ensures) ∙ sym c.in_range-in-loop-at.ensures ∙ c.if-not-in_range-2.true) in
-    let w = c.loop-at.invariant.1 in
-    let q : c.args.at + decimals (drop c.args.at c.args.text.now) ≡ c.loop-at.i = omega arith in ap (λ (e : ℕ). found c.loop-at.value c.loop-at.i e)
-    c.skip_blanks.ensures
-    ∙ sym (number_found c.args.text.now c.args.at (ap decimal (sym c.peek-first.ensures) ∙ sym c.in_range.ensures ∙ c.if-not-in_range.false)
-    (c.loop-at.invariant.0 ∙ z.1) q c.loop-at.invariant.2)
+-- an item of what is left, as a byte of the text
+module _ (t r : List ℕ) (at i stop : ℕ) (left : r ≡ drop at t) (here : stop ≡ at + i) where
+  item : get_or r i 0 ≡ get_or t stop 0
+  item = ap (λ x. get_or x i 0) left ∙ get_or-drop at t i 0 ∙ ap (λ j. get_or t j 0) (sym here)
 
-pub overflow_sub-c : goal.overflow_sub-c
-overflow_sub-c c =
-    let p = c.peek-c.ensures in let d = within_true (code "0") (code "9") (get_or c.args.text.now c.loop-at.i 0) (ap decimal (sym c.peek-c.ensures) ∙ sym c.in_range-in-loop-at.ensures ∙ c.if-not-in_range-2.false) in let l = c.loop-at.invariant.2 in omega arith
+  item_decimal : (b : Bool) → is_ascii_digit (get_or r i 0) ≡ b → decimal (get_or t stop 0) ≡ b
+  item_decimal b e = ap decimal (sym item) ∙ sym (is_decimal (get_or r i 0)) ∙ e
+
+  ended : length r ≤ i → decimal (get_or t stop 0) ≡ false
+  ended h = item_decimal false (ap is_ascii_digit (get_or-eq_default r 0 h))
+
+first_decimal : (t : List ℕ) (at : ℕ) → 0 < decimals (drop at t) → decimal (get_or t at 0) ≡ true
+first_decimal t at h = go (decimal (get_or t at 0)) refl
+  where
+    go : (b : Bool) → decimal (get_or t at 0) ≡ b → decimal (get_or t at 0) ≡ true
+    go true e = e
+    go false e = let z = (number_none t 0 at e).0 in absurd (omega arith)
 
 pub returns-then-value-gt-NUMBER_LIMIT : goal.returns-then-value-gt-NUMBER_LIMIT
 returns-then-value-gt-NUMBER_LIMIT c =
-    let p = c.peek-c.ensures in
-    let d = within_true (code "0") (code "9") (get_or c.args.text.now c.loop-at.i 0)
-    (ap decimal (sym c.peek-c.ensures) ∙ sym c.in_range-in-loop-at.ensures ∙ c.if-not-in_range-2.false) in
-    let l = c.loop-at.invariant.2 in
-    let w = c.wide.ensures in
-    let n = number_next c.args.text.now c.loop-at.value c.loop-at.i
-    (ap decimal (sym c.peek-c.ensures) ∙ sym c.in_range-in-loop-at.ensures ∙ c.if-not-in_range-2.false) in
-    let m = numeral_from (10 * c.loop-at.value + (get_or c.args.text.now c.loop-at.i 0 - code "0")) (drop (c.loop-at.i + 1) c.args.text.now) in
-    let k = c.loop-at.invariant.0 in
+    let l = c.loop-c in
+    let t = c.args.text.now in
+    let k = item t c.rest-c-items.result.now c.args.at l.c-index l.stop c.rest-c-items.ensures l.invariant.3 in
+    let d = item_decimal t c.rest-c-items.result.now c.args.at l.c-index l.stop c.rest-c-items.ensures l.invariant.3 true (sym c.is_ascii_digit.ensures.value ∙ c.if-not-is_ascii_digit.false) in
+    let n = number_next t l.value l.stop d in
+    let m = numeral_from (10 * l.value + (get_or t l.stop 0 - code "0")) (drop (l.stop + 1) t) in
+    let f = c.from.ensures in
+    let i = l.invariant in
     let h = c.if-value-gt-NUMBER_LIMIT.true in
-    let b : number_limit < numeral 0 (drop c.args.at c.args.text.now) = omega arith in sym
-    (number_big c.args.text.now c.args.at (ap decimal (sym c.peek-first.ensures) ∙ sym c.in_range.ensures ∙ c.if-not-in_range.false) b)
+    let b : number_limit < numeral 0 (drop c.args.at t) = omega arith in
+    sym (number_big t c.args.at (first_decimal t c.args.at (omega arith)) b)
 
-pub overflow_add-i : goal.overflow_add-i
-overflow_add-i c =
-    omega (arith, here_in c.args.text.now c.loop-at.i (omega (arith, within_true (code "0") (code "9") (get_or c.args.text.now c.loop-at.i 0) (ap decimal (sym c.peek-c.ensures) ∙ sym c.in_range-in-loop-at.ensures ∙ c.if-not-in_range-2.false))))
+pub loop-c-preserved : goal.loop-c-preserved
+loop-c-preserved c =
+    let l = c.loop-c in
+    let t = c.args.text.now in
+    let k = item t c.rest-c-items.result.now c.args.at l.c-index l.stop c.rest-c-items.ensures l.invariant.3 in
+    let d = item_decimal t c.rest-c-items.result.now c.args.at l.c-index l.stop c.rest-c-items.ensures l.invariant.3 true (sym c.is_ascii_digit.ensures.value ∙ c.if-not-is_ascii_digit.false) in
+    let n = number_next t l.value l.stop d in
+    let f = c.from.ensures in
+    let i = l.invariant in
+    let q : 10 * l.value + (get_or t l.stop 0 - code "0") ≡ 10 * l.value + c.from.result = omega arith in
+    (i.0 ∙ n.1 ∙ ap (λ m. numeral m (drop (l.stop + 1) t)) q, omega arith, c.if-value-gt-NUMBER_LIMIT.false, omega arith)
 
-pub loop-at-smaller : goal.loop-at-smaller
-loop-at-smaller c =
-    omega (arith, here_in c.args.text.now c.loop-at.i (omega (arith, within_true (code "0") (code "9") (get_or c.args.text.now c.loop-at.i 0) (ap decimal (sym c.peek-c.ensures) ∙ sym c.in_range-in-loop-at.ensures ∙ c.if-not-in_range-2.false))))
+pub returns-then-stop-at : goal.returns-then-stop-at
+returns-then-stop-at c =
+    let l = c.loop-c in
+    let t = c.args.text.now in
+    let d : decimal (get_or t l.stop 0) ≡ false = elim c.loop-c-test.branch [
+      | else-loop-c-test w ↦ ended t c.rest-c-items.result.now c.args.at l.c-index l.stop c.rest-c-items.ensures l.invariant.3 w.loop-c-test.false
+      | then-loop-c-test+then-not-is_ascii_digit w ↦ item_decimal t c.rest-c-items.result.now c.args.at l.c-index l.stop c.rest-c-items.ensures l.invariant.3 false (sym w.is_ascii_digit.ensures.value ∙ w.if-not-is_ascii_digit.true)
+    ] in
+    sym (number_absent t c.args.at (ap (λ i. decimal (get_or t i 0)) (sym c.if-stop-at.true) ∙ d))
 
-pub loop-at-preserved : goal.loop-at-preserved
-loop-at-preserved c =
-    let p = c.peek-c.ensures in
-    let d = within_true (code "0") (code "9") (get_or c.args.text.now c.loop-at.i 0)
-    (ap decimal (sym c.peek-c.ensures) ∙ sym c.in_range-in-loop-at.ensures ∙ c.if-not-in_range-2.false) in
-    let l = c.loop-at.invariant.2 in
-    let w = c.wide.ensures in
-    let n = number_next c.args.text.now c.loop-at.value c.loop-at.i
-    (ap decimal (sym c.peek-c.ensures) ∙ sym c.in_range-in-loop-at.ensures ∙ c.if-not-in_range-2.false) in
-    let k = c.loop-at.invariant.1 in
-    let q : 10 * c.loop-at.value + (get_or c.args.text.now c.loop-at.i 0 - code "0") ≡ 10 * c.loop-at.value + c.wide.result = omega arith in
-    (c.loop-at.invariant.0 ∙ n.1 ∙ ap (λ (m : ℕ). numeral m (drop (c.loop-at.i + 1) c.args.text.now)) q, omega arith, c.if-value-gt-NUMBER_LIMIT.false)
+pub returns : goal.returns
+returns c =
+    let l = c.loop-c in
+    let t = c.args.text.now in
+    let d : decimal (get_or t l.stop 0) ≡ false = elim c.loop-c-test.branch [
+      | else-loop-c-test w ↦ ended t c.rest-c-items.result.now c.args.at l.c-index l.stop c.rest-c-items.ensures l.invariant.3 w.loop-c-test.false
+      | then-loop-c-test+then-not-is_ascii_digit w ↦ item_decimal t c.rest-c-items.result.now c.args.at l.c-index l.stop c.rest-c-items.ensures l.invariant.3 false (sym w.is_ascii_digit.ensures.value ∙ w.if-not-is_ascii_digit.true)
+    ] in
+    let z = number_none t l.value l.stop d in
+    let i = l.invariant in
+    let q : c.args.at + decimals (drop c.args.at t) ≡ l.stop = omega arith in
+    let s : 0 < decimals (drop c.args.at t) = omega (arith, c.if-stop-at.false) in
+    ap (λ r. numbered c.args.at (Ok (Some r))) c.up_to.ensures ∙ sym (number_found t c.args.at (first_decimal t c.args.at s) (i.0 ∙ z.1) q i.2)
