@@ -3,17 +3,27 @@
 #![tactic(auto)]
 
 ghost use Rattle.std.specs.Prelude.{◌≡◌, ℕ, drop, get_or};
+ghost use Rattle.def_meaning.specs.Entries.{mask_number};
 ghost use Rattle.def_reading.specs.Blanks.{blank, skip};
 ghost use Rattle.def_reading.specs.Pieces.{digit, decimal, byte_at, masked_at, hex_at, not_at, number_at, checked, closed_at, dash_at, range_at, jump_token, jumped, found, hex_token, leaf_at, ◌else◌};
-ghost use Rattle.digits.specs.Answers.{value_of, hex_of, ending, spelled, token_of, leaf_seen, numbered, bounded, ranged};
+ghost use Rattle.digits.specs.Answers.{value_of, mask_of, hex_of, ending, spelled, token_of, leaf_seen, numbered, bounded, ranged};
 
 use base::{INNER_JUMP_LIMIT, NUMBER_LIMIT, Refusal, Refused};
 
+// With the number by which an entry says it.
 #[derive(Clone, Copy)]
 pub enum Mask {
-    Left,
-    Right,
-    All,
+    Left = 0,
+    Right = 1,
+    All = 2,
+}
+
+impl From<Mask> for u32 {
+    ghost from_gives = { λ m n. n ≡ mask_number (mask_of m) };
+
+    fn from(m: Mask) -> Self {
+        m as u32
+    }
 }
 
 // A byte as it is spelled, whole or masked.

@@ -16,11 +16,8 @@ use Rattle.def_reading.specs.Blanks.{skip}
 use Rattle.def_reading.specs.Lists.{read, stopped, is_jump, as_token, beside, list, lists}
 use Rattle.def_reading.proofs.PieceLaws.{here_at, skip_from, skip_in}
 use Rattle.def_reading.proofs.ListSteps.{list_gone, lists_closed, lists_barred, lists_else, lists_missing, lists_stopped}
-use Rattle.reader.specs.declared.TokenGot.TheVariants as token-got
-use Rattle.reader.specs.declared.ListGot.{ListGot}
-use Rattle.reader.specs.declared.ListGot.TheVariants as list-got
 use Rattle.reader.specs.Written.{written}
-use Rattle.reader.specs.Says.{TokenSays, ListSays, alternatives}
+use Rattle.reader.specs.Says.{ListGot, list_to, no_list, list_refusal, token_to, token_refusal, TokenSays, ListSays, alternatives}
 use Rattle.reader.proofs.WrittenLaws.{written_none, written_append, headed}
 use Rattle.reader.proofs.SaysLaws.{list_read, list_absent, list_refused, says_read, says_refused, bracket_open}
 use Rattle.reader.proofs.Joined.{◌with◌, besides, besides_with, besides_read, besides_stopped, entries_with, count_with}
@@ -67,7 +64,7 @@ module _ (t : List ℕ) (l count at n : ℕ) (p : List ℕ) where
   }
 
   module _ (pool : List ℕ) (x miss m c k : ℕ) (inv : ListsRead t l count at n p pool x miss m c k) (g : ListGot) (q : List ℕ) (says : ListSays (list t (l + 1) c x) (m + 4) g pool q) where
-    pub turned : (e u d own : ℕ) → g ≡ list-got.Read e u d own → Turned t x m c e u d own
+    pub turned : (e u d own : ℕ) → g ≡ list_to e u d own → Turned t x m c e u d own
     turned e u d own h =
         let z = list_read (m + 4) g pool q (list t (l + 1) c x) e u d own h says in
         let w = list_gone t (l + 1) c x z.1 in
@@ -78,7 +75,7 @@ module _ (t : List ℕ) (l count at n : ℕ) (p : List ℕ) where
         record { moved = w.moved; inside = w.inside; counted = w.counted; within = w.within; room = omega arith; more = omega arith; few = omega arith }
 
     -- the mark stands before the list's words
-    pub marked : (e u d own : ℕ) → n + 4 ≤ length p → m + 4 ≤ length p → g ≡ list-got.Read e u d own
+    pub marked : (e u d own : ℕ) → n + 4 ≤ length p → m + 4 ≤ length p → g ≡ list_to e u d own
         → (ts : Tokens) × (list t (l + 1) c x ≡ read ts e d) × (u ≡ n + 4 + length (list_entries (inv.ls with ts))) × (written q m (6 ∷ own ∷ ((u - (m + 4)) / 4) ∷ 0 ∷ []) ≡ written p (n + 4) (list_entries (inv.ls with ts)))
     marked e u d own r r' h =
         let z = list_read (m + 4) g pool q (list t (l + 1) c x) e u d own h says in
@@ -101,7 +98,7 @@ module _ (t : List ℕ) (l count at n : ℕ) (p : List ℕ) where
               ∙ ap (written p (n + 4)) (sym (entries_with ls ts)),
         )
 
-    pub lists_read_next : (e u d own y : ℕ) (q' : List ℕ) → n + 4 ≤ length p → m + 4 ≤ length p → g ≡ list-got.Read e u d own → q' ≡ written q m (6 ∷ own ∷ ((u - (m + 4)) / 4) ∷ 0 ∷ []) → length q' ≡ length p
+    pub lists_read_next : (e u d own y : ℕ) (q' : List ℕ) → n + 4 ≤ length p → m + 4 ≤ length p → g ≡ list_to e u d own → q' ≡ written q m (6 ∷ own ∷ ((u - (m + 4)) / 4) ∷ 0 ∷ []) → length q' ≡ length p
         → get_or t e 0 ≡ code "|" → y ≡ skip t (e + 1) → ListsRead t l count at n p q' y e u d (k + 1)
     lists_read_next e u d own y q' r r' h hq lq b s =
         let z = marked e u d own r r' h in
@@ -128,8 +125,8 @@ module _ (t : List ℕ) (l count at n : ℕ) (p : List ℕ) where
           kept = lq;
         }
 
-    pub lists_read_done : (e u d own y : ℕ) (q' q'' : List ℕ) → n + 4 ≤ length p → m + 4 ≤ length p → get_or t at 0 ≡ code "(" → count < token_limit → g ≡ list-got.Read e u d own → q' ≡ written q m (6 ∷ own ∷ ((u - (m + 4)) / 4) ∷ 0 ∷ [])
-        → q'' ≡ written q' n (5 ∷ (k + 1) ∷ ((u - (n + 4)) / 4) ∷ 0 ∷ []) → get_or t e 0 ≡ code ")" → y ≡ skip t (e + 1) → TokenSays (alternatives t l count at) n (token-got.Read y u d false) p q''
+    pub lists_read_done : (e u d own y : ℕ) (q' q'' : List ℕ) → n + 4 ≤ length p → m + 4 ≤ length p → get_or t at 0 ≡ code "(" → count < token_limit → g ≡ list_to e u d own → q' ≡ written q m (6 ∷ own ∷ ((u - (m + 4)) / 4) ∷ 0 ∷ [])
+        → q'' ≡ written q' n (5 ∷ (k + 1) ∷ ((u - (n + 4)) / 4) ∷ 0 ∷ []) → get_or t e 0 ≡ code ")" → y ≡ skip t (e + 1) → TokenSays (alternatives t l count at) n (token_to y u d false) p q''
     unfolding as_token is_jump entries_of
     lists_read_done e u d own y q' q'' r r' o f h hq hq'' b s =
         let z = marked e u d own r r' h in
@@ -145,17 +142,17 @@ module _ (t : List ℕ) (l count at n : ℕ) (p : List ℕ) where
         ∙ ap₂ (λ (a j : ℕ). written p n (5 ∷ a ∷ (j / 4) ∷ 0 ∷ list_entries ls)) kk i)
 
     -- a refusal within
-    stops : {r : Refusal} {y : ℕ} (q' : List ℕ) → get_or t at 0 ≡ code "(" → count < token_limit → lists t (l + 1) c x miss ≡ stopped r y → TokenSays (alternatives t l count at) n (token-got.Refused r y) p q'
+    stops : {r : Refusal} {y : ℕ} (q' : List ℕ) → get_or t at 0 ≡ code "(" → count < token_limit → lists t (l + 1) c x miss ≡ stopped r y → TokenSays (alternatives t l count at) n (token_refusal r y) p q'
     unfolding as_token
     stops {r} {y} q' o f w = says_refused (alternatives t l count at) n p q' r y (bracket_open t l count at o f (inv.whole ∙ ap (besides inv.ls) w ∙ besides_stopped inv.ls r y))
 
-    pub lists_read_else : (e u d own : ℕ) (q' : List ℕ) → get_or t at 0 ≡ code "(" → count < token_limit → g ≡ list-got.Read e u d own → (get_or t e 0 ≡ code ")" → ⊥) → (get_or t e 0 ≡ code "|" → ⊥) → TokenSays (alternatives t l count at) n (token-got.Refused Unexpected e) p q'
+    pub lists_read_else : (e u d own : ℕ) (q' : List ℕ) → get_or t at 0 ≡ code "(" → count < token_limit → g ≡ list_to e u d own → (get_or t e 0 ≡ code ")" → ⊥) → (get_or t e 0 ≡ code "|" → ⊥) → TokenSays (alternatives t l count at) n (token_refusal Unexpected e) p q'
     lists_read_else e u d own q' o f h a b =
         let z = list_read (m + 4) g pool q (list t (l + 1) c x) e u d own h says in
         stops q' o f (lists_else t (l + 1) c x miss z.1 a b)
 
-    pub lists_read_missing : get_or t at 0 ≡ code "(" → count < token_limit → g ≡ list-got.Absent → (q' : List ℕ) → TokenSays (alternatives t l count at) n (token-got.Refused Unexpected miss) p q'
+    pub lists_read_missing : get_or t at 0 ≡ code "(" → count < token_limit → g ≡ no_list → (q' : List ℕ) → TokenSays (alternatives t l count at) n (token_refusal Unexpected miss) p q'
     lists_read_missing o f h q' = stops q' o f (lists_missing t (l + 1) c x miss (list_absent (m + 4) g pool q (list t (l + 1) c x) h says).0)
 
-    pub lists_read_stop : get_or t at 0 ≡ code "(" → count < token_limit → (r : Refusal) (y : ℕ) → g ≡ list-got.Refused r y → (q' : List ℕ) → TokenSays (alternatives t l count at) n (token-got.Refused r y) p q'
+    pub lists_read_stop : get_or t at 0 ≡ code "(" → count < token_limit → (r : Refusal) (y : ℕ) → g ≡ list_refusal r y → (q' : List ℕ) → TokenSays (alternatives t l count at) n (token_refusal r y) p q'
     lists_read_stop o f r y h q' = stops q' o f (lists_stopped t (l + 1) c x miss (list_refused (m + 4) g pool q (list t (l + 1) c x) r y h says))

@@ -13,11 +13,8 @@ use Rattle.def_meaning.specs.Tokens.{Tokens, nothing, ◌then◌}
 use Rattle.def_meaning.specs.Entries.{entries_of, entries, token_count}
 use Rattle.def_reading.specs.Lists.{read, stopped, jump_first, jump_last, list_of, token, more, list}
 use Rattle.def_reading.proofs.ListSteps.{token_gone, more_read, more_none, more_stopped, list_of_lem}
-use Rattle.reader.specs.declared.TokenGot.{TokenGot}
-use Rattle.reader.specs.declared.TokenGot.TheVariants as token-got
-use Rattle.reader.specs.declared.ListGot.TheVariants as list-got
 use Rattle.reader.specs.Written.{written}
-use Rattle.reader.specs.Says.{TokenSays, ListSays, first_of, list_end}
+use Rattle.reader.specs.Says.{TokenGot, token_to, no_token, token_refusal, list_to, list_refusal, TokenSays, ListSays, first_of, list_end}
 use Rattle.reader.proofs.WrittenLaws.{written_none, written_append}
 use Rattle.reader.proofs.SaysLaws.{token_read, token_absent, token_refused, list_says_refused}
 use Rattle.reader.proofs.Joined.{◌and◌, befores, befores_and, befores_read, befores_stopped, entries_and, count_and, jump_first_and, jump_last_and, at_bound_lem}
@@ -67,14 +64,14 @@ module _ (t : List ℕ) (l count at n : ℕ) (p : List ℕ) where
   }
 
   module _ (pool : List ℕ) (x m c k : ℕ) (first last : Bool) (inv : Tokened t l count at n p pool x m c k first last) (g : TokenGot) (q : List ℕ) (says : TokenSays (token t l c x) m g pool q) where
-    pub stepped : (e u d : ℕ) (j : Bool) → g ≡ token-got.Read e u d j → Stepped t x m c e u d
+    pub stepped : (e u d : ℕ) (j : Bool) → g ≡ token_to e u d j → Stepped t x m c e u d
     stepped e u d j h =
         let z = token_read m g pool q (token t l c x) e u d j h says in
         let w = token_gone t l c x z.1 in
         let y = z.2 in
         record { moved = w.moved; inside = w.inside; counted = w.counted; within = w.within; room = omega arith; more = omega arith }
 
-    pub tokened_next : (e u d : ℕ) (j : Bool) → n ≤ length p → length q ≡ length pool → g ≡ token-got.Read e u d j → Tokened t l count at n p q e u d (k + 1) (first_of k first j) j
+    pub tokened_next : (e u d : ℕ) (j : Bool) → n ≤ length p → length q ≡ length pool → g ≡ token_to e u d j → Tokened t l count at n p q e u d (k + 1) (first_of k first j) j
     tokened_next e u d j r lq h =
         let z = token_read m g pool q (token t l c x) e u d j h says in
         let tok = z.0 in
@@ -109,19 +106,19 @@ module _ (t : List ℕ) (l count at n : ℕ) (p : List ℕ) where
     ended_list (tok then ts) e d = subst (λ (b : Bool). ListSays (cond b (stopped JumpAtBound at) (read (tok then ts) e d)) n (list_end at e (n + length (entries (tok then ts))) d (suc (token_count ts)) (jump_first (tok then ts)) (jump_last (tok then ts))) p (written p n (entries (tok then ts)))) (sym (at_bound_lem (tok then ts)))
         (rw (eqb-suc-zero (token_count ts)) (go (jump_first (tok then ts)) (jump_last (tok then ts))))
       where
-        go : (a b : Bool) → ListSays (cond (a || b) (stopped JumpAtBound at) (read (tok then ts) e d)) n (cond a (list-got.Refused JumpAtBound at) (cond b (list-got.Refused JumpAtBound at) (list-got.Read e (n + length (entries (tok then ts))) d (suc (token_count ts))))) p (written p n (entries (tok then ts)))
+        go : (a b : Bool) → ListSays (cond (a || b) (stopped JumpAtBound at) (read (tok then ts) e d)) n (cond a (list_refusal JumpAtBound at) (cond b (list_refusal JumpAtBound at) (list_to e (n + length (entries (tok then ts))) d (suc (token_count ts))))) p (written p n (entries (tok then ts)))
         go true b = refl
         go false true = refl
         go false false = (refl, refl)
 
-    pub tokened_end : l ≤ level_limit → g ≡ token-got.Absent → ListSays (list t l count at) n (list_end at x m c k first last) p q
+    pub tokened_end : l ≤ level_limit → g ≡ no_token → ListSays (list t l count at) n (list_end at x m c k first last) p q
     tokened_end s h =
         let z = token_absent m g pool q (token t l c x) h says in
         let us = inv.us in
         let w : list t l count at ≡ list_of at (read us x c) = list_of_lem t l count at s ∙ ap (list_of at) (inv.whole ∙ ap (befores us) (more_none t l c x z.0) ∙ befores_read us x c) in
         rw (w, z.1, inv.words, inv.used, inv.own, inv.begun, inv.ended) (ended_list us x c)
 
-    pub tokened_stop : l ≤ level_limit → (r : Refusal) (y : ℕ) → g ≡ token-got.Refused r y → ListSays (list t l count at) n (list-got.Refused r y) p q
+    pub tokened_stop : l ≤ level_limit → (r : Refusal) (y : ℕ) → g ≡ token_refusal r y → ListSays (list t l count at) n (list_refusal r y) p q
     unfolding list_of
     tokened_stop s r y h =
         let z = token_refused m g pool q (token t l c x) r y h says in

@@ -1,12 +1,9 @@
 -- What is known of what was read, once the answer is. Assumes nothing.
 use Prim.Native.Char.{code}
-use Prim.Native.Nat.{ℕ, ◌+◌, ◌≤◌, ◌<◌}
-use mathlib.Core.Path.{◌≡◌, refl, ap, ap₂, ◌∙◌, subst}
-use mathlib.Core.Bool.{Bool, cond}
-use mathlib.Core.List.{List}
-use borrow.Author.Tests.{lt-ltb, le-ltb, ne_eqb}
-use lib.Dec.{ltb}
-use lib.ListN.{length, get_or}
+use Rattle.std.proofs.Common.{◌≡◌, ℕ, ◌+◌, ◌≤◌, ◌<◌, Bool, cond, ltb, List, length, get_or, refl, sym, ap, ap₂, ◌∙◌, subst, lt-ltb, le-ltb, ne_eqb}
+use Rattle.base.specs.declared.Refused.{Refused}
+use Rattle.reader.specs.declared.TokenRead.{TokenRead}
+use Rattle.reader.specs.declared.ListRead.{ListRead}
 use Rattle.base.specs.declared.Refusal.{Refusal}
 use Rattle.base.specs.declared.Refusal.TheVariants.{TooManyTokens}
 use Rattle.def_meaning.specs.Limits.{token_limit}
@@ -18,73 +15,75 @@ use Rattle.def_reading.specs.Lists.{Parsed, read, missing, stopped, is_jump, tok
 use Rattle.def_reading.proofs.PieceLaws.{never}
 use Rattle.def_reading.proofs.PieceBounds.{OneEntry, leaf_entry}
 use Rattle.def_reading.proofs.ListSteps.{token_step}
-use Rattle.reader.specs.declared.TokenGot.{TokenGot}
-use Rattle.reader.specs.declared.TokenGot.TheVariants as token-got
-use Rattle.reader.specs.declared.ListGot.{ListGot}
-use Rattle.reader.specs.declared.ListGot.TheVariants as list-got
 use Rattle.reader.specs.Written.{written}
-use Rattle.reader.specs.Says.{TokenSays, ListSays, alternatives}
+use Rattle.reader.specs.Says.{TokenGot, token_to, no_token, token_refusal, ListGot, list_to, no_list, list_refusal, TokenSays, ListSays, alternatives}
 
 module _ (n : ℕ) (g : TokenGot) (p q : List ℕ) where
-  pub token_read : (x : Parsed Token) (e u d : ℕ) (j : Bool) → g ≡ token-got.Read e u d j → TokenSays x n g p q
+  pub token_read : (x : Parsed Token) (e u d : ℕ) (j : Bool) → g ≡ token_to e u d j → TokenSays x n g p q
       → (tok : Token) × (x ≡ read tok e d) × (u ≡ n + length (entries_of tok)) × (j ≡ is_jump tok) × (q ≡ written p n (entries_of tok))
   unfolding TokenSays
   token_read (read tok e' d') e u d j h s =
-      let a : e' ≡ e = cc in
-      let b : d' ≡ d = cc in
-      (tok, ap₂ (read tok) a b, cc, cc, s.1)
+      let z : record { to = record { at = e; count = d; words = u }; jump = j } ≡ record { to = record { at = e'; count = d'; words = n + length (entries_of tok) }; jump = is_jump tok } = cc in
+      let a : e ≡ e' = ap (λ (x : TokenRead). x.to.at) z in
+      let b : d ≡ d' = ap (λ (x : TokenRead). x.to.count) z in
+      (tok, ap₂ (read tok) (sym a) (sym b), ap (λ (x : TokenRead). x.to.words) z, ap (λ (x : TokenRead). x.jump) z, s.1)
   token_read missing e u d j h s = never (cc)
   token_read (stopped r y) e u d j h s = never (cc)
 
-  pub token_absent : (x : Parsed Token) → g ≡ token-got.Absent → TokenSays x n g p q → (x ≡ missing) × (q ≡ p)
+  pub token_absent : (x : Parsed Token) → g ≡ no_token → TokenSays x n g p q → (x ≡ missing) × (q ≡ p)
   unfolding TokenSays
   token_absent (read tok e d) h s = never (cc)
   token_absent missing h s = (refl, s.1)
   token_absent (stopped r y) h s = never (cc)
 
-  pub token_refused : (x : Parsed Token) (r : Refusal) (y : ℕ) → g ≡ token-got.Refused r y → TokenSays x n g p q → x ≡ stopped r y
+  pub token_refused : (x : Parsed Token) (r : Refusal) (y : ℕ) → g ≡ token_refusal r y → TokenSays x n g p q → x ≡ stopped r y
   unfolding TokenSays
   token_refused (read tok e d) r y h s = never (cc)
   token_refused missing r y h s = never (cc)
-  token_refused (stopped r' y') r y h s = cc
+  token_refused (stopped r' y') r y h s =
+      let z : record { why = r'; place = y' } ≡ record { why = r; place = y } = cc in
+      ap₂ stopped (ap (λ (x : Refused). x.why) z) (ap (λ (x : Refused). x.place) z)
 
 module _ (n : ℕ) (g : ListGot) (p q : List ℕ) where
-  pub list_read : (x : Parsed Tokens) (e u d k : ℕ) → g ≡ list-got.Read e u d k → ListSays x n g p q
+  pub list_read : (x : Parsed Tokens) (e u d k : ℕ) → g ≡ list_to e u d k → ListSays x n g p q
       → (ts : Tokens) × (x ≡ read ts e d) × (u ≡ n + length (entries ts)) × (k ≡ token_count ts) × (q ≡ written p n (entries ts))
   unfolding ListSays
   list_read (read ts e' d') e u d k h s =
-      let a : e' ≡ e = cc in
-      let b : d' ≡ d = cc in
-      (ts, ap₂ (read ts) a b, cc, cc, s.1)
+      let z : record { to = record { at = e; count = d; words = u }; tokens = k } ≡ record { to = record { at = e'; count = d'; words = n + length (entries ts) }; tokens = token_count ts } = cc in
+      let a : e ≡ e' = ap (λ (x : ListRead). x.to.at) z in
+      let b : d ≡ d' = ap (λ (x : ListRead). x.to.count) z in
+      (ts, ap₂ (read ts) (sym a) (sym b), ap (λ (x : ListRead). x.to.words) z, ap (λ (x : ListRead). x.tokens) z, s.1)
   list_read missing e u d k h s = never (cc)
   list_read (stopped r y) e u d k h s = never (cc)
 
-  pub list_absent : (x : Parsed Tokens) → g ≡ list-got.Absent → ListSays x n g p q → (x ≡ missing) × (q ≡ p)
+  pub list_absent : (x : Parsed Tokens) → g ≡ no_list → ListSays x n g p q → (x ≡ missing) × (q ≡ p)
   unfolding ListSays
   list_absent (read ts e d) h s = never (cc)
   list_absent missing h s = (refl, s.1)
   list_absent (stopped r y) h s = never (cc)
 
-  pub list_refused : (x : Parsed Tokens) (r : Refusal) (y : ℕ) → g ≡ list-got.Refused r y → ListSays x n g p q → x ≡ stopped r y
+  pub list_refused : (x : Parsed Tokens) (r : Refusal) (y : ℕ) → g ≡ list_refusal r y → ListSays x n g p q → x ≡ stopped r y
   unfolding ListSays
   list_refused (read ts e d) r y h s = never (cc)
   list_refused missing r y h s = never (cc)
-  list_refused (stopped r' y') r y h s = cc
+  list_refused (stopped r' y') r y h s =
+      let z : record { why = r'; place = y' } ≡ record { why = r; place = y } = cc in
+      ap₂ stopped (ap (λ (x : Refused). x.why) z) (ap (λ (x : Refused). x.place) z)
 
 -- and what is to be said of it
-pub says_read : (x : Parsed Token) (n : ℕ) (p q : List ℕ) (tok : Token) (e d u : ℕ) (j : Bool) → x ≡ read tok e d → u ≡ n + length (entries_of tok) → j ≡ is_jump tok → q ≡ written p n (entries_of tok) → TokenSays x n (token-got.Read e u d j) p q
+pub says_read : (x : Parsed Token) (n : ℕ) (p q : List ℕ) (tok : Token) (e d u : ℕ) (j : Bool) → x ≡ read tok e d → u ≡ n + length (entries_of tok) → j ≡ is_jump tok → q ≡ written p n (entries_of tok) → TokenSays x n (token_to e u d j) p q
 unfolding TokenSays
-says_read x n p q tok e d u j h a b w = rw h (ap₂ (λ (i : ℕ) (k : Bool). token-got.Read e i d k) a b, w)
+says_read x n p q tok e d u j h a b w = rw h (ap₂ (λ (i : ℕ) (k : Bool). token_to e i d k) a b, w)
 
-pub says_absent : (x : Parsed Token) (n : ℕ) (p : List ℕ) → x ≡ missing → TokenSays x n token-got.Absent p p
+pub says_absent : (x : Parsed Token) (n : ℕ) (p : List ℕ) → x ≡ missing → TokenSays x n no_token p p
 unfolding TokenSays
 says_absent x n p h = rw h (refl, refl)
 
-pub says_refused : (x : Parsed Token) (n : ℕ) (p q : List ℕ) (r : Refusal) (y : ℕ) → x ≡ stopped r y → TokenSays x n (token-got.Refused r y) p q
+pub says_refused : (x : Parsed Token) (n : ℕ) (p q : List ℕ) (r : Refusal) (y : ℕ) → x ≡ stopped r y → TokenSays x n (token_refusal r y) p q
 unfolding TokenSays
 says_refused x n p q r y h = rw h refl
 
-pub list_says_refused : (x : Parsed Tokens) (n : ℕ) (p q : List ℕ) (r : Refusal) (y : ℕ) → x ≡ stopped r y → ListSays x n (list-got.Refused r y) p q
+pub list_says_refused : (x : Parsed Tokens) (n : ℕ) (p q : List ℕ) (r : Refusal) (y : ℕ) → x ≡ stopped r y → ListSays x n (list_refusal r y) p q
 unfolding ListSays
 list_says_refused x n p q r y h = rw h refl
 

@@ -1,29 +1,55 @@
 -- What the readers' answers and the pool say of what was read. Assumes nothing: these are definitions.
 -- To be believed: nothing.
-use Rattle.std.specs.Prelude.{◌≡◌, Bool, cond, List, ℕ, suc, ◌+◌, ◌*◌, ◌≤◌, eqb, length}
+use Rattle.std.specs.Prelude.{◌≡◌, Bool, cond, List, ℕ, suc, ◌+◌, ◌*◌, ◌≤◌, eqb, length, Option, Some, None, Result, Ok, Err}
+use Rattle.base.specs.declared.Refusal.{Refusal}
 use Rattle.base.specs.declared.Refusal.TheVariants.{JumpAtBound}
+use Rattle.base.specs.declared.Refused.{Refused}
 use Rattle.def_meaning.specs.Limits.{text_limit, token_limit, level_limit, token_pool}
 use Rattle.def_meaning.specs.Tokens.{Token, Tokens}
 use Rattle.def_meaning.specs.Entries.{entries_of, entries, token_count}
 use Rattle.def_reading.specs.Blanks.{skip}
 use Rattle.def_reading.specs.Lists.{Parsed, read, missing, stopped, is_jump, bracketed, lists}
-use Rattle.reader.specs.declared.TokenGot.{TokenGot}
-use Rattle.reader.specs.declared.TokenGot.TheVariants as token-got
-use Rattle.reader.specs.declared.ListGot.{ListGot}
-use Rattle.reader.specs.declared.ListGot.TheVariants as list-got
+use Rattle.reader.specs.declared.TokenRead.{TokenRead}
+use Rattle.reader.specs.declared.ListRead.{ListRead}
 use Rattle.reader.specs.Written.{written}
+
+-- the readers' answers, by their parts: the offset, the words and the tokens until then; and whether it is a jump
+abbrev pub TokenGot : Type 0
+TokenGot = Result (Option TokenRead) Refused
+
+abbrev pub token_to : ℕ → ℕ → ℕ → Bool → TokenGot
+token_to e u d j = Ok (Some (record { to = record { at = e; count = d; words = u }; jump = j }))
+
+abbrev pub no_token : TokenGot
+no_token = Ok None
+
+abbrev pub token_refusal : Refusal → ℕ → TokenGot
+token_refusal r y = Err (record { why = r; place = y })
+
+-- the same, with how many tokens the list has of its own
+abbrev pub ListGot : Type 0
+ListGot = Result (Option ListRead) Refused
+
+abbrev pub list_to : ℕ → ℕ → ℕ → ℕ → ListGot
+list_to e u d k = Ok (Some (record { to = record { at = e; count = d; words = u }; tokens = k }))
+
+abbrev pub no_list : ListGot
+no_list = Ok None
+
+abbrev pub list_refusal : Refusal → ℕ → ListGot
+list_refusal r y = Err (record { why = r; place = y })
 
 -- the pool was p with n words used, and is q: a token's entries follow them; where there is no token nothing is written
 unfoldable pub TokenSays : Parsed Token → ℕ → TokenGot → List ℕ → List ℕ → Type 0
-TokenSays (read tok e count) n r p q = (r ≡ token-got.Read e (n + length (entries_of tok)) count (is_jump tok)) × (q ≡ written p n (entries_of tok))
-TokenSays missing n r p q = (r ≡ token-got.Absent) × (q ≡ p)
-TokenSays (stopped x place) n r p q = r ≡ token-got.Refused x place
+TokenSays (read tok e count) n r p q = (r ≡ token_to e (n + length (entries_of tok)) count (is_jump tok)) × (q ≡ written p n (entries_of tok))
+TokenSays missing n r p q = (r ≡ no_token) × (q ≡ p)
+TokenSays (stopped x place) n r p q = r ≡ token_refusal x place
 
 -- the same of a list, with how many tokens are its own
 unfoldable pub ListSays : Parsed Tokens → ℕ → ListGot → List ℕ → List ℕ → Type 0
-ListSays (read ts e count) n r p q = (r ≡ list-got.Read e (n + length (entries ts)) count (token_count ts)) × (q ≡ written p n (entries ts))
-ListSays missing n r p q = (r ≡ list-got.Absent) × (q ≡ p)
-ListSays (stopped x place) n r p q = r ≡ list-got.Refused x place
+ListSays (read ts e count) n r p q = (r ≡ list_to e (n + length (entries ts)) count (token_count ts)) × (q ≡ written p n (entries ts))
+ListSays missing n r p q = (r ≡ no_list) × (q ≡ p)
+ListSays (stopped x place) n r p q = r ≡ list_refusal x place
 
 -- alternatives at `at`
 abbrev pub alternatives : List ℕ → ℕ → ℕ → ℕ → Parsed Token
@@ -46,4 +72,4 @@ first_of k first jump = cond (eqb k 0) jump first
 -- a list's end: k tokens, and whether the first and the last are jumps
 abbrev pub list_end : ℕ → ℕ → ℕ → ℕ → ℕ → Bool → Bool → ListGot
 list_end at e m count k first last =
-    cond (eqb k 0) list-got.Absent (cond first (list-got.Refused JumpAtBound at) (cond last (list-got.Refused JumpAtBound at) (list-got.Read e m count k)))
+    cond (eqb k 0) no_list (cond first (list_refusal JumpAtBound at) (cond last (list_refusal JumpAtBound at) (list_to e m count k)))

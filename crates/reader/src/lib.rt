@@ -4,40 +4,44 @@
 #![tactic(auto)]
 
 ghost use Rattle.std.specs.Prelude.{◌≡◌, [], ◌∷◌, ◌+◌, ◌-◌, ◌/◌, ◌≤◌, ◌<◌, length};
+ghost use Rattle.base.specs.declared.Refusal.TheVariants.{Unexpected};
 ghost use Rattle.def_meaning.specs.Limits.{level_limit, token_pool};
-ghost use Rattle.def_meaning.specs.Entries.{entries_of, mask_number};
+ghost use Rattle.def_meaning.specs.Entries.{entries_of};
 ghost use Rattle.def_reading.specs.Lists.{is_jump, token, list};
-ghost use Rattle.digits.specs.Answers.{mask_of, token_of};
+ghost use Rattle.digits.specs.Answers.{token_of};
 ghost use Rattle.reader.specs.Written.{written};
 ghost use Rattle.reader.specs.Says.{TokenSays, ListSays, alternatives, Room, first_of, list_end};
 
-use base::{LEVEL_LIMIT, Refusal, TOKEN_LIMIT};
-use digits::{Leaf, LeafGot, Mask};
+use base::{LEVEL_LIMIT, Refusal, Refused, TOKEN_LIMIT};
+use digits::Leaf;
 
-// The offset after what was read, the words and the tokens until then; and whether it is a jump.
-#[derive(Drop)]
-pub enum TokenGot {
-    Read(usize, usize, usize, bool),
-    Absent,
-    Refused(Refusal, usize),
+// How far reading has come: the offset, and the tokens counted and the words used until then.
+#[derive(Clone, Copy)]
+pub struct Point {
+    pub at: usize,
+    pub count: usize,
+    pub words: usize,
 }
 
-// The same, with how many tokens the list has of its own.
-#[derive(Drop)]
-pub enum ListGot {
-    Read(usize, usize, usize, usize),
-    Absent,
-    Refused(Refusal, usize),
+// A token that was read, up to where, and whether it is a jump.
+#[derive(Clone, Copy)]
+pub struct TokenRead {
+    pub to: Point,
+    pub jump: bool,
 }
 
-fn put(pool: &mut [u32], n: usize, kind: u32, a: u32, b: u32, c: u32)
+// A list that was read, up to where, and how many tokens it has of its own.
+#[derive(Clone, Copy)]
+pub struct ListRead {
+    pub to: Point,
+    pub tokens: usize,
+}
+
+fn put(pool: &mut [u32], n: usize, entry: [u32; 4])
     requires { n + 4 ≤ length pool.old }
-    ensures { pool.new ≡ written pool.old n (kind ∷ a ∷ b ∷ c ∷ []) }
+    ensures { pool.new ≡ written pool.old n entry }
 {
-    pool[n] = kind;
-    pool[n + 1] = a;
-    pool[n + 2] = b;
-    pool[n + 3] = c;
+    pool[n..n + 4].copy_from_slice(&entry);
 }
 
 // The entry before other entries that end at `end`: alternatives, or a list's mark.
@@ -46,209 +50,172 @@ fn put_head(pool: &mut [u32], n: usize, kind: u32, count: usize, end: usize)
     ensures { pool.new ≡ written pool.old n (kind ∷ count ∷ ((end - (n + 4)) / 4) ∷ 0 ∷ []) }
 {
     let inner = (end - (n + 4)) / 4;
-    put(pool, n, kind, count as u32, inner as u32, 0);
+    put(pool, n, [kind, count as u32, inner as u32, 0]);
 }
 
-fn mask_number(m: Mask) -> u32
-    ensures { result ≡ mask_number (mask_of m) }
-{
-    match m {
-        Mask::Left => 0,
-        Mask::Right => 1,
-        Mask::All => 2,
-    }
-}
-
-fn wide(v: u8) -> u32
-    ensures { result ≡ v }
-{
-    v as u32
-}
-
-// Writes a token's entry, and says whether it is a jump.
-fn put_leaf(pool: &mut [u32], n: usize, tok: Leaf) -> bool
-    requires { n + 4 ≤ length pool.old }
-    ensures { (result ≡ is_jump (token_of tok)) × (pool.new ≡ written pool.old n (entries_of (token_of tok))) }
+fn entry(tok: Leaf) -> [u32; 4]
+    ensures { result ≡ entries_of (token_of tok) }
 {
     match tok {
-        Leaf::Byte(v) => {
-            put(pool, n, 0, wide(v), 0, 0);
-            false
-        }
-        Leaf::NotByte(v) => {
-            put(pool, n, 1, wide(v), 0, 0);
-            false
-        }
-        Leaf::MaskedByte(v, m) => {
-            put(pool, n, 2, wide(v), mask_number(m), 0);
-            false
-        }
-        Leaf::NotMaskedByte(v, m) => {
-            put(pool, n, 3, wide(v), mask_number(m), 0);
-            false
-        }
-        Leaf::Jump(from, to) => {
-            put(pool, n, 4, from, to, 1);
-            true
-        }
-        Leaf::OpenJump(from) => {
-            put(pool, n, 4, from, 0, 0);
-            true
-        }
+        Leaf::Byte(v) => [0, v.into(), 0, 0],
+        Leaf::NotByte(v) => [1, v.into(), 0, 0],
+        Leaf::MaskedByte(v, m) => [2, v.into(), m.into(), 0],
+        Leaf::NotMaskedByte(v, m) => [3, v.into(), m.into(), 0],
+        Leaf::Jump(from, to) => [4, from, to, 1],
+        Leaf::OpenJump(from) => [4, from, 0, 0],
     }
+}
+
+fn is_jump(tok: Leaf) -> bool
+    ensures { result ≡ is_jump (token_of tok) }
+{
+    matches!(tok, Leaf::Jump(_, _) | Leaf::OpenJump(_))
 }
 
 fn first_jump(k: usize, first: bool, jump: bool) -> bool
     ensures { result ≡ first_of k first jump }
 {
-    if k == 0 {
-        return jump;
-    }
-    first
+    if k == 0 { jump } else { first }
 }
 
 fn list_end(
     at: usize,
-    x: usize,
-    m: usize,
-    count: usize,
+    to: Point,
     k: usize,
     first: bool,
     last: bool,
-) -> ListGot
-    ensures { result ≡ list_end at x m count k first last }
+) -> Result<Option<ListRead>, Refused>
+    ensures { result ≡ list_end at to.at to.words to.count k first last }
 {
     if k == 0 {
-        return ListGot::Absent;
+        return Ok(None);
     }
-    if first {
-        return ListGot::Refused(Refusal::JumpAtBound, at);
+    if first || last {
+        return Err(Refused {
+            why: Refusal::JumpAtBound,
+            place: at,
+        });
     }
-    if last {
-        return ListGot::Refused(Refusal::JumpAtBound, at);
-    }
-    ListGot::Read(x, m, count, k)
+    Ok(Some(ListRead { to, tokens: k }))
 }
 
-// One token at `at`, if there is one.
+fn unexpected(place: usize) -> Refused
+    ensures { result ≡ record { why = Unexpected; place = place } }
+{
+    Refused {
+        why: Refusal::Unexpected,
+        place,
+    }
+}
+
+// One token, if there is one.
 #[cycle(read_alternatives_read_list_read_token)]
 pub fn read_token(
     text: &[u8],
-    at: usize,
+    from: Point,
     level: usize,
-    count: usize,
     pool: &mut [u32],
-    n: usize,
-) -> TokenGot
-    requires { Room (length text.now) at level count n (length pool.old) × (level ≤ level_limit) }
-    ensures { TokenSays (token text.now level count at) n result pool.old pool.new }
+) -> Result<Option<TokenRead>, Refused>
+    requires { Room (length text.now) from.at level from.count from.words (length pool.old) × (level ≤ level_limit) }
+    ensures { TokenSays (token text.now level from.count from.at) from.words result pool.old pool.new }
 {
-    let leaf = digits::leaf_token(text, at, 1 < level);
-    match leaf {
-        LeafGot::Found(tok, _, end) => {
-            if TOKEN_LIMIT <= count {
-                return TokenGot::Refused(Refusal::TooManyTokens, at);
-            }
-            let jump = put_leaf(pool, n, tok);
-            TokenGot::Read(end, n + 4, count + 1, jump)
-        }
-        LeafGot::Absent => read_alternatives(text, at, level, count, pool, n),
-        LeafGot::Refused(code, place) => TokenGot::Refused(code, place),
+    let Some(leaf) = digits::leaf_token(text, from.at, 1 < level)? else {
+        return read_alternatives(text, from, level, pool);
+    };
+    if TOKEN_LIMIT <= from.count {
+        return Err(Refused {
+            why: Refusal::TooManyTokens,
+            place: from.at,
+        });
     }
+    put(pool, from.words, entry(leaf.value));
+    let to = Point {
+        at: leaf.end,
+        count: from.count + 1,
+        words: from.words + 4,
+    };
+    let jump = is_jump(leaf.value);
+    Ok(Some(TokenRead { to, jump }))
 }
 
-// The tokens from `at` on: one or more, and no jump at either end.
+// One token or more, and no jump at either end.
 #[cycle(read_alternatives_read_list_read_token)]
 pub fn read_list(
     text: &[u8],
-    at: usize,
+    from: Point,
     level: usize,
-    count: usize,
     pool: &mut [u32],
-    n: usize,
-) -> ListGot
-    requires { Room (length text.now) at level count n (length pool.old) }
-    ensures { ListSays (list text.now level count at) n result pool.old pool.new }
+) -> Result<Option<ListRead>, Refused>
+    requires { Room (length text.now) from.at level from.count from.words (length pool.old) }
+    ensures { ListSays (list text.now level from.count from.at) from.words result pool.old pool.new }
 {
     if LEVEL_LIMIT < level {
-        return ListGot::Refused(Refusal::HexStringTooDeep, at);
+        return Err(Refused {
+            why: Refusal::HexStringTooDeep,
+            place: from.at,
+        });
     }
-    let mut x = at;
-    let mut m = n;
-    let mut c = count;
+    let mut to = from;
     let mut k = 0;
     let mut first = false;
     let mut last = false;
-    loop {
-        let got = read_token(text, x, level, c, pool, m);
-        match got {
-            TokenGot::Read(end, used, counted, jump) => {
-                first = first_jump(k, first, jump);
-                last = jump;
-                k += 1;
-                x = end;
-                m = used;
-                c = counted;
-            }
-            TokenGot::Absent => {
-                return list_end(at, x, m, c, k, first, last);
-            }
-            TokenGot::Refused(code, place) => {
-                return ListGot::Refused(code, place);
-            }
-        }
+    while let Some(got) = read_token(text, to, level, pool)? {
+        first = first_jump(k, first, got.jump);
+        last = got.jump;
+        k += 1;
+        to = got.to;
     }
+    list_end(from.at, to, k, first, last)
 }
 
-// Alternatives at `at`. Their entry, and each list's mark, are written once what follows them is known.
+// Alternatives. Their entry, and each list's mark, are written once what follows them is known.
 #[cycle(read_alternatives_read_list_read_token)]
 pub fn read_alternatives(
     text: &[u8],
-    at: usize,
+    from: Point,
     level: usize,
-    count: usize,
     pool: &mut [u32],
-    n: usize,
-) -> TokenGot
-    requires { Room (length text.now) at level count n (length pool.old) × (level ≤ level_limit) }
-    ensures { TokenSays (alternatives text.now level count at) n result pool.old pool.new }
+) -> Result<Option<TokenRead>, Refused>
+    requires { Room (length text.now) from.at level from.count from.words (length pool.old) × (level ≤ level_limit) }
+    ensures { TokenSays (alternatives text.now level from.count from.at) from.words result pool.old pool.new }
 {
-    if digits::peek(text, at) != b'(' {
-        return TokenGot::Absent;
+    if digits::peek(text, from.at) != b'(' {
+        return Ok(None);
     }
-    if TOKEN_LIMIT <= count {
-        return TokenGot::Refused(Refusal::TooManyTokens, at);
+    if TOKEN_LIMIT <= from.count {
+        return Err(Refused {
+            why: Refusal::TooManyTokens,
+            place: from.at,
+        });
     }
-    let mut x = digits::skip_blanks(text, at + 1);
-    let mut miss = x;
-    let mut m = n + 4;
-    let mut c = count + 1;
+    let mut x = Point {
+        at: digits::skip_blanks(text, from.at + 1),
+        count: from.count + 1,
+        words: from.words + 4,
+    };
+    let mut miss = x.at;
     let mut k = 0;
     loop {
-        let got = read_list(text, x, level + 1, c, pool, m + 4);
-        match got {
-            ListGot::Read(end, used, counted, own) => {
-                put_head(pool, m, 6, own, used);
-                k += 1;
-                let after = digits::peek(text, end);
-                if after == b')' {
-                    put_head(pool, n, 5, k, used);
-                    return TokenGot::Read(digits::skip_blanks(text, end + 1), used, counted, false);
-                }
-                if after != b'|' {
-                    return TokenGot::Refused(Refusal::Unexpected, end);
-                }
-                miss = end;
-                x = digits::skip_blanks(text, end + 1);
-                m = used;
-                c = counted;
+        let words = x.words + 4;
+        let start = Point { words, ..x };
+        let Some(got) = read_list(text, start, level + 1, pool)? else {
+            return Err(unexpected(miss));
+        };
+        put_head(pool, x.words, 6, got.tokens, got.to.words);
+        k += 1;
+        match digits::peek(text, got.to.at) {
+            b')' => {
+                put_head(pool, from.words, 5, k, got.to.words);
+                let at = digits::skip_blanks(text, got.to.at + 1);
+                let to = Point { at, ..got.to };
+                return Ok(Some(TokenRead { to, jump: false }));
             }
-            ListGot::Absent => {
-                return TokenGot::Refused(Refusal::Unexpected, miss);
+            b'|' => {
+                miss = got.to.at;
+                let at = digits::skip_blanks(text, miss + 1);
+                x = Point { at, ..got.to };
             }
-            ListGot::Refused(code, place) => {
-                return TokenGot::Refused(code, place);
-            }
+            _ => return Err(unexpected(got.to.at)),
         }
     }
 }

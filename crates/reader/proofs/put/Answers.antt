@@ -1,7 +1,6 @@
--- Each way out gives what the definition gives there. Assumes nothing.
-use Rattle.reader.proofs.WrittenLaws.{written_four}
+-- The part that is copied over is the entry's. Assumes nothing.
+use Rattle.reader.proofs.WrittenLaws.{written_part}
 use Rattle.reader.proofs.put.Goals as goal
 
 pub returns : goal.returns
-returns c =
-    written_four c.args.pool.now c.args.n c.args.kind c.args.a c.args.b c.args.c c.requires
+returns c = written_part c.args.pool.now c.args.n 4 c.args.entry c.copy_from_slice.new.self c.requires c.copy_from_slice.ensures.after c.copy_from_slice.ensures.len
