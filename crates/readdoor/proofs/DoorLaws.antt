@@ -15,10 +15,8 @@ use Rattle.def_reading.specs.Blanks.{skip}
 use Rattle.def_reading.specs.Lists.{list, Verdict, accepted, rejected, closing, reading}
 use Rattle.def_reading.proofs.PieceLaws.{never}
 use Rattle.def_reading.proofs.TextLaws.{text_opened, text_closed, text_unclosed, accepted_words}
-use Rattle.reader.specs.declared.ListGot.{ListGot}
-use Rattle.reader.specs.declared.ListGot.TheVariants as list-got
 use Rattle.reader.specs.Written.{written}
-use Rattle.reader.specs.Says.{ListSays}
+use Rattle.reader.specs.Says.{ListGot, list_to, no_list, list_refusal, ListSays}
 use Rattle.reader.proofs.SaysLaws.{list_read, list_absent, list_refused}
 use Rattle.readdoor.specs.declared.Reading.{Reading}
 use Rattle.readdoor.specs.Door.{gives, refuses, reads, refused, read_said, verdict_says, verdict_leaves, read_says, read_leaves, TextSays}
@@ -33,22 +31,22 @@ text_read x p q e u ts h a b = rw h (ap (reads e) a, b)
 
 -- after the outer list
 module _ (t : List ℕ) (at : ℕ) (short : length t ≤ text_limit) (opened : get_or t 0 0 ≡ code "{") (start : at ≡ skip t 1) (g : ListGot) (p q : List ℕ) (says : ListSays (list t 1 0 at) 0 g p q) where
-  pub text_done : (s u d k e : ℕ) → g ≡ list-got.Read s u d k → get_or t s 0 ≡ code "}" → e ≡ skip t (s + 1) → TextSays (reading t) (reads e u) p q
+  pub text_done : (s u d k e : ℕ) → g ≡ list_to s u d k → get_or t s 0 ≡ code "}" → e ≡ skip t (s + 1) → TextSays (reading t) (reads e u) p q
   text_done s u d k e h b w =
       let z = list_read 0 g p q (list t 1 0 at) s u d k h says in
       let v = z.2 in
       text_read (reading t) p q e u z.0 (text_opened t short opened at start z.1 ∙ text_closed t at z.0 s d b ∙ ap (λ (i : ℕ). accepted i z.0) (sym w)) (omega arith) z.4
 
-  pub text_open : (s u d k : ℕ) → g ≡ list-got.Read s u d k → (get_or t s 0 ≡ code "}" → ⊥) → TextSays (reading t) (refused Unexpected s) p q
+  pub text_open : (s u d k : ℕ) → g ≡ list_to s u d k → (get_or t s 0 ≡ code "}" → ⊥) → TextSays (reading t) (refused Unexpected s) p q
   text_open s u d k h b =
       let z = list_read 0 g p q (list t 1 0 at) s u d k h says in
       text_refused (reading t) p q (record { why = Unexpected; place = s }) (text_opened t short opened at start z.1 ∙ text_unclosed t at z.0 s d b)
 
-  pub text_missing : g ≡ list-got.Absent → TextSays (reading t) (refused Unexpected at) p q
+  pub text_missing : g ≡ no_list → TextSays (reading t) (refused Unexpected at) p q
   unfolding closing
   text_missing h = text_refused (reading t) p q (record { why = Unexpected; place = at }) (text_opened t short opened at start (list_absent 0 g p q (list t 1 0 at) h says).0)
 
-  pub text_stopped : (r : Refusal) (y : ℕ) → g ≡ list-got.Refused r y → TextSays (reading t) (refused r y) p q
+  pub text_stopped : (r : Refusal) (y : ℕ) → g ≡ list_refusal r y → TextSays (reading t) (refused r y) p q
   unfolding closing
   text_stopped r y h = text_refused (reading t) p q (record { why = r; place = y }) (text_opened t short opened at start (list_refused 0 g p q (list t 1 0 at) r y h says))
 

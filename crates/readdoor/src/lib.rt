@@ -8,7 +8,7 @@ ghost use Rattle.def_reading.specs.Lists.{reading};
 ghost use Rattle.readdoor.specs.Door.{read_said, read_says, read_leaves, TextSays};
 
 use base::{Refusal, Refused, TEXT_LIMIT, TOKEN_POOL};
-use reader::ListGot;
+use reader::Point;
 
 // The offset reached, and the words used.
 #[derive(Clone, Copy, Debug, PartialEq, Eq)]
@@ -28,25 +28,27 @@ fn read_text(text: &[u8], pool: &mut [u32]) -> Result<Reading, Refused>
     if digits::peek(text, 0) != b'{' {
         return Err(Refusal::Unexpected.into());
     }
-    let at = digits::skip_blanks(text, 1);
-    let got = reader::read_list(text, at, 1, 0, pool, 0);
-    match got {
-        ListGot::Read(stop, words, _, _) => {
-            if digits::peek(text, stop) != b'}' {
-                return Err(Refused {
-                    why: Refusal::Unexpected,
-                    place: stop,
-                });
-            }
-            let end = digits::skip_blanks(text, stop + 1);
-            Ok(Reading { end, words })
-        }
-        ListGot::Absent => Err(Refused {
+    let from = Point {
+        at: digits::skip_blanks(text, 1),
+        count: 0,
+        words: 0,
+    };
+    let Some(got) = reader::read_list(text, from, 1, pool)? else {
+        return Err(Refused {
             why: Refusal::Unexpected,
-            place: at,
-        }),
-        ListGot::Refused(why, place) => Err(Refused { why, place }),
+            place: from.at,
+        });
+    };
+    if digits::peek(text, got.to.at) != b'}' {
+        return Err(Refused {
+            why: Refusal::Unexpected,
+            place: got.to.at,
+        });
     }
+    Ok(Reading {
+        end: digits::skip_blanks(text, got.to.at + 1),
+        words: got.to.words,
+    })
 }
 
 // Reads a text's tokens into the first 4,096 words of the pool, and zeroes those that are not used.

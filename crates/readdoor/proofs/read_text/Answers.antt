@@ -1,6 +1,10 @@
 -- Each way out gives what the definition gives there. Assumes nothing.
 use Prim.Native.Char.{code}
-use Rattle.std.proofs.Common.{sym, ap₂, ◌∙◌, arith}
+use Rattle.std.proofs.Common.{Result, Ok, Err, sym, ap, ap₂, subst, ◌∙◌, arith}
+use Rattle.std.proofs.lemmas.Result.{err_from_is_err_and}
+use Rattle.base.specs.declared.Refused.{Refused}
+use Rattle.readdoor.specs.declared.Reading.{Reading}
+use Rattle.readdoor.specs.Door.{TextSays}
 use Rattle.def_reading.specs.Lists.{rejected, reading}
 use Rattle.def_reading.proofs.PieceLaws.{here_at, skip_in}
 use Rattle.def_reading.proofs.TextLaws.{text_long, text_unopened}
@@ -15,26 +19,31 @@ pub returns-then-peek-ne123 : goal.returns-then-peek-ne123
 returns-then-peek-ne123 c =
     text_refused (reading c.args.text.now) c.args.pool.now c.args.pool.now c.into-then-peek-ne123.result (text_unopened c.args.text.now c.if-text-gt-TEXT_LIMIT.false (λ z. c.if-peek-ne123.true (c.peek.ensures ∙ z)) ∙ ap₂ rejected (sym c.into-then-peek-ne123.ensures.0) (sym c.into-then-peek-ne123.ensures.1))
 
-pub read_list-got-requires : goal.read_list-got-requires
-read_list-got-requires c =
-    let i = here_at c.args.text.now 0 (code "{") (sym c.peek.ensures ∙ c.if-peek-ne123.false) (omega arith) in let e = c.skip_blanks-at.ensures in let j = skip_in c.args.text.now 1 (omega arith) in record { inside = omega arith; short = c.if-text-gt-TEXT_LIMIT.false; shallow = omega arith; few = omega arith; used = omega arith; pool = c.requires }
+pub read_list-requires : goal.read_list-requires
+read_list-requires c =
+    let i = here_at c.args.text.now 0 (code "{") (sym c.peek.ensures ∙ c.if-peek-ne123.false) (omega arith) in let e = c.skip_blanks.ensures in let j = skip_in c.args.text.now 1 (omega arith) in record { inside = omega arith; short = c.if-text-gt-TEXT_LIMIT.false; shallow = omega arith; few = omega arith; used = omega arith; pool = c.requires }
+
+pub returns-in_err-got : goal.returns-in_err-got
+returns-in_err-got c =
+    let p = err_from_is_err_and c.from_residual.result c.from_residual.ensures.1 in
+    let y = c.in_err-got.field-0.0 in
+    subst (λ (r : Result Reading Refused). TextSays (reading c.args.text.now) r c.args.pool.now c.read_list.new.pool) (sym (p.1 ∙ ap Err p.2))
+    (text_stopped c.args.text.now c.skip_blanks.result c.if-text-gt-TEXT_LIMIT.false (sym c.peek.ensures ∙ c.if-peek-ne123.false) c.skip_blanks.ensures c.read_list.result c.args.pool.now c.read_list.new.pool c.read_list.ensures
+    y.why y.place c.in_err-got.was)
+
+pub returns-in_default : goal.returns-in_default
+returns-in_default c =
+    text_missing c.args.text.now c.skip_blanks.result c.if-text-gt-TEXT_LIMIT.false (sym c.peek.ensures ∙ c.if-peek-ne123.false) c.skip_blanks.ensures c.read_list.result c.args.pool.now c.read_list.new.pool c.read_list.ensures
+    (c.in_ok-got.was ∙ ap Ok c.in_default.is)
 
 pub returns-then-peek-ne125 : goal.returns-then-peek-ne125
 returns-then-peek-ne125 c =
-    text_open c.args.text.now c.skip_blanks-at.result c.if-text-gt-TEXT_LIMIT.false (sym c.peek.ensures ∙ c.if-peek-ne123.false) c.skip_blanks-at.ensures c.read_list-got.result c.args.pool.now
-    c.read_list-got.new.pool c.read_list-got.ensures c.in-Read.stop c.in-Read.words c.in-Read.field-2 c.in-Read.field-3 c.in-Read.is
-    (λ z. c.if-peek-ne125.true (c.peek-in-Read.ensures ∙ z))
+    let g = c.in-Some.got in
+    text_open c.args.text.now c.skip_blanks.result c.if-text-gt-TEXT_LIMIT.false (sym c.peek.ensures ∙ c.if-peek-ne123.false) c.skip_blanks.ensures c.read_list.result c.args.pool.now c.read_list.new.pool c.read_list.ensures
+    g.to.at g.to.words g.to.count g.tokens (c.in_ok-got.was ∙ ap Ok c.in-Some.is) (λ z. c.if-peek-ne125.true (c.peek-2.ensures ∙ z))
 
-pub returns-else-peek-ne125 : goal.returns-else-peek-ne125
-returns-else-peek-ne125 c =
-    text_done c.args.text.now c.skip_blanks-at.result c.if-text-gt-TEXT_LIMIT.false (sym c.peek.ensures ∙ c.if-peek-ne123.false) c.skip_blanks-at.ensures c.read_list-got.result c.args.pool.now
-    c.read_list-got.new.pool c.read_list-got.ensures c.in-Read.stop c.in-Read.words c.in-Read.field-2 c.in-Read.field-3 c.skip_blanks-end.result
-    c.in-Read.is (sym c.peek-in-Read.ensures ∙ c.if-peek-ne125.false) c.skip_blanks-end.ensures
-
-pub returns-in-Absent : goal.returns-in-Absent
-returns-in-Absent c =
-    text_missing c.args.text.now c.skip_blanks-at.result c.if-text-gt-TEXT_LIMIT.false (sym c.peek.ensures ∙ c.if-peek-ne123.false) c.skip_blanks-at.ensures c.read_list-got.result c.args.pool.now c.read_list-got.new.pool c.read_list-got.ensures c.in-Absent.is
-
-pub returns-in-Refused : goal.returns-in-Refused
-returns-in-Refused c =
-    text_stopped c.args.text.now c.skip_blanks-at.result c.if-text-gt-TEXT_LIMIT.false (sym c.peek.ensures ∙ c.if-peek-ne123.false) c.skip_blanks-at.ensures c.read_list-got.result c.args.pool.now c.read_list-got.new.pool c.read_list-got.ensures c.in-Refused.why c.in-Refused.place c.in-Refused.is
+pub returns : goal.returns
+returns c =
+    let g = c.in-Some.got in
+    text_done c.args.text.now c.skip_blanks.result c.if-text-gt-TEXT_LIMIT.false (sym c.peek.ensures ∙ c.if-peek-ne123.false) c.skip_blanks.ensures c.read_list.result c.args.pool.now c.read_list.new.pool c.read_list.ensures
+    g.to.at g.to.words g.to.count g.tokens c.skip_blanks-2.result (c.in_ok-got.was ∙ ap Ok c.in-Some.is) (sym c.peek-2.ensures ∙ c.if-peek-ne125.false) c.skip_blanks-2.ensures
