@@ -4,7 +4,6 @@
 
 ghost use Rattle.std.specs.Prelude.{◌≤◌};
 
-use digits::Numeral;
 use gatekit::Style;
 use nodes::NodeWord;
 use std::io;
@@ -113,16 +112,22 @@ fn program<P: Print>(rt: &P, text: &[u8], hay: &[u8], start: usize, end: usize) 
 
 // The window's bounds and the words.
 fn window<P: Print>(rt: &P, text: &[u8], hay: &[u8]) -> io::Result<()> {
-    let Numeral::Number(start, _, next) = digits::number(text, 0) else {
+    let Ok(Some(start)) = digits::number(text, 0) else {
         return Ok(());
     };
-    let Numeral::Number(end, rest, _) = digits::number(text, next) else {
+    let Ok(Some(end)) = digits::number(text, start.end) else {
         return Ok(());
     };
-    if text.len() < rest {
+    if text.len() < end.stop {
         return Ok(());
     }
-    program(rt, &text[rest..], hay, size(start), size(end))
+    program(
+        rt,
+        &text[end.stop..],
+        hay,
+        size(start.value),
+        size(end.value),
+    )
 }
 
 fn case<P: Print>(rt: &P, line: &[u8]) -> io::Result<()> {

@@ -1,7 +1,8 @@
 // Reads texts from standard input, each on a line after its length, and writes what the reading door answers and leaves.
 #![tactic(auto)]
 
-use digits::Numeral;
+ghost use Rattle.std.specs.Prelude.{◌<◌, ◌≤◌, length, IfSome};
+
 use gatekit::Style;
 use std::io;
 
@@ -29,38 +30,31 @@ fn one<P: Print>(rt: &P, text: &[u8], pool: &mut [u32]) -> io::Result<()> {
     }
 }
 
+// Into a pool of so many words.
+fn into<const N: usize, P: Print>(rt: &P, text: &[u8]) -> io::Result<()>
+    requires { N ≤ 4100 }
+{
+    let mut pool = [gatekit::OLD_TOKEN; N];
+    one(rt, text, &mut pool)
+}
+
+// The first text of the input, and what follows the end of its line.
+fn first_text(input: &[u8]) -> Option<(&[u8], &[u8])>
+    ensures { IfSome result (λ p. length p.1.now < length input.now) }
+{
+    let size = digits::number(input, 0).ok()??;
+    let (_, lines) = input.get(size.stop..)?.split_first()?;
+    let (text, end) = lines.split_at_checked(size.value as usize)?;
+    let rest = end.get(1..).unwrap_or(&[]);
+    Some((text, rest))
+}
+
 // The four words beyond the 4,096 that a call may write must stay.
-fn roomy<P: Print>(rt: &P, text: &[u8]) -> io::Result<()> {
-    let mut pool = [gatekit::OLD_TOKEN; 4100];
-    one(rt, text, &mut pool)
-}
-
-// A word less than a call wants.
-fn short<P: Print>(rt: &P, text: &[u8]) -> io::Result<()> {
-    let mut pool = [gatekit::OLD_TOKEN; 4095];
-    one(rt, text, &mut pool)
-}
-
 fn run<P: Print>(rt: &P, input: &[u8]) -> io::Result<()> {
-    let mut at = 0;
-    while at < input.len() {
-        let size = digits::number(input, at);
-        let Numeral::Number(n, stop, _) = size else {
-            return Ok(());
-        };
-        if input.len() <= stop {
-            return Ok(());
-        }
-        let start = stop + 1;
-        if input.len() - start < n as usize {
-            return Ok(());
-        }
-        let end = start + n as usize;
-        if end < at {
-            return Ok(());
-        }
-        roomy(rt, &input[start..end])?;
-        at = end + 1;
+    let mut rest = input;
+    while let Some((text, after)) = first_text(rest) {
+        into::<4100, _>(rt, text)?;
+        rest = after;
     }
     Ok(())
 }
@@ -69,6 +63,7 @@ fn main(rt: HostRuntime) -> io::Result<()> {
     let mut input = [0u8; 65536];
     let n = gatekit::read_full(&mut rt.reader(), &mut input)?;
     run(&rt, &input[..n])?;
-    short(&rt, b"{ AB }")?;
-    short(&rt, b"{ AG }")
+    // A word less than a call wants.
+    into::<4095, _>(&rt, b"{ AB }")?;
+    into::<4095, _>(&rt, b"{ AG }")
 }

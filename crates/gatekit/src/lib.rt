@@ -7,7 +7,6 @@ ghost use Rattle.std.specs.Io.{ReadsAtMost};
 ghost use Rattle.std.specs.Io.BufRead.{strip_last};
 
 use base::Refusal;
-use digits::Nibble;
 use nodes::NodeWord;
 use std::io::Read;
 use std::rt::Files;
@@ -154,11 +153,7 @@ pub fn hex<P: Print>(rt: &P, bytes: &[u8]) -> io::Result<()> {
 pub fn value(c: u8) -> u8
     ensures { result ≤ 15 }
 {
-    let d = digits::hex_digit(c);
-    let Nibble::Is(v) = d else {
-        return 0;
-    };
-    if 15 < v { 0 } else { v }
+    digits::hex_digit(c).map_or(0, |v| v.min(15))
 }
 
 // The bytes that are spelt in hex, as far as there is room; how many they are.
