@@ -1,9 +1,9 @@
 -- From what was read to what the door says. Assumes nothing.
 use Rattle.std.proofs.Common.{◌≡◌, refl, sym, ap, ◌∙◌, false, Result, Ok, Err, IsErrAnd, List, [], ◌++◌, append-nil, append_assoc, ℕ, ◌-◌, ◌≤◌, ◌<◌, arith, leb, length, take, drop, replicate}
-use Rattle.std.proofs.Math.ListN.{length-take, length-replicate, take-append-drop}
-use Rattle.std.proofs.lemmas.List.{drop_all}
 use Rattle.std.proofs.Math.Bool.{and-false}
+use Rattle.std.proofs.Math.ListN.{length-take, length-replicate, take-append-drop}
 use Rattle.std.proofs.lemmas.Bool.{le-leb, lt-leb}
+use Rattle.std.proofs.lemmas.List.{drop_all}
 use Rattle.base.specs.declared.Refusal.{Refusal}
 use Rattle.base.specs.declared.Refused.{Refused}
 use Rattle.base.specs.Pools.{filled, cleared}

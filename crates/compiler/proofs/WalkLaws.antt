@@ -1,8 +1,8 @@
 -- Walks over token entries. Assumes nothing.
-use Rattle.std.proofs.Common.{◌≡◌, refl, sym, ap, ap₂, ◌∙◌, Bool, true, false, cond, not, ◌&&◌, List, [], ◌∷◌, ◌++◌, append-nil, append_assoc, ℕ, zero, suc, ◌+◌, ◌*◌, ◌/◌, ◌≤◌, ◌<◌, add-one, arith, eqb, leb, length, get_or, drop, set}
-use Rattle.std.proofs.Math.Option.{none, some}
+use Rattle.std.proofs.Common.{◌≡◌, refl, sym, ap, ap₂, ◌∙◌, Bool, true, false, cond, ◌&&◌, List, [], ◌∷◌, ◌++◌, append-nil, append_assoc, ℕ, zero, suc, ◌+◌, ◌*◌, ◌/◌, ◌≤◌, ◌<◌, add-one, arith, eqb, leb, length, get_or, drop, set}
 use Rattle.std.proofs.Math.Bool.{and_assoc}
 use Rattle.std.proofs.Math.ListN.{length-append, length-drop}
+use Rattle.std.proofs.Math.Option.{none, some}
 use Rattle.std.proofs.Math.Seq.{drop-drop, drop_at, drop-cons, set_at, get_or-drop}
 use Rattle.std.specs.List.{list_all}
 use Rattle.std.specs.Simd.{first_chunks}
@@ -39,14 +39,6 @@ unfolding to_of flat_token simple_token
 near_flat a b c = go (eqb c 0)
   where
     go : (x : Bool) → flat_token (Jump a (cond x none (some b))) ≡ (simple_token (Jump 0 (cond x none (some b))) && leb b a)
-    go true = refl
-    go false = refl
-
-pub other_flat : (k a : ℕ) → flat_token (cond (eqb k 5) (Alternatives neither) (Byte a)) ≡ not (eqb k 5)
-unfolding flat_token
-other_flat k a = go (eqb k 5)
-  where
-    go : (x : Bool) → flat_token (cond x (Alternatives neither) (Byte a)) ≡ not x
     go true = refl
     go false = refl
 
@@ -124,6 +116,9 @@ walk_step ws at ts l h = go h.rest h.here h.simply
       passes = λ p. record { rest = us; here = on_here ws at t us e; within = on_fits ws at t us e; simply = s ∙ ap (λ (x : Bool). x && simple us) (sym (simple_token_lem ws at (entries us) t e) ∙ p) };
       fails = λ p. s ∙ ap (λ (x : Bool). x && simple us) (sym (simple_token_lem ws at (entries us) t e) ∙ p);
     }
+
+pub walk_fits : (ws : List ℕ) (at : ℕ) (ts : Tokens) → at < length ws → Walked ws at ts → at + size_at ws at ≤ length ws
+walk_fits ws at ts l h = (walk_step ws at ts l h).fits
 
 pub walk_end : (ws : List ℕ) (at : ℕ) (ts : Tokens) → length ws ≤ at → Walked ws at ts → simple ts ≡ true
 unfolding entries simple

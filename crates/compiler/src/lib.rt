@@ -30,14 +30,16 @@ fn jump_near(b: u32, c: u32) -> bool
     c != 0 && b <= JUMP_LIMIT
 }
 
-// Whether an entry may stand inside a branch.
+// Whether an entry may stand inside a branch. Kinds stay numbers: entries are the words of a pool that 01 lends.
+#[tactic(auto, using(crate::proofs::WalkLaws::near_flat), unfolding(crate::specs::Walks::told_by, def_compiling::specs::Compile::flat_token))]
 fn flat_entry(kind: u32, a: u32, b: u32, c: u32) -> bool
     ensures { result ≡ flat_token (told_by kind a b c) }
 {
-    if kind == 4 {
-        return jump_near(b, c) && b <= a;
+    match kind {
+        4 => jump_near(b, c) && b <= a,
+        5 => false,
+        _ => true,
     }
-    kind != 5
 }
 
 // Whether all of a bracket's entries may stand inside branches.
@@ -51,34 +53,37 @@ fn flat_entries(ws: &[u32]) -> bool
 }
 
 // The words of the token at a place.
+#[tactic(auto, unfolding(emit::specs::Lists::size_at))]
 fn token_size(ws: &[u32], at: usize) -> usize
     requires { at + 4 ≤ length ws.now }
     ensures { result ≡ size_at ws.now at }
 {
     if ws[at] == 5 {
-        return 4 + 4 * (ws[at + 2] as usize);
+        4 + 4 * (ws[at + 2] as usize)
+    } else {
+        4
     }
-    4
 }
 
 // Whether the token at a place is simple.
+#[tactic(auto, using(emit::proofs::AltLaws::size_least, emit::proofs::AltLaws::size_five), unfolding(crate::specs::Walks::simple_at, crate::specs::Walks::told_by, def_compiling::specs::Compile::simple_token))]
 fn simple_at(ws: &[u32], at: usize) -> bool
     requires { at + size_at ws.now at ≤ length ws.now }
     ensures { result ≡ simple_at ws.now at }
 {
-    let kind = ws[at];
-    if kind == 5 {
-        let from = at + 4;
-        let to = from + 4 * (ws[at + 2] as usize);
-        return flat_entries(&ws[from..to]);
+    match ws[at] {
+        4 => jump_near(ws[at + 2], ws[at + 3]),
+        5 => {
+            let from = at + 4;
+            let to = from + 4 * (ws[at + 2] as usize);
+            flat_entries(&ws[from..to])
+        }
+        _ => true,
     }
-    if kind == 4 {
-        return jump_near(ws[at + 2], ws[at + 3]);
-    }
-    true
 }
 
-// 12: whether the tokens are simple.
+// 12: whether the tokens are simple. A token says how many words it has, so the place moves on by so many: no `for` steps so.
+#[tactic(auto, using(emit::proofs::AltLaws::size_least, crate::proofs::WalkLaws::walk_fits))]
 pub fn simple_tokens(ws: &[u32]) -> bool
     requires { Entered ws.now }
     ensures { (ts : Tokens) → ws.now ≡ entries ts → result ≡ simple ts }
@@ -88,12 +93,13 @@ pub fn simple_tokens(ws: &[u32]) -> bool
         if !simple_at(ws, at) {
             return false;
         }
-        at = at + token_size(ws, at);
+        at += token_size(ws, at);
     }
     true
 }
 
-// Where the tokens start, and how many they are.
+// Where the tokens start, and how many they are, by the same steps.
+#[tactic(auto, using(emit::proofs::AltLaws::size_least, crate::proofs::WalkLaws::marked_fits))]
 pub fn find_starts(ws: &[u32], starts: &mut [u16]) -> usize
     requires { Entered ws.now × (length ws.now ≤ 4 * length starts.old) }
     ensures { (ts : Tokens) → ws.now ≡ entries ts
@@ -104,7 +110,7 @@ pub fn find_starts(ws: &[u32], starts: &mut [u16]) -> usize
     while at < ws.len() {
         starts[n] = at as u16;
         n += 1;
-        at = at + token_size(ws, at);
+        at += token_size(ws, at);
     }
     n
 }

@@ -1,13 +1,6 @@
 -- The token at a place: alternatives, or one of one entry. Assumes nothing.
-use mathlib.Core.Path.{◌≡◌, refl, sym, ap, ap₂, ◌∙◌, subst}
-use mathlib.Core.Bool.{Bool, true, false, cond, not, ◌||◌, or-false}
-use mathlib.Core.List.{List, [], ◌∷◌, ◌++◌, append_assoc}
-use Prim.Native.Nat.{ℕ, zero, suc, ◌+◌, ◌-◌, ◌*◌, ◌≤◌, ◌<◌}
-use native.Mathlib.Omega.{arith}
-use lib.Dec.{eqb}
-use lib.ListN.{length, get_or, take, drop, set, length-append, length-drop, take-append-drop}
-use lib.Seq.{length-take-le, take_at, drop_at, drop-drop}
-use borrow.Author.Tests.{eq-eqb, ne_eqb}
+use Rattle.std.proofs.Common.{◌≡◌, refl, sym, ap, ap₂, ◌∙◌, subst, Bool, true, false, cond, not, ◌||◌, List, [], ◌∷◌, ◌++◌, append_assoc, ℕ, zero, suc, ◌+◌, ◌-◌, ◌*◌, ◌≤◌, ◌<◌, arith, eqb, length, get_or, take, drop, set, length-append, length-drop, take-append-drop, length-take-le, take_at, drop_at, drop-drop, eq-eqb, ne_eqb, Option, None}
+use Rattle.std.proofs.Math.Bool.{or-false}
 use borrow.Rule.Slice.PartMut.{put_mid}
 use Rattle.base.proofs.LentLaws.{lent_rest}
 use Rattle.def_meaning.specs.Programs.{Item, Prog, Branches, one, jump, range, alt, end, ◌▹◌, ◌⧺◌}
@@ -15,7 +8,6 @@ use Rattle.def_meaning.specs.NodeWords.{word}
 use Rattle.def_compiling.specs.ProgramWords.{opening, words_for, words_of, words_in}
 use Rattle.def_compiling.specs.Compiling.{jump_of, add}
 use Rattle.def_compiling.specs.Compile.{short_in, short_of}
-use Rattle.std.specs.Prelude.{Option, None}
 use Rattle.emit.specs.declared.Addend.{Addend}
 use Rattle.emit.specs.Items.{entry_item, addend_of, growing, last_of, put_count, put_last, put_out}
 use Rattle.emit.specs.Lists.{list_program, branches_at, FlatLists, alt_at, token_at, entry_at, item_count, item_last, item_out, size_at, Stands}

@@ -1,13 +1,7 @@
 -- Lists behind their marks, one list more. Assumes nothing.
-use mathlib.Core.Path.{◌≡◌, refl, sym, ap, ap₂, ◌∙◌, subst}
-use mathlib.Core.Bool.{Bool, true, false, not, ◌&&◌, ◌||◌, or-false}
-use mathlib.Core.Option.{none, some}
-use mathlib.Core.List.{List, [], ◌∷◌, ◌++◌, append-nil, append_assoc}
-use Prim.Native.Nat.{ℕ, zero, suc, ◌+◌, ◌-◌, ◌*◌, ◌/◌, ◌≤◌, ◌<◌}
-use native.Mathlib.Omega.{arith}
-use lib.Dec.{leb}
-use lib.ListN.{length, get_or, take, drop, set, length-append, length-drop}
-use lib.Seq.{drop_at, drop-drop, get_or-drop, length-take-le}
+use Rattle.std.proofs.Common.{◌≡◌, refl, sym, ap, ap₂, ◌∙◌, subst, Bool, true, false, not, ◌&&◌, ◌||◌, List, [], ◌∷◌, ◌++◌, append-nil, append_assoc, ℕ, zero, suc, ◌+◌, ◌-◌, ◌*◌, ◌/◌, ◌≤◌, ◌<◌, arith, leb, length, get_or, take, drop, set, length-append, length-drop, drop_at, drop-drop, get_or-drop, length-take-le}
+use Rattle.std.proofs.Math.Bool.{or-false}
+use Rattle.std.proofs.Math.Option.{none, some}
 use borrow.Rule.Slice.PartMut.{put_mid}
 use Rattle.def_meaning.specs.Limits.{branch_limit}
 use Rattle.def_meaning.specs.Tokens.{Token, Tokens, Lists, Byte, NotByte, MaskedByte, NotMaskedByte, Jump, Alternatives, nothing, ◌then◌, neither, ◌or◌}
@@ -136,6 +130,10 @@ module _ (b : Bool) (lists : ℕ) (ws o out : List ℕ) (x n l : ℕ) (long : Bo
 
   pub list_fits : x + 4 + 4 * get_or ws (x + 1) 0 ≤ length ws
   list_fits = head.fits
+
+  -- where the code reads and writes
+  pub part_fits : length ws ≤ 4 * length o → (x + 4 + 4 * get_or ws (x + 1) 0 ≤ length ws) × (n + 1 + get_or ws (x + 1) 0 ≤ length out)
+  part_fits r = let f = head.fits in let few = h.few in let same = h.same in (f, omega arith)
 
   -- what the code hands over is the list's part
   the_part : (f t : ℕ) → f ≡ x + 4 → t ≡ to → take (t - f) (drop f ws) ≡ take (4 * get_or (drop x ws) 1 0) (drop 4 (drop x ws))

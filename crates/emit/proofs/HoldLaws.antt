@@ -1,15 +1,8 @@
 -- A buffer that holds a program's words holds those of the program with one item more, after an addend is put. Assumes nothing.
-use mathlib.Core.Path.{◌≡◌, refl, sym, ap, ap₂, ◌∙◌}
-use mathlib.Core.Bool.{Bool, true, false, cond}
-use mathlib.Core.Option.{Option as Maybe, none, some}
-use mathlib.Core.List.{List, [], ◌∷◌, ◌++◌, append-nil, append_assoc}
-use Prim.Native.Nat.{ℕ, suc, ◌+◌, ◌*◌, ◌-◌, ◌%◌, ◌≤◌, ◌<◌}
-use native.Mathlib.Omega.{arith}
-use native.Mathlib.Numerals.{add-one}
-use lib.Dec.{eqb, leb, ltb}
-use lib.ListN.{length, get_or, drop, set, length-append, length-drop}
-use lib.Seq.{set_at, drop-cons}
-use borrow.Author.Tests.{leb-true, leb-false, le-leb, lt-leb}
+use Rattle.std.proofs.Common.{◌≡◌, refl, sym, ap, ap₂, ◌∙◌, Bool, true, false, cond, List, [], ◌∷◌, ◌++◌, append-nil, append_assoc, ℕ, suc, ◌+◌, ◌*◌, ◌-◌, ◌%◌, ◌≤◌, ◌<◌, arith, add-one, eqb, leb, ltb, length, get_or, drop, set, length-append, length-drop, drop-cons, leb-true, leb-false, le-leb, Option, Some, None}
+use Rattle.std.proofs.Math.Option.{Option as Maybe, none, some}
+use Rattle.std.proofs.Math.Seq.{set_at}
+use Rattle.std.proofs.lemmas.Bool.{lt-leb}
 use Rattle.def_meaning.specs.Limits.{jump_limit}
 use Rattle.def_meaning.specs.Programs.{byte, mask, negated_mask, Item, Prog, one, jump, range, alt, end, ◌▹◌, ◌⧺◌}
 use Rattle.def_meaning.specs.NodeWords.{word}
@@ -18,7 +11,6 @@ use Rattle.def_compiling.specs.ProgramWords.{words_for, words_of, nodes}
 use Rattle.def_compiling.specs.Compiling.{jump_of, pair_by, add}
 use Rattle.emit.specs.declared.Addend.{Addend}
 use Rattle.emit.specs.declared.Addend.TheVariants.{Word, Gap}
-use Rattle.std.specs.Prelude.{Option, Some, None}
 use Rattle.emit.specs.Items.{byte_in, mask_item, not_mask_item, jump_item, entry_item, addend_of, growing, last_of, Behind, put_count, put_last, put_out}
 
 -- the words of p stand at the front of what was o, there are n of them, and the last node is as told

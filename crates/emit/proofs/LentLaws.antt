@@ -1,10 +1,6 @@
 -- What is lent from a buffer behind a word that is written last. Assumes nothing.
-use mathlib.Core.Path.{◌≡◌, sym, ap, ◌∙◌}
-use mathlib.Core.List.{List, [], ◌∷◌, ◌++◌, append_assoc}
-use Prim.Native.Nat.{ℕ, ◌+◌, ◌-◌, ◌<◌}
-use native.Mathlib.Numerals.{add-one}
-use lib.ListN.{length, get_or, take, drop, set, length-append}
-use lib.Seq.{drop-cons, set_at}
+use Rattle.std.proofs.Common.{◌≡◌, sym, ap, ◌∙◌, List, [], ◌∷◌, ◌++◌, append_assoc, ℕ, ◌+◌, ◌-◌, ◌<◌, add-one, length, get_or, take, drop, set, length-append, drop-cons}
+use Rattle.std.proofs.Math.Seq.{set_at}
 use borrow.Rule.Slice.PartMut.{put_mid}
 use Rattle.base.proofs.LentLaws.{lent_rest}
 

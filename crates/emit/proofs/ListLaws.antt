@@ -1,14 +1,8 @@
 -- A list's program, one token more. Assumes nothing.
-use mathlib.Core.Path.{◌≡◌, ap, ◌∙◌, subst}
-use mathlib.Core.Bool.{Bool}
-use mathlib.Core.List.{List}
-use Prim.Native.Nat.{ℕ, ◌+◌, ◌*◌, ◌/◌, ◌<◌}
-use native.Mathlib.Numerals.{add-one}
-use lib.ListN.{length, get_or}
+use Rattle.std.proofs.Common.{◌≡◌, ap, ◌∙◌, subst, Bool, List, ℕ, ◌+◌, ◌*◌, ◌/◌, ◌<◌, add-one, length, get_or, Option, None}
 use Rattle.def_meaning.specs.Programs.{Item}
 use Rattle.def_compiling.specs.Compiling.{add}
 use Rattle.emit.specs.declared.Addend.{Addend}
-use Rattle.std.specs.Prelude.{Option, None}
 use Rattle.emit.specs.Items.{entry_item, addend_of, place_of, put_count, put_last, put_out}
 use Rattle.emit.specs.Lists.{added_to, entry_at, list_item, list_program}
 use Rattle.emit.proofs.PutLaws.{Puts}

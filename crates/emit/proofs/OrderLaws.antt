@@ -1,14 +1,5 @@
 -- Tokens by their places, forwards and backwards, and the program of the first few of them. Assumes nothing.
-use mathlib.Core.Path.{◌≡◌, refl, sym, ap, ap₂, ◌∙◌, subst}
-use mathlib.Core.Bool.{Bool, true, false}
-use mathlib.Core.Logic.{◌⊎◌, inl, inr, ⊎_elim}
-use mathlib.Core.List.{List, [], ◌++◌, append_assoc}
-use Prim.Native.Nat.{ℕ, zero, suc, ◌+◌, ◌-◌, ◌*◌, ◌≤◌, ◌<◌}
-use native.Mathlib.Omega.{arith}
-use lib.Dec.{ltb}
-use borrow.Author.Tests.{ltb-true, ltb-false}
-use lib.ListN.{length, get_or, drop, length-append}
-use lib.Seq.{drop_at}
+use Rattle.std.proofs.Common.{◌≡◌, refl, sym, ap, ap₂, ◌∙◌, subst, Bool, true, false, ◌⊎◌, inl, inr, ⊎_elim, List, [], ◌++◌, append_assoc, ℕ, zero, suc, ◌+◌, ◌-◌, ◌*◌, ◌≤◌, ◌<◌, arith, ltb, ltb-true, ltb-false, length, get_or, drop, length-append, drop_at}
 use Rattle.def_meaning.specs.Tokens.{Token, Tokens, Lists, Byte, nothing, ◌then◌, ◌⊕◌}
 use Rattle.def_meaning.specs.Values.{SpelledOne, Spelled}
 use Rattle.def_meaning.specs.Entries.{token_count, entries_of, entries}

@@ -1,18 +1,11 @@
 -- The outer list's program, one token more. Assumes nothing.
-use mathlib.Core.Path.{◌≡◌, refl, sym, ap, ◌∙◌, subst}
-use mathlib.Core.Bool.{Bool, true, false, not, ◌&&◌, ◌||◌, and-true, and_assoc}
-use mathlib.Core.List.{List}
-use Prim.Native.Nat.{ℕ, ◌+◌, ◌*◌, ◌≤◌, ◌<◌}
-use native.Mathlib.Omega.{arith}
-use native.Mathlib.Numerals.{add-one}
-use lib.Dec.{leb}
-use lib.ListN.{length, get_or}
+use Rattle.std.proofs.Common.{◌≡◌, refl, sym, ap, ◌∙◌, subst, Bool, true, false, not, ◌&&◌, ◌||◌, List, ℕ, ◌+◌, ◌*◌, ◌≤◌, ◌<◌, arith, add-one, leb, length, get_or, Option, None}
+use Rattle.std.proofs.Math.Bool.{and-true, and_assoc}
 use Rattle.def_meaning.specs.Limits.{jump_limit}
 use Rattle.def_meaning.specs.Programs.{Item, Prog, one, jump, range, alt, end, ◌▹◌}
 use Rattle.def_compiling.specs.ProgramWords.{nodes}
 use Rattle.def_compiling.specs.Compiling.{jump_of, pair_by, add}
 use Rattle.def_compiling.specs.Compile.{short_of, short}
-use Rattle.std.specs.Prelude.{Option, None}
 use Rattle.emit.specs.Items.{place_of}
 use Rattle.emit.specs.Lists.{added_to, item_count, item_last, item_out, token_at, token_item, tokens_program, size_at, Outlined}
 use Rattle.emit.proofs.HoldLaws.{Holds, nothing_held}

@@ -151,6 +151,7 @@ impl Written {
     }
 
     // The token at a place.
+    #[tactic(auto, using(crate::proofs::AltLaws::size_least))]
     fn add_token(self, tokens: &[u32], at: usize, backwards: bool, out: &mut [NodeWord]) -> Self
         requires { Stands tokens.now at × (length tokens.now ≤ token_pool)
             × (4 * self.count + size_at tokens.now at ≤ 4 * length out.old) × Behind self.count self.last }
@@ -227,6 +228,7 @@ pub fn add_lists(entries: &[u32], lists: usize, backwards: bool, out: &mut [Node
 }
 
 // The alternatives at a place: their Alternation, and their branches behind it.
+#[tactic(auto, using(crate::proofs::AltLaws::alt_fits, crate::proofs::AltLaws::size_five, crate::proofs::AltLaws::handed_few, crate::proofs::AltLaws::handed_long))]
 fn add_alternation(tokens: &[u32], at: usize, backwards: bool, out: &mut [NodeWord]) -> Branched
     requires { Stands tokens.now at × (get_or tokens.now at 0 ≡ 5) × (length tokens.now ≤ token_pool)
         × (size_at tokens.now at ≤ 4 * length out.old) }

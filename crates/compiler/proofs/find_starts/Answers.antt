@@ -1,38 +1,8 @@
 -- `compiler::find_starts` meets its contract. Assumes nothing.
 use Rattle.compiler.proofs.WalkLaws as law
 use Rattle.emit.proofs.AltLaws as alts
-use lib.ListN.{set, length-set}
-use Prim.Native.Nat.{ℕ, ◌+◌}
-use mathlib.Core.Path.{sym, ◌∙◌, subst}
-use native.Mathlib.Omega.{arith}
+use Rattle.std.proofs.Common.{set, length-set, ℕ, ◌+◌, sym, ◌∙◌, subst, arith}
 use Rattle.compiler.proofs.find_starts.Goals as goal
-
-pub token_size-at-requires : goal.token_size-at-requires
-token_size-at-requires c =
-    let s = alts.size_least c.args.ws.now c.loop-at.at in
-    let f = law.marked_fits c.args.ws.now c.args.starts.now c.loop-at.starts c.loop-at.at c.loop-at.n c.requires.0.tokens c.loop-at-test.true
-    (c.loop-at.invariant.1 c.requires.0.tokens c.requires.0.entered) in
-    let l = c.requires.0.short in
-    let g = (c.loop-at.invariant.1 c.requires.0.tokens c.requires.0.entered).few in
-    let r = c.requires.1 in omega arith
-
-pub overflow_add-at : goal.overflow_add-at
-overflow_add-at c =
-    let s = alts.size_least c.args.ws.now c.loop-at.at in
-    let f = law.marked_fits c.args.ws.now c.args.starts.now c.loop-at.starts c.loop-at.at c.loop-at.n c.requires.0.tokens c.loop-at-test.true
-    (c.loop-at.invariant.1 c.requires.0.tokens c.requires.0.entered) in
-    let l = c.requires.0.short in
-    let g = (c.loop-at.invariant.1 c.requires.0.tokens c.requires.0.entered).few in
-    let r = c.requires.1 in omega (arith, c.token_size-at.ensures)
-
-pub loop-at-smaller : goal.loop-at-smaller
-loop-at-smaller c =
-    let s = alts.size_least c.args.ws.now c.loop-at.at in
-    let f = law.marked_fits c.args.ws.now c.args.starts.now c.loop-at.starts c.loop-at.at c.loop-at.n c.requires.0.tokens c.loop-at-test.true
-    (c.loop-at.invariant.1 c.requires.0.tokens c.requires.0.entered) in
-    let l = c.requires.0.short in
-    let g = (c.loop-at.invariant.1 c.requires.0.tokens c.requires.0.entered).few in
-    let r = c.requires.1 in omega (arith, c.token_size-at.ensures)
 
 pub loop-at-preserved : goal.loop-at-preserved
 loop-at-preserved c =

@@ -2,9 +2,7 @@
 use Rattle.compiler.proofs.WalkLaws as law
 use Rattle.def_meaning.specs.Entries.{entries}
 use Rattle.def_meaning.specs.Tokens.{Tokens}
-use lib.ListN.{length}
-use Prim.Native.Nat.{◌-◌}
-use mathlib.Core.Path.{◌≡◌}
+use Rattle.std.proofs.Common.{length, ◌-◌, ◌≡◌}
 use Rattle.compiler.proofs.find_starts.Given as goal
 
 abbrev pub invariant-loop-at : goal.invariant-loop-at

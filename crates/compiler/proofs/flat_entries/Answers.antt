@@ -1,9 +1,8 @@
 -- `compiler::flat_entries` meets its contract. Assumes nothing.
-use Rattle.std.proofs.Common.{refl, ◌∙◌, ◌/◌, length, rules}
+use Rattle.std.proofs.Common.{refl, ◌∙◌, ◌/◌, length, rules, tests}
 use Rattle.std.specs.Simd.{first_chunks}
 use Rattle.std.proofs.lemmas.Iterator.{YieldsList-from_slice}
 use Rattle.std.proofs.lemmas.Iterator.Search.{all_from_yields_List}
-use borrow.Author.Tests.{tests}
 use Rattle.compiler.proofs.WalkLaws.{flat_chunk, flat_chunks}
 use Rattle.compiler.proofs.flat_entries.Goals as goal
 

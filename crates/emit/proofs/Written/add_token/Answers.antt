@@ -4,22 +4,6 @@ use Rattle.emit.proofs.AltLaws as law
 use Rattle.emit.specs.Lists.{alt_at, entry_at, token_at}
 use Rattle.emit.proofs.Written.add_token.Goals as goal
 
-pub bounds-tokens-at : goal.bounds-tokens-at
-bounds-tokens-at c =
-    let s = law.size_least c.args.tokens.now c.args.at in let f = c.requires.0.fits in omega arith
-
-pub bounds-tokens-at-2 : goal.bounds-tokens-at-2
-bounds-tokens-at-2 c =
-    let s = law.size_least c.args.tokens.now c.args.at in let f = c.requires.0.fits in omega arith
-
-pub bounds-tokens-at-3 : goal.bounds-tokens-at-3
-bounds-tokens-at-3 c =
-    let s = law.size_least c.args.tokens.now c.args.at in let f = c.requires.0.fits in omega arith
-
-pub add-requires : goal.add-requires
-add-requires c =
-    let s = law.size_least c.args.tokens.now c.args.at in let f = c.requires.0.fits in let pre = c.requires in (omega arith, c.requires.3)
-
 pub returns-then-kind-eq5 : goal.returns-then-kind-eq5
 returns-then-kind-eq5 c =
     let w = c.args.self in
