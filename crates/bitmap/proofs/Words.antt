@@ -1,11 +1,12 @@
 -- A bitmap's members by its four words.
 use mathlib.Core.Path.{◌≡◌, refl, sym, ap, ap₂, ◌∙◌}
 use mathlib.Core.Bool.{Bool, true, false, ◌||◌, or_comm}
-use mathlib.Core.Logic.{⊎_elim}
 use mathlib.Core.List.{List, [], ◌∷◌}
-use Prim.Native.Nat.{ℕ, zero, suc, ◌+◌, ◌*◌, ◌/◌, ◌%◌, ◌^◌, ◌≤◌, ◌<◌}
+use Prim.Native.Nat.{ℕ, zero, suc, ◌+◌, ◌*◌, ◌/◌, ◌%◌, ◌^◌, ◌<◌}
 use native.Mathlib.Omega.{arith}
-use native.Mathlib.Nat.{mul-suc, eq-or-lt_of_le}
+use native.Mathlib.Nat.{mul-suc, zero-add}
+use Rattle.std.specs.List.{fold}
+use Rattle.std.proofs.Common.{map}
 use lib.Bits.{bit_or}
 use lib.Dec.{eqb}
 use lib.ListN.{length, get_or, set}
@@ -81,8 +82,11 @@ pub size_words : (m : Bitmap) (a b c d : ℕ) → a ≡ tally (bit (get_or m.wor
 unfolding size in_words
 size_words m a b c d ha hb hc hd = rw (ha, hb, hc, hd) (sym (words_tally m 4 ∙ omega arith))
 
--- ---- the search
-
-pub passed : (m : Bitmap) (v b : ℕ) → ((u : ℕ) → v ≤ u → u < b → has m u ≡ false) → has m b ≡ false
-    → (u : ℕ) → v ≤ u → u < b + 1 → has m u ≡ false
-passed m v b h e u l g = ⊎_elim (λ (k : u ≡ b). ap (has m) k ∙ e) (λ (k : u < b). h u l k) (eq-or-lt_of_le (let r : u ≤ b = omega arith in r))
+-- the sum of the words' counts
+pub words_sum : (ws : List ℕ) → length ws ≡ 4 → fold (λ (a x : ℕ). a + x) 0 (map (λ w. tally (bit w) 64) ws) ≡ size (record { words = ws })
+words_sum [] e = absurd (omega arith)
+words_sum (a ∷ []) e = absurd (omega arith)
+words_sum (a ∷ b ∷ []) e = absurd (omega arith)
+words_sum (a ∷ b ∷ c ∷ []) e = absurd (omega arith)
+words_sum (a ∷ b ∷ c ∷ d ∷ []) e = rw zero-add (size_words (record { words = a ∷ b ∷ c ∷ d ∷ [] }) _ _ _ _ refl refl refl refl)
+words_sum (a ∷ b ∷ c ∷ d ∷ f ∷ ws) e = absurd (omega arith)

@@ -5,7 +5,7 @@ ghost use Rattle.std.specs.Prelude.{◌≡◌, false, not, ◌||◌, ◌/◌, �
 ghost use Rattle.bitmap.specs.Bitmap.{bit, tally, has, Holds, size};
 
 // A set of bytes, one bit each.
-#[derive(Drop)]
+#[derive(Clone, Copy, Debug, PartialEq, Eq)]
 pub struct Bitmap {
     pub words: [u64; Bitmap::WORDS],
 }
@@ -24,7 +24,7 @@ impl Bitmap {
     pub fn get(self, b: u8) -> bool
         ensures { result ≡ has self b }
     {
-        let i = (b / 64) as usize;
+        let i = usize::from(b / 64);
         let word = self.words[i];
         (word >> (b % 64)) % 2 == 1
     }
@@ -32,7 +32,7 @@ impl Bitmap {
     pub fn with(mut self, b: u8) -> Self
         ensures { Holds result (λ v. eqb v b || has self v) }
     {
-        let i = (b / 64) as usize;
+        let i = usize::from(b / 64);
         let word = self.words[i];
         self.words[i] = word | (1u64 << (b % 64));
         self
@@ -42,12 +42,7 @@ impl Bitmap {
         ensures { Holds result (λ v. not (has self v)) }
     {
         Self {
-            words: [
-                !self.words[0],
-                !self.words[1],
-                !self.words[2],
-                !self.words[3],
-            ],
+            words: self.words.map(|w| !w),
         }
     }
 
@@ -55,22 +50,14 @@ impl Bitmap {
         ensures { Holds result (λ v. has self v || has other v) }
     {
         Self {
-            words: [
-                self.words[0] | other.words[0],
-                self.words[1] | other.words[1],
-                self.words[2] | other.words[2],
-                self.words[3] | other.words[3],
-            ],
+            words: std::array::from_fn(|i| self.words[i] | other.words[i]),
         }
     }
 
     pub fn count(self) -> u32
         ensures { result ≡ size self }
     {
-        word_count(self.words[0])
-            + word_count(self.words[1])
-            + word_count(self.words[2])
-            + word_count(self.words[3])
+        self.words.iter().map(|w| word_count(*w)).sum()
     }
 
     // The bytes whose low half is that of `x`.
@@ -87,7 +74,7 @@ impl Bitmap {
         ensures { Holds result (λ v. eqb (v / 16) (x % 16)) }
     {
         let mut words = [0u64; Self::WORDS];
-        let i = (x % 16 / 4) as usize;
+        let i = usize::from(x % 16 / 4);
         words[i] = 0xFFFFu64 << (x % 4 * 16);
         Self { words }
     }
@@ -102,5 +89,5 @@ impl Bitmap {
 fn word_count(w: u64) -> u32
     ensures { (result ≡ tally (bit w) 64) × (result ≤ 64) }
 {
-    u64::count_ones(w)
+    w.count_ones()
 }

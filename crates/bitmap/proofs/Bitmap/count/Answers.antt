@@ -1,9 +1,17 @@
 -- `bitmap::Bitmap::count` meets its contract. Assumes nothing.
-use Rattle.bitmap.proofs.Words.{size_words}
+use Rattle.std.proofs.Common.{ℕ, ◌+◌, refl, arith, rules, tests, ◌∙◌}
+use Rattle.std.proofs.lemmas.Iterator.{YieldsList-from_slice, YieldsList-from_map}
+use Rattle.std.proofs.lemmas.Iterator.Adapters.{fits_from_length, at_most_from_yields_List, total_from_yields_List}
+use Rattle.bitmap.specs.Bitmap.{bit, tally}
+use Rattle.bitmap.proofs.Words.{words_sum}
 use Rattle.bitmap.proofs.Bitmap.count.Goals as goal
+
+pub sum-requires-clause-fits : goal.sum-requires-clause-fits
+sum-requires-clause-fits c =
+    fits_from_length _ _ 4 _ (at_most_from_yields_List (YieldsList-from_slice c.map.result.iter.rest.now refl) (search rules)) c.map.ensures.closure (omega arith) (λ x r q k. search (rules, tests))
 
 pub returns : goal.returns
 returns c =
-    size_words c.args.self _ _ _ _
-    c.word_count.ensures.0 c.word_count-2.ensures.0
-    c.word_count-3.ensures.0 c.word_count-4.ensures.0
+    total_from_yields_List (λ (a x : ℕ). a + x) 0 c.sum.result c.sum.ensures.ran
+    (YieldsList-from_map _ (λ w. tally (bit w) 64) (YieldsList-from_slice c.args.self.words cc) c.map.ensures.closure (λ x r q k. search (rules, tests)))
+    ∙ words_sum c.args.self.words (search rules)

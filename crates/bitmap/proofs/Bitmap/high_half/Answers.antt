@@ -6,4 +6,4 @@ use Rattle.bitmap.proofs.Bitmap.high_half.Goals as goal
 pub returns : goal.returns
 unfolding has
 returns c =
-    high_bits c.args.x
+    rw c.from-i.ensures (high_bits c.args.x)

@@ -1,14 +1,7 @@
 -- `bitmap::Bitmap::invert` meets its contract. Assumes nothing.
-use mir.Syntax.{w64}
-use mir.Val.{Fits}
-use mathlib.Core.Path.{◌∙◌}
-use Prim.Native.Nat.{◌-◌, ◌/◌, ◌%◌}
-use lib.ListN.{get_or}
-use Rattle.bitmap.specs.Bitmap.{has}
+use Rattle.std.proofs.Common.{◌≡◌, ◌/◌, ◌%◌, ◌-◌, ◌∙◌, ap, get_or, Fits, w64, arith, rules, ℕ}
+use Rattle.bitmap.specs.Bitmap.{bit, has}
 use Rattle.bitmap.proofs.Bits.{bit_not}
-use Rattle.bitmap.proofs.Words.{four}
-use native.Mathlib.Omega.{arith}
-use borrow.Author.Rules.{rules}
 use Rattle.bitmap.proofs.Bitmap.invert.Goals as goal
 
 pub returns : goal.returns
@@ -17,4 +10,6 @@ returns c =
     λ v h.
     let ws = c.args.self.words in
     let word : Fits w64 (get_or ws (v / 64) 0) = search rules in
-    four (λ i. 18446744073709551615 - get_or ws i 0) v h ∙ bit_not 64 (get_or ws (v / 64) 0) (v % 64) word.fits (omega arith)
+    let at : _ = c.map.ensures.items.at (v / 64) 0 0 (omega arith) in
+    let e : get_or c.map.result (v / 64) 0 ≡ 18446744073709551615 - get_or ws (v / 64) 0 = search rules in
+    ap (λ (w : ℕ). bit w (v % 64)) e ∙ bit_not 64 (get_or ws (v / 64) 0) (v % 64) word.fits (omega arith)
