@@ -1,15 +1,16 @@
 -- Laws of the score.
-use mathlib.Core.Path.{◌≡◌, refl, sym, ap, ◌∙◌}
+use mathlib.Core.Path.{◌≡◌, refl, sym, ap, ap₂, ◌∙◌}
 use mathlib.Core.Bool.{Bool, true, false, cond}
 use mathlib.Core.Logic.{◌⊎◌, inl, inr, ⊎_elim}
-use mathlib.Core.List.{List, [], ◌∷◌, ◌++◌}
+use mathlib.Core.List.{List, [], ◌∷◌}
 use Prim.Native.Nat.{ℕ, zero, suc, ◌+◌, ◌-◌, ◌*◌, ◌≤◌, ◌<◌, max}
 use native.Mathlib.Omega.{arith}
-use native.Mathlib.Nat.{le-max_left, le-max_right, max-eq_left, max-eq_right, add-zero, zero-add, add_assoc, eq-or-lt_of_le}
-use native.Mathlib.Numerals.{add-one}
+use native.Mathlib.Nat.{le-max_left, le-max_right, max-eq_left, max-eq_right, zero-add, add_assoc, eq-or-lt_of_le}
 use lib.Dec.{eqb, leb}
-use lib.ListN.{length, take, drop, get_or, length-drop}
-use lib.Seq.{take-suc, take_all}
+use lib.ListN.{length, take, drop, length-take, length-drop}
+use lib.Seq.{take_all, drop-drop}
+use Rattle.std.specs.List.{fold}
+use Rattle.std.proofs.Common.{map}
 use types.Run.{OneOf}
 use borrow.Author.Tests.{eq-eqb, ne_eqb, leb-true, leb-false}
 use Rattle.atoms.specs.Score.{among, common, byte_score, atom_score, atom_at, highest, literal_score, IsAtom, IsScore}
@@ -43,22 +44,14 @@ pub byte_le : (b : ℕ) → byte_score b ≤ 20
 unfolding byte_score
 byte_le b = pick_le (among b common)
 
-atom_snoc : (s : List ℕ) (b : ℕ) → atom_score (s ++ (b ∷ [])) ≡ atom_score s + byte_score b
+-- a sum over the bytes is their score
+atom_sum : (l : List ℕ) (s : ℕ) → fold (λ (a x : ℕ). a + x) s (map byte_score l) ≡ s + atom_score l
 unfolding atom_score
-atom_snoc [] b = add-zero (byte_score b) ∙ sym (zero-add (byte_score b))
-atom_snoc (a ∷ s) b = ap (λ (x : ℕ). byte_score a + x) (atom_snoc s b) ∙ sym (add_assoc (byte_score a) (atom_score s) (byte_score b))
+atom_sum [] s = omega arith
+atom_sum (b ∷ l) s = atom_sum l (s + byte_score b) ∙ add_assoc s (byte_score b) (atom_score l)
 
-pub atom_none : 0 ≡ atom_score []
-unfolding atom_score
-atom_none = refl
-
--- one byte more
-pub atom_more : (l : List ℕ) (i sum : ℕ) → i < length l → sum ≡ atom_score (take i l) → sum + byte_score (get_or l i 0) ≡ atom_score (take (i + 1) l)
-atom_more l i sum h e = rw (add-one, take-suc l i 0, atom_snoc, e)
-
--- no byte more
-pub atom_whole : (l : List ℕ) (i n sum : ℕ) → length l ≤ i → i ≤ n → sum ≡ atom_score (take i l) → sum ≡ atom_score (take n l)
-atom_whole l i n sum h g e = let k : length l ≤ n = omega arith in e ∙ ap atom_score (take_all i l h ∙ sym (take_all n l k))
+pub atom_total : (l : List ℕ) → fold (λ (a x : ℕ). a + x) 0 (map byte_score l) ≡ atom_score l
+atom_total l = rw (atom_sum l 0) (zero-add (atom_score l))
 
 pub atom_le : (n : ℕ) (l : List ℕ) → atom_score (take n l) ≤ 20 * n
 unfolding atom_score
@@ -66,24 +59,47 @@ atom_le zero l = omega arith
 atom_le (suc n) [] = omega arith
 atom_le (suc n) (b ∷ l) = omega (arith, byte_le b, atom_le n l)
 
--- ---- the best window: these laws hold for whatever a window scores
+-- ---- the best window
 
-pub best_first : (l : List ℕ) (s : ℕ) → s ≡ atom_score (take 4 l) → s ≡ highest 0 l
+-- `best` is the highest score of the windows before `rest`, the end of a literal; of none, it is that of the literal's first bytes
+pub record Passed (l rest : List ℕ) (best : ℕ) : Type 0 where
+  pub short : length rest ≤ length l
+  pub is_end : rest ≡ drop (length l - length rest) l
+  pub far : length l - length rest ≤ length l - 3
+  pub is_best : best ≡ highest (length l - length rest - 1) l
+
+pub passed_none : (l rest : List ℕ) (s : ℕ) → rest ≡ l → s ≡ atom_score (take 4 l) → Passed l rest s
 unfolding highest
-best_first l s e = e
+passed_none l rest s e f =
+    let z : length l - length rest ≡ 0 = omega (arith, ap length e) in
+    record { short = omega (arith, ap length e); is_end = rw z e; far = omega arith; is_best = rw z f }
+
+-- the next window is the first of all, or one more
+next_best : (n : ℕ) (l : List ℕ) → max (highest (n - 1) l) (atom_score (take 4 (drop n l))) ≡ highest n l
+unfolding highest
+next_best zero l = omega arith
+next_best (suc n) l = let e : suc n - 1 ≡ n = omega arith in rw e
 
 -- one window more
-pub best_next : (l : List ℕ) (a best s r : ℕ) → best ≡ highest a l → s ≡ atom_score (take 4 (take (length l - (a + 1)) (drop (a + 1) l)))
-    → r ≡ max best s → r ≡ highest (a + 1) l
-unfolding highest
-best_next l a best s r b w e =
-    let k : length (drop (a + 1) l) ≤ length l - (a + 1) = rw length-drop (omega arith) in
-    rw (e, b, w, take_all (length l - (a + 1)) (drop (a + 1) l) k, add-one)
+pub passed_more : (l rest next w : List ℕ) (best s r : ℕ) → Passed l rest best → 4 ≤ length rest → next ≡ drop 1 rest → w ≡ take 4 rest
+    → s ≡ atom_score (take 4 w) → r ≡ max best s → Passed l next r
+passed_more l rest next w best s r p h e f g k =
+    let n : ℕ = length l - length rest in
+    let t : take 4 w ≡ take 4 rest = rw f (take_all 4 (take 4 rest) (omega (arith, length-take {A = ℕ}))) in
+    let d : length next ≡ length rest - 1 = ap length e ∙ length-drop 1 rest in
+    let m : length l - length next ≡ n + 1 = omega (arith, p.short) in
+    let m1 : length l - length next - 1 ≡ n = omega (arith, p.short) in
+    record {
+      short = omega (arith, p.short);
+      is_end = rw m (e ∙ ap (drop 1) p.is_end ∙ drop-drop 1 n l);
+      far = omega (arith, p.short);
+      is_best = rw m1 (k ∙ ap₂ max p.is_best (g ∙ ap atom_score (t ∙ ap (take 4) p.is_end)) ∙ next_best n l);
+    }
 
--- the last window
-pub best_last : (l : List ℕ) (a best : ℕ) → a ≤ length l - 4 → length l - a ≤ 4 → best ≡ highest a l → best ≡ literal_score l
+-- no window more
+pub passed_all : (l rest : List ℕ) (best : ℕ) → Passed l rest best → length rest < 4 → best ≡ literal_score l
 unfolding literal_score
-best_last l a best h g e = let z : length l - 4 ≡ a = omega arith in rw z e
+passed_all l rest best p h = let e : length l - length rest - 1 ≡ length l - 4 = omega (arith, p.short, p.far) in p.is_best ∙ ap (λ (n : ℕ). highest n l) e
 
 highest_over : (l : List ℕ) (n a : ℕ) → a ≤ n → atom_score (atom_at a l) ≤ highest n l
 unfolding highest

@@ -6,7 +6,7 @@ ghost use Rattle.std.specs.Prelude.{◌≡◌, max, take};
 ghost use Rattle.atoms.specs.Score.{atom_len, byte_score, atom_score, literal_score};
 
 // What a search looks for: a run of at most `LEN` bytes of a literal.
-#[derive(Drop)]
+#[derive(Clone, Copy, Debug, PartialEq, Eq)]
 pub struct Atom;
 
 impl Atom {
@@ -16,16 +16,7 @@ impl Atom {
     pub fn score(bytes: &[u8]) -> u32
         ensures { result ≡ atom_score (take atom_len bytes.now) }
     {
-        let mut sum = 0;
-        let mut i = 0;
-        while i < Atom::LEN {
-            if bytes.len() <= i {
-                break;
-            }
-            sum += byte_score(bytes[i]);
-            i += 1;
-        }
-        sum
+        bytes.iter().take(Atom::LEN).map(|b| byte_score(*b)).sum()
     }
 }
 
@@ -38,21 +29,13 @@ pub fn byte_score(b: u8) -> u32
     }
 }
 
-fn larger(a: u32, b: u32) -> u32
-    ensures { result ≡ max a b }
-{
-    if a < b { b } else { a }
-}
-
 pub fn literal_score(lit: &[u8]) -> u32
     ensures { result ≡ literal_score lit.now }
 {
+    // A literal shorter than an atom has no window, and is its own only atom.
     let mut best = Atom::score(lit);
-    let mut at = 0;
-    // A next atom needs a byte behind this one.
-    while Atom::LEN < lit.len() - at {
-        at += 1;
-        best = larger(best, Atom::score(&lit[at..]));
+    for atom in lit.windows(Atom::LEN) {
+        best = best.max(Atom::score(atom));
     }
     best
 }

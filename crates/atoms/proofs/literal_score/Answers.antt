@@ -1,19 +1,15 @@
--- The invariant: `best` is the highest score of the windows up to `at`, none of which reaches past the end.
-use Rattle.atoms.proofs.Laws.{best_first, best_next, best_last}
-use native.Mathlib.Omega.{arith}
+-- The invariant: `best` is the highest score of the windows passed, and what is left to pass is the literal's end.
+use Rattle.std.proofs.Common.{arith, rules}
+use Rattle.atoms.proofs.Laws.{passed_none, passed_more, passed_all}
 use Rattle.atoms.proofs.literal_score.Goals as goal
 
-pub loop-at-init : goal.loop-at-init
-loop-at-init c =
-    (omega arith, best_first c.args.lit.now _ c.score-best.ensures)
+pub loop-atom-init : goal.loop-atom-init
+loop-atom-init c = (search rules, passed_none c.args.lit.now _ _ (search rules) c.score-best.ensures)
 
-pub loop-at-preserved : goal.loop-at-preserved
-loop-at-preserved c = (
-  omega arith,
-  best_next c.args.lit.now c.loop-at.at _ _ _
-      c.loop-at.invariant.1 c.score.ensures c.larger-best.ensures,
-)
+pub loop-atom-preserved : goal.loop-atom-preserved
+loop-atom-preserved c =
+    let s = rw c.loop-atom.invariant.0 at c.in-Some.ensures.steps in
+    (search rules, passed_more c.args.lit.now _ _ _ _ _ _ c.loop-atom.invariant.1 (omega (arith, s)) s.1.2 s.1.1 c.score.ensures c.max-best.ensures)
 
 pub returns : goal.returns
-returns c =
-    best_last c.args.lit.now c.loop-at.at _ (omega arith) (omega arith) c.loop-at.invariant.1
+returns c = passed_all c.args.lit.now _ _ c.loop-atom.invariant.1 (omega (arith, c.in-None.ensures.steps, c.loop-atom.invariant.0))

@@ -1,25 +1,19 @@
--- The invariant: the sum is the score of the bytes passed, of which there are at most four.
-use mathlib.Core.Path.{ap, ◌∙◌}
-use Prim.Native.Nat.{ℕ, ◌+◌}
-use lib.ListN.{get_or}
-use Rattle.atoms.proofs.Laws.{byte_le, atom_none, atom_more, atom_le}
-use native.Mathlib.Omega.{arith}
+-- `atoms::Atom::score` meets its contract. Assumes nothing.
+use Rattle.std.proofs.Common.{ℕ, ◌+◌, ◌∙◌, take, arith, rules, tests}
+use Rattle.std.proofs.lemmas.Iterator.{YieldsList-from_slice, YieldsList-from_take, YieldsList-from_map}
+use Rattle.std.proofs.lemmas.Iterator.Adapters.{fits_from_length, at_most_from_yields_List, total_from_yields_List}
+use Rattle.std.proofs.Math.ListN.{length-take}
+use Rattle.atoms.specs.Score.{byte_score}
+use Rattle.atoms.proofs.Laws.{byte_le, atom_total}
 use Rattle.atoms.proofs.Atom.score.Goals as goal
 
-pub loop-i-init : goal.loop-i-init
-loop-i-init c = (omega arith, omega arith, atom_none)
+pub sum-requires-clause-fits : goal.sum-requires-clause-fits
+sum-requires-clause-fits c =
+    fits_from_length _ _ 4 _ (at_most_from_yields_List (YieldsList-from_take 4 (YieldsList-from_slice c.args.bytes.now cc) cc) (omega (arith, length-take {A = ℕ})))
+    c.map.ensures.closure (omega arith) (λ x r q k. search (rules, tests, byte_le))
 
-pub overflow_add-sum : goal.overflow_add-sum
-overflow_add-sum c =
-    let i = c.loop-i.i in
-    let l = c.args.bytes.now in
-    record { fits = omega (arith, byte_le (get_or l i 0), atom_le i l) }
-
-pub loop-i-preserved : goal.loop-i-preserved
-loop-i-preserved c = (
-  omega arith,
-  omega arith,
-  ap (λ (x : ℕ). c.loop-i.sum + x) c.byte_score-sum.ensures
-      ∙ atom_more c.args.bytes.now c.loop-i.i _ (omega arith)
-      c.loop-i.invariant.2,
-)
+pub returns : goal.returns
+returns c =
+    total_from_yields_List (λ (a x : ℕ). a + x) 0 c.sum.result c.sum.ensures.ran
+    (YieldsList-from_map _ byte_score (YieldsList-from_take 4 (YieldsList-from_slice c.args.bytes.now cc) cc) c.map.ensures.closure (λ x r q k. search (rules, tests)))
+    ∙ atom_total (take 4 c.args.bytes.now)
