@@ -2,3 +2,4 @@
 pub mod KindLaws
 pub mod ClassLaws
 pub mod MemberLaws
+pub mod EntryLaws

@@ -1,7 +1,6 @@
 -- The members of a class by their number: a byte is number j if it passes and j bytes below it do. Assumes nothing.
-use mathlib.Core.Path.{◌≡◌, refl, sym, ap, ap₂, ◌∙◌, subst}
+use mathlib.Core.Path.{◌≡◌, refl, sym, ap, ap₂, ◌∙◌}
 use mathlib.Core.Bool.{Bool, true, false, cond, not}
-use mathlib.Core.List.{[]}
 use mathlib.Core.Logic.{⊎_elim}
 use Prim.Native.Nat.{ℕ, zero, suc, ◌+◌, ◌-◌, ◌*◌, ◌/◌, ◌%◌, ◌≤◌, ◌<◌, min}
 use native.Mathlib.Omega.{arith}
@@ -9,13 +8,11 @@ use native.Mathlib.Nat.{eq-or-lt_of_le}
 use lib.Dec.{eqb, ltb}
 use lib.ListN.{length, get_or}
 use borrow.Author.Tests.{eqb-true, eqb-false, eq-eqb, ne_eqb, ltb-true, ltb-false, lt-ltb, le-ltb}
-use Rattle.def_meaning.specs.Tokens.{Mask, left, right, Token, NotByte, MaskedByte, NotMaskedByte}
+use Rattle.def_meaning.specs.Tokens.{left, right, Token, Byte, NotByte, MaskedByte, NotMaskedByte}
 use Rattle.bitmap.specs.Bitmap.{tally}
 use Rattle.bitmap.proofs.Tally.{tally_nil, tally_add, tally_not}
 use Rattle.def_picking.specs.Literals.{kept, passing, bytes_that, taken}
-use Rattle.classes.specs.Entry.{mask_in, entry_token}
 use Rattle.classes.specs.Classes.{gapped}
-use Rattle.classes.proofs.ClassLaws.{mask_all}
 
 -- ---- any test
 
@@ -184,81 +181,32 @@ module _ (v j : ℕ) (l : v < 16) where
       at : (b : ℕ) → b < 256 → (b % 16 ≡ v → ⊥) → tally (λ c. eqb (c % 16) v) b + j ≡ b → get_or (bytes_that (λ c. not (eqb (c % 16) v))) j 0 ≡ b
       at b s f e = number_is (λ c. not (eqb (c % 16) v)) b j s (ap not (ne_eqb (b % 16) v f)) (omega (arith, tally_not (λ c. eqb (c % 16) v) b))
 
--- ---- the same of entries, by their kinds and masks
-
-past_end : (n : ℕ) → ◌≡◌ {A = ℕ} (get_or [] n 0) 0
-past_end zero = refl
-past_end (suc n) = refl
-
-mask_left : (k : ℕ) → k ≡ 0 → mask_in k ≡ left
-unfolding mask_in
-mask_left k e = rw e
-
-mask_right : (k : ℕ) → k ≡ 1 → mask_in k ≡ right
-unfolding mask_in
-mask_right k e = rw e
+-- ---- the same where some number of bytes is asked for
 
 -- b is byte number j of those that t takes, and j is below n
 abbrev pub IsAt : Token → ℕ → ℕ → ℕ → Type 0
 IsAt t j n b = (j < n) × (b ≡ get_or (taken t) j 0)
 
-module _ (x k j : ℕ) where
+pub byte_in : (x j : ℕ) → j < length (taken (Byte x)) → x ≡ get_or (taken (Byte x)) j 0
+unfolding taken
+byte_in x zero h = refl
+byte_in x (suc j) h = absurd (omega arith)
+
+pub not_in : (x j : ℕ) → x < 256 → j < length (taken (NotByte x)) → IsAt (NotByte x) j 255 (gapped j x 1)
+not_in x j l h = let g : j < 255 = omega (arith, not_few x l) in (g, sym (not_at_lem x j l g))
+
+module _ (x j : ℕ) where
   half : x % 16 < 16
   half = omega arith
 
-  pub left_in : k ≡ 0 → j < length (taken (MaskedByte (x % 16) (mask_in k))) → IsAt (MaskedByte (x % 16) (mask_in k)) j 16 (16 * j + x % 16)
-  left_in e =
-      subst (λ (m : Mask). j < length (taken (MaskedByte (x % 16) m)) → IsAt (MaskedByte (x % 16) m) j 16 (16 * j + x % 16)) (sym (mask_left k e))
-      (λ h. let g : j < 16 = omega (arith, left_few (x % 16) half) in (g, sym (left_at (x % 16) j half g)))
+  pub low_in : j < length (taken (MaskedByte (x % 16) left)) → IsAt (MaskedByte (x % 16) left) j 16 (16 * j + x % 16)
+  low_in h = let g : j < 16 = omega (arith, left_few (x % 16) half) in (g, sym (left_at (x % 16) j half g))
 
-  pub right_in : k ≡ 1 → j < length (taken (MaskedByte (x % 16) (mask_in k))) → IsAt (MaskedByte (x % 16) (mask_in k)) j 16 (16 * (x % 16) + j)
-  right_in e =
-      subst (λ (m : Mask). j < length (taken (MaskedByte (x % 16) m)) → IsAt (MaskedByte (x % 16) m) j 16 (16 * (x % 16) + j)) (sym (mask_right k e))
-      (λ h. let g : j < 16 = omega (arith, right_few (x % 16) half) in (g, sym (right_at (x % 16) j half g)))
+  pub high_in : j < length (taken (MaskedByte (x % 16) right)) → IsAt (MaskedByte (x % 16) right) j 16 (16 * (x % 16) + j)
+  high_in h = let g : j < 16 = omega (arith, right_few (x % 16) half) in (g, sym (right_at (x % 16) j half g))
 
-  pub other_left_in : k ≡ 0 → j < length (taken (NotMaskedByte (x % 16) (mask_in k))) → IsAt (NotMaskedByte (x % 16) (mask_in k)) j 240 (16 * (j / 15) + gapped (j % 15) (x % 16) 1)
-  other_left_in e =
-      subst (λ (m : Mask). j < length (taken (NotMaskedByte (x % 16) m)) → IsAt (NotMaskedByte (x % 16) m) j 240 (16 * (j / 15) + gapped (j % 15) (x % 16) 1)) (sym (mask_left k e))
-      (λ h. let g : j < 240 = omega (arith, other_left_few (x % 16) half) in (g, sym (other_left_at (x % 16) j half g)))
+  pub not_low_in : j < length (taken (NotMaskedByte (x % 16) left)) → IsAt (NotMaskedByte (x % 16) left) j 240 (16 * (j / 15) + gapped (j % 15) (x % 16) 1)
+  not_low_in h = let g : j < 240 = omega (arith, other_left_few (x % 16) half) in (g, sym (other_left_at (x % 16) j half g))
 
-  pub other_right_in : k ≡ 1 → j < length (taken (NotMaskedByte (x % 16) (mask_in k))) → IsAt (NotMaskedByte (x % 16) (mask_in k)) j 240 (gapped j (16 * (x % 16)) 16)
-  other_right_in e =
-      subst (λ (m : Mask). j < length (taken (NotMaskedByte (x % 16) m)) → IsAt (NotMaskedByte (x % 16) m) j 240 (gapped j (16 * (x % 16)) 16)) (sym (mask_right k e))
-      (λ h. let g : j < 240 = omega (arith, other_right_few (x % 16) half) in (g, sym (other_right_at (x % 16) j half g)))
-
--- `??` and `~??` take none
-module _ (v k j : ℕ) (f : k ≡ 0 → ⊥) (g : k ≡ 1 → ⊥) where
-  pub none_in : ◌≡◌ {A = ℕ} 0 (get_or (taken (MaskedByte v (mask_in k))) j 0)
-  unfolding taken
-  none_in = sym (ap (λ (m : Mask). get_or (taken (MaskedByte v m)) j 0) (mask_all k f g) ∙ past_end j)
-
-  pub no_others_in : ◌≡◌ {A = ℕ} 0 (get_or (taken (NotMaskedByte v (mask_in k))) j 0)
-  unfolding taken
-  no_others_in = sym (ap (λ (m : Mask). get_or (taken (NotMaskedByte v m)) j 0) (mask_all k f g) ∙ past_end j)
-
--- an entry's token by its kind
-module _ (kind v mask x : ℕ) (e : x ≡ v % 256) where
-  halves : v % 16 ≡ x % 16
-  halves = omega arith
-
-  entry_not : kind ≡ 1 → entry_token kind v mask ≡ NotByte x
-  unfolding entry_token
-  entry_not k = rw k (ap NotByte (sym e))
-
-  pub entry_half : kind ≡ 2 → entry_token kind v mask ≡ MaskedByte (x % 16) (mask_in mask)
-  unfolding entry_token
-  entry_half k = rw k (ap (λ (y : ℕ). MaskedByte y (mask_in mask)) halves)
-
-  pub entry_other_half : kind ≡ 3 → entry_token kind v mask ≡ NotMaskedByte (x % 16) (mask_in mask)
-  unfolding entry_token
-  entry_other_half k = rw k (ap (λ (y : ℕ). NotMaskedByte y (mask_in mask)) halves)
-
-  pub not_in : kind ≡ 1 → (j : ℕ) → j < length (taken (entry_token kind v mask)) → IsAt (entry_token kind v mask) j 255 (gapped j x 1)
-  not_in k j =
-      subst (λ (t : Token). j < length (taken t) → IsAt t j 255 (gapped j x 1)) (sym (entry_not k))
-      (λ h. let l : x < 256 = omega arith in let g : j < 255 = omega (arith, not_few x l) in (g, sym (not_at_lem x j l g)))
-
--- any other kind takes none
-pub kind_none : (kind v mask j : ℕ) → (kind ≡ 0 → ⊥) → (kind ≡ 1 → ⊥) → (kind ≡ 2 → ⊥) → (kind ≡ 3 → ⊥) → ◌≡◌ {A = ℕ} 0 (get_or (taken (entry_token kind v mask)) j 0)
-unfolding entry_token taken
-kind_none kind v mask j f g h i = simp (ne_eqb kind 0 f, ne_eqb kind 1 g, ne_eqb kind 2 h, ne_eqb kind 3 i) (sym (past_end j))
+  pub not_high_in : j < length (taken (NotMaskedByte (x % 16) right)) → IsAt (NotMaskedByte (x % 16) right) j 240 (gapped j (16 * (x % 16)) 16)
+  not_high_in h = let g : j < 240 = omega (arith, other_right_few (x % 16) half) in (g, sym (other_right_at (x % 16) j half g))

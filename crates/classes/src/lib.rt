@@ -2,59 +2,102 @@
 // The bytes that one token entry takes: which, how many, and number j of them.
 #![tactic(auto)]
 
-ghost use Rattle.std.specs.Prelude.{◌≡◌, ◌≤◌, ◌<◌, ◌%◌, length, get_or};
-ghost use Rattle.def_meaning.specs.Tokens.{MaskedByte, NotMaskedByte};
+ghost use Rattle.std.specs.Prelude.{◌≡◌, ◌≤◌, ◌<◌, length, get_or};
 ghost use Rattle.bitmap.specs.Bitmap.{Holds};
 ghost use Rattle.def_picking.specs.Literals.{taken, is_plain};
-ghost use Rattle.classes.specs.Entry.{mask_in, entry_token};
+ghost use Rattle.classes.specs.Entry.{entry_at, entry_token, token_of};
 ghost use Rattle.classes.specs.Classes.{passes, gapped};
 
 use bitmap::Bitmap;
 
-// The bytes with the half that a mask leaves to be compared.
-fn half_of(x: u8, mask: u32) -> Bitmap
-    ensures { Holds result (passes (MaskedByte (x % 16) (mask_in mask))) }
-{
-    match mask {
-        0 => Bitmap::low_half(x),
-        1 => Bitmap::high_half(x),
-        _ => Bitmap::new(),
+// What an entry stands for. A class has the bytes other than the value, or those with its low half as their low or high half, or all without these.
+// `??` and `~??` are no classes, and Other is for jumps, alternatives and list marks.
+#[derive(Clone, Copy, Debug, PartialEq, Eq)]
+pub enum Entry {
+    Byte(u8),
+    NotByte(u8),
+    Low(u8),
+    High(u8),
+    Any(u8),
+    NotLow(u8),
+    NotHigh(u8),
+    NotAny(u8),
+    Other,
+}
+
+impl From<[u32; 4]> for Entry {
+    ghost from_gives = { λ ws e. token_of e ≡ entry_at ws };
+
+    fn from([kind, value, mask, _]: [u32; 4]) -> Self {
+        let x = (value % 256) as u8;
+        match (kind, mask) {
+            (0, _) => Entry::Byte(x),
+            (1, _) => Entry::NotByte(x),
+            (2, 0) => Entry::Low(x),
+            (2, 1) => Entry::High(x),
+            (2, _) => Entry::Any(x),
+            (3, 0) => Entry::NotLow(x),
+            (3, 1) => Entry::NotHigh(x),
+            (3, _) => Entry::NotAny(x),
+            _ => Entry::Other,
+        }
     }
 }
 
-// All other bytes; none for `~??`, which is never read.
-fn other_half_of(x: u8, mask: u32) -> Bitmap
-    ensures { Holds result (passes (NotMaskedByte (x % 16) (mask_in mask))) }
-{
-    match mask {
-        0 => Bitmap::low_half(x).invert(),
-        1 => Bitmap::high_half(x).invert(),
-        _ => Bitmap::new(),
+impl Entry {
+    // The bytes of a class; none for any other entry.
+    pub fn class(self) -> Bitmap
+        ensures { Holds result (passes (token_of self)) }
+    {
+        match self {
+            Entry::NotByte(x) => Bitmap::all_but(x),
+            Entry::Low(x) => Bitmap::low_half(x),
+            Entry::High(x) => Bitmap::high_half(x),
+            Entry::NotLow(x) => Bitmap::low_half(x).invert(),
+            Entry::NotHigh(x) => Bitmap::high_half(x).invert(),
+            Entry::Byte(_) | Entry::Any(_) | Entry::NotAny(_) | Entry::Other => Bitmap::new(),
+        }
+    }
+
+    // How many bytes the entry takes.
+    pub fn count(self) -> usize
+        ensures { (result ≡ length (taken (token_of self))) × (result ≤ 256) }
+    {
+        match self {
+            Entry::Byte(_) => 1,
+            _ => self.class().count() as usize,
+        }
+    }
+
+    // Byte number j of those that the entry takes, told without a walk through them: each literal asks it of each of its classes.
+    pub fn at(self, j: usize) -> u8
+        requires { j < length (taken (token_of self)) }
+        ensures { result ≡ get_or (taken (token_of self)) j 0 }
+    {
+        match self {
+            Entry::Byte(x) => x,
+            Entry::NotByte(x) => past_gap(j, usize::from(x), 1) as u8,
+            Entry::Low(x) => (16 * j + usize::from(x % 16)) as u8,
+            Entry::High(x) => (16 * usize::from(x % 16) + j) as u8,
+            // 15 of each 16.
+            Entry::NotLow(x) => (16 * (j / 15) + past_gap(j % 15, usize::from(x % 16), 1)) as u8,
+            // All but 16 in a row.
+            Entry::NotHigh(x) => past_gap(j, 16 * usize::from(x % 16), 16) as u8,
+            Entry::Any(_) | Entry::NotAny(_) | Entry::Other => 0,
+        }
+    }
+
+    pub fn is_plain(self) -> bool
+        ensures { result ≡ is_plain (token_of self) }
+    {
+        !matches!(self, Entry::Any(_) | Entry::NotAny(_) | Entry::Other)
     }
 }
 
-// The bytes that an entry of a class takes; none for any other.
-pub fn class_of(kind: u32, value: u32, mask: u32) -> Bitmap
-    ensures { Holds result (passes (entry_token kind value mask)) }
+pub fn plain_entry(kind: u32, mask: u32) -> bool
+    ensures { result ≡ is_plain (entry_token kind 0 mask) }
 {
-    let x = (value % 256) as u8;
-    match kind {
-        1 => Bitmap::all_but(x),
-        2 => half_of(x, mask),
-        3 => other_half_of(x, mask),
-        _ => Bitmap::new(),
-    }
-}
-
-// How many bytes an entry takes.
-pub fn taken_count(kind: u32, value: u32, mask: u32) -> usize
-    ensures { (result ≡ length (taken (entry_token kind value mask))) × (result ≤ 256) }
-{
-    if kind == 0 {
-        return 1;
-    }
-    let n = class_of(kind, value, mask).count();
-    n as usize
+    Entry::from([kind, 0, mask, 0]).is_plain()
 }
 
 // Number j of the numbers from 0 on without `gap` of them, from `from` on.
@@ -63,64 +106,4 @@ fn past_gap(j: usize, from: usize, gap: usize) -> usize
     ensures { result ≡ gapped j from gap }
 {
     if j < from { j } else { j + gap }
-}
-
-// Byte number j of those with the half that a mask leaves to be compared.
-fn half_at(x: u8, mask: u32, j: usize) -> u8
-    requires { j < length (taken (MaskedByte (x % 16) (mask_in mask))) }
-    ensures { result ≡ get_or (taken (MaskedByte (x % 16) (mask_in mask))) j 0 }
-{
-    let h = (x % 16) as usize;
-    match mask {
-        0 => (16 * j + h) as u8,
-        1 => (16 * h + j) as u8,
-        _ => 0,
-    }
-}
-
-// Byte number j of all others: 15 of each 16, or all but 16 in a row.
-fn other_half_at(x: u8, mask: u32, j: usize) -> u8
-    requires { j < length (taken (NotMaskedByte (x % 16) (mask_in mask))) }
-    ensures { result ≡ get_or (taken (NotMaskedByte (x % 16) (mask_in mask))) j 0 }
-{
-    let h = (x % 16) as usize;
-    match mask {
-        0 => {
-            let low = past_gap(j % 15, h, 1);
-            (16 * (j / 15) + low) as u8
-        }
-        1 => {
-            let b = past_gap(j, 16 * h, 16);
-            b as u8
-        }
-        _ => 0,
-    }
-}
-
-// Byte number j of those that an entry takes, told without a walk through them: each literal asks it of each of its classes.
-pub fn taken_at(kind: u32, value: u32, mask: u32, j: usize) -> u8
-    requires { j < length (taken (entry_token kind value mask)) }
-    ensures { result ≡ get_or (taken (entry_token kind value mask)) j 0 }
-{
-    let x = (value % 256) as u8;
-    match kind {
-        0 => x,
-        1 => {
-            let b = past_gap(j, x as usize, 1);
-            b as u8
-        }
-        2 => half_at(x, mask, j),
-        3 => other_half_at(x, mask, j),
-        _ => 0,
-    }
-}
-
-pub fn plain_entry(kind: u32, mask: u32) -> bool
-    ensures { result ≡ is_plain (entry_token kind 0 mask) }
-{
-    match kind {
-        0 | 1 => true,
-        2 | 3 => mask < 2,
-        _ => false,
-    }
 }
