@@ -4,6 +4,7 @@ use borrow.Author.Tests.{ne_eqb}
 use Rattle.def_meaning.specs.Tokens as token
 use Rattle.def_meaning.specs.Tokens.{Mask, left, right, all, MaskedByte, NotMaskedByte}
 use Rattle.def_picking.specs.Literals.{taken, is_plain}
+use Rattle.def_picking.specs.Runs.{plain_inside}
 use Rattle.classes.specs.declared.Entry.{Entry}
 use Rattle.classes.specs.declared.Entry.TheVariants.{Byte, NotByte, Low, High, Any, NotLow, NotHigh, NotAny, Other}
 use Rattle.classes.specs.Classes.{passes}
@@ -109,3 +110,16 @@ plain_but (NotLow x) h = refl
 plain_but (NotHigh x) h = refl
 plain_but (NotAny x) h = absurd (h (inr (inl (x, refl))))
 plain_but Other h = absurd (h (inr (inr refl)))
+
+-- an entry of its own has no lists
+pub one_inside : (e : Entry) → plain_inside (token_of e) ≡ true
+unfolding plain_inside
+one_inside (Byte x) = refl
+one_inside (NotByte x) = refl
+one_inside (Low x) = refl
+one_inside (High x) = refl
+one_inside (Any x) = refl
+one_inside (NotLow x) = refl
+one_inside (NotHigh x) = refl
+one_inside (NotAny x) = refl
+one_inside Other = refl

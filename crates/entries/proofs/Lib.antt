@@ -2,3 +2,4 @@
 pub mod StepLaws
 pub mod PartLaws
 pub mod PlainLaws
+pub mod WalkLaws

@@ -1,22 +1,13 @@
 -- `entries::plain_list` meets its contract. Assumes nothing.
-use Prim.Native.Nat.{ℕ}
-use mathlib.Core.List.{List}
-use Rattle.entries.specs.Words.{branch_in}
-use Rattle.def_picking.specs.Literals.{plain_list}
-use mathlib.Core.Path.{sym, ap, ◌∙◌}
-use Rattle.entries.proofs.PlainLaws as law
-use native.Mathlib.Omega.{arith}
-use Rattle.def_meaning.proofs.PartLaws.{to_end}
+use Rattle.std.proofs.Common.{◌∙◌, rules, tests}
+use Rattle.std.proofs.lemmas.Iterator.{YieldsList-from_slice}
+use Rattle.std.proofs.lemmas.Iterator.Search.{all_from_yields_List}
+use Rattle.def_picking.specs.Literals.{is_plain}
+use Rattle.classes.specs.Entry.{entry_at}
+use Rattle.entries.proofs.WalkLaws.{plain_entries}
 use Rattle.entries.proofs.plain_list.Goals as goal
-
-pub returns-then-not-plain_entry : goal.returns-then-not-plain_entry
-returns-then-not-plain_entry c =
-    sym (c.loop-rest.invariant ∙ law.list_stop c.loop-rest.rest.now c.loop-rest-test.true (sym c.plain_entry.ensures ∙ c.if-not-plain_entry.true))
-
-pub loop-rest-preserved : goal.loop-rest-preserved
-loop-rest-preserved c =
-    c.loop-rest.invariant ∙ law.list_more c.loop-rest.rest.now c.loop-rest-test.true (sym c.plain_entry.ensures ∙ c.if-not-plain_entry.false) ∙ ap (λ (l : List ℕ). plain_list (branch_in l)) (sym (to_end 4 c.loop-rest.rest.now))
 
 pub returns : goal.returns
 returns c =
-    sym (c.loop-rest.invariant ∙ law.list_end_lem c.loop-rest.rest.now (omega (arith, c.loop-rest-test.false)))
+    all_from_yields_List (λ e. is_plain (entry_at e)) _ _ _ c.all.ensures.ran (YieldsList-from_slice _ (c.iter.ensures.rest ∙ c.as_chunks.ensures.front)) (λ x b q k. search (rules, tests))
+    ∙ plain_entries c.args.ws.now
