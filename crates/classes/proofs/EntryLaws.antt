@@ -1,8 +1,9 @@
 -- The code's entry is the token that some words are taken for. Assumes nothing.
 use Rattle.std.proofs.Common.{◌≡◌, ℕ, ◌≤◌, ◌%◌, true, false, [], ◌⊎◌, inl, inr, refl, arith}
+use Rattle.std.proofs.Math.Option.{none}
 use borrow.Author.Tests.{ne_eqb}
 use Rattle.def_meaning.specs.Tokens as token
-use Rattle.def_meaning.specs.Tokens.{Mask, left, right, all, MaskedByte, NotMaskedByte}
+use Rattle.def_meaning.specs.Tokens.{Mask, left, right, all, MaskedByte, NotMaskedByte, Jump}
 use Rattle.def_picking.specs.Literals.{taken, is_plain}
 use Rattle.def_picking.specs.Runs.{plain_inside}
 use Rattle.classes.specs.declared.Entry.{Entry}
@@ -111,15 +112,20 @@ plain_but (NotHigh x) h = refl
 plain_but (NotAny x) h = absurd (h (inr (inl (x, refl))))
 plain_but Other h = absurd (h (inr (inr refl)))
 
+-- what holds of the tokens of one entry each holds of any entry's
+pub one_cases : (P : token.Token → Type 0) → ((v : ℕ) → P (token.Byte v)) → ((v : ℕ) → P (token.NotByte v)) → ((v : ℕ) (m : Mask) → P (MaskedByte v m))
+    → ((v : ℕ) (m : Mask) → P (NotMaskedByte v m)) → P (Jump 0 none) → (e : Entry) → P (token_of e)
+one_cases P a b c d o (Byte x) = a x
+one_cases P a b c d o (NotByte x) = b x
+one_cases P a b c d o (Low x) = c (x % 16) left
+one_cases P a b c d o (High x) = c (x % 16) right
+one_cases P a b c d o (Any x) = c (x % 16) all
+one_cases P a b c d o (NotLow x) = d (x % 16) left
+one_cases P a b c d o (NotHigh x) = d (x % 16) right
+one_cases P a b c d o (NotAny x) = d (x % 16) all
+one_cases P a b c d o Other = o
+
 -- an entry of its own has no lists
 pub one_inside : (e : Entry) → plain_inside (token_of e) ≡ true
 unfolding plain_inside
-one_inside (Byte x) = refl
-one_inside (NotByte x) = refl
-one_inside (Low x) = refl
-one_inside (High x) = refl
-one_inside (Any x) = refl
-one_inside (NotLow x) = refl
-one_inside (NotHigh x) = refl
-one_inside (NotAny x) = refl
-one_inside Other = refl
+one_inside = one_cases (λ t. plain_inside t ≡ true) (λ v. refl) (λ v. refl) (λ v m. refl) (λ v m. refl) refl

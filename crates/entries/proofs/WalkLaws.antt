@@ -1,12 +1,12 @@
 -- What stands at the front of words. Assumes nothing.
-use Rattle.std.proofs.Common.{◌≡◌, ℕ, ◌+◌, ◌-◌, ◌/◌, ◌≤◌, ◌<◌, suc, Bool, true, false, ◌&&◌, List, length, take, drop, get_or, length-drop, refl, sym, ap, ap₂, ◌∙◌, arith}
+use Rattle.std.proofs.Common.{◌≡◌, ℕ, zero, ◌*◌, [], ◌+◌, ◌-◌, ◌/◌, ◌≤◌, ◌<◌, suc, Bool, true, false, ◌&&◌, List, length, take, drop, get_or, length-drop, refl, sym, ap, ap₂, ◌∙◌, arith}
 use Rattle.std.specs.List.{list_all}
 use Rattle.std.specs.Simd.{first_chunks}
 use Rattle.std.specs.Borrow.{Bor}
-use Rattle.std.proofs.lemmas.List.{get_or-take}
+use Rattle.std.proofs.lemmas.List.{get_or-take, drop-drop}
 use Rattle.std.proofs.Math.ListN.{length-take}
 use Rattle.def_meaning.specs.Tokens as token
-use Rattle.def_meaning.specs.Tokens.{◌then◌, ◌or◌}
+use Rattle.def_meaning.specs.Tokens.{nothing, ◌then◌, ◌or◌}
 use Rattle.def_meaning.proofs.PartLaws.{to_end}
 use Rattle.def_picking.specs.Literals.{is_plain, plain_list, plain_lists}
 use Rattle.def_picking.specs.Runs.{plain_inside, plain_alternatives}
@@ -65,6 +65,24 @@ token_words ws t rest f = omega (arith, f.wide, ap length f.left, length-drop (w
 pub list_words : (ws list rest : List ℕ) → IsList ws list rest → length list + 4 + length rest ≡ length ws
 list_words ws list rest f =
     omega (arith, ap length f.is, length-take (ends ws - 4) (drop 4 ws), length-drop 4 ws, ap length f.left, length-drop (ends ws) ws, ends_le ws, ends_long ws f.long)
+
+-- the chunks of four words are the entries of a list without alternatives
+chunk_at : (k i : ℕ) (ws : List ℕ) → i < k → get_or (first_chunks 4 k ws) i [] ≡ take 4 (drop (4 * i) ws)
+chunk_at zero i ws h = absurd (omega arith)
+chunk_at (suc k) zero ws h = refl
+chunk_at (suc k) (suc i) ws h = let e : 4 + 4 * i ≡ 4 * suc i = omega arith in chunk_at k i (drop 4 ws) (omega arith) ∙ ap (take 4) (drop-drop (4 * i) 4 ws ∙ ap (λ (x : ℕ). drop x ws) e)
+
+pub entry_next : (ws : List ℕ) (i : ℕ) (head : List ℕ) → i < length ws / 4 → head ≡ get_or (first_chunks 4 (length ws / 4) ws) i []
+    → branch_in (drop (4 * i) ws) ≡ entry_at head then branch_in (drop (4 * (i + 1)) ws)
+entry_next ws i head h e =
+    let l : 4 ≤ length (drop (4 * i) ws) = omega (arith, length-drop (4 * i) ws) in
+    let n : 4 * i + 4 ≡ 4 * (i + 1) = omega arith in
+    branch_step (drop (4 * i) ws) l
+    ∙ ap₂ (λ (t : token.Token) (l : List ℕ). t then branch_in l) (sym (entry_front (drop (4 * i) ws) head (e ∙ chunk_at (length ws / 4) i ws h)))
+    (drop-drop 4 (4 * i) ws ∙ ap (λ (x : ℕ). drop x ws) n)
+
+pub entries_end : (ws : List ℕ) (i : ℕ) → i ≡ length ws / 4 → branch_in (drop (4 * i) ws) ≡ nothing
+entries_end ws i e = branch_end (drop (4 * i) ws) (omega (arith, length-drop (4 * i) ws))
 
 -- ---- whether all is plain
 

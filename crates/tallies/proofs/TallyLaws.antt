@@ -2,21 +2,25 @@
 use mathlib.Core.Path.{◌≡◌, refl, sym, ap, ap₂, ◌∙◌}
 use mathlib.Core.Bool.{Bool, true, false}
 use mathlib.Core.Logic.{◌⊎◌, inl, inr, ⊎_elim}
-use mathlib.Core.List.{List}
+use mathlib.Core.List.{List, []}
 use Prim.Native.Nat.{ℕ, zero, suc, ◌+◌, ◌-◌, ◌*◌, ◌/◌, ◌≤◌, ◌<◌, min}
 use native.Mathlib.Omega.{arith}
 use native.Mathlib.Nat.{mul-zero, mul-one, mul_comm, mul_assoc, le-mul_of_pos_right}
 use lib.Dec.{ltb}
-use lib.ListN.{length, get_or, take, drop, length-take, length-drop}
+use lib.ListN.{length, get_or, drop, length-take, length-drop}
 use Rattle.tallies.specs.Tallies.{count_top}
 use Rattle.def_picking.specs.Literals.{taken, combinations_of, combinations, combinations_in, length_of, length_in, shortest, shorter}
 use Rattle.def_picking.specs.Numbers.{count_of, count, count_in}
-use Rattle.classes.specs.Entry.{entry_token}
-use Rattle.entries.specs.Words.{first_entry, branch_in, ends, inside, lists_in, token_in, width, tokens_in}
-use Rattle.tallies.specs.declared.Tally.{Tally}
+use Rattle.classes.specs.Entry.{entry_at, entry_token, token_of}
+use Rattle.classes.specs.declared.Entry.{Entry}
+use Rattle.entries.specs.declared.Token.{Token}
+use Rattle.entries.specs.Walks.{meant, IsFront, IsList}
+use Rattle.entries.proofs.WalkLaws.{entry_next, entries_end, list_next, token_next}
+use Rattle.std.specs.Simd.{first_chunks}
+use Rattle.classes.proofs.EntryLaws.{one_cases}
+use Rattle.entries.specs.Words.{branch_in, ends, inside, lists_in, tokens_in}
 use Rattle.tallies.specs.Tallies.{Tallied}
-use Rattle.entries.proofs.StepLaws.{branch_end, branch_step, lists_end, lists_step, tokens_end, tokens_step, by_entries, ends_le, ends_long, width_inside, width_long}
-use Rattle.entries.proofs.PlainLaws.{token_alternatives, token_entry}
+use Rattle.entries.proofs.StepLaws.{branch_end, branch_step, lists_end, tokens_end, by_entries, ends_le}
 use Rattle.classes.proofs.KindLaws.{entry_cases}
 
 -- ---- capped products
@@ -73,13 +77,16 @@ entry_length = entry_cases (λ t. length_of t ≡ 1) (λ v. refl) (λ v. refl) (
 
 -- ---- lists without alternatives
 
-pub branch_count_end : (n : ℕ) (ws : List ℕ) → n ≤ count_top → length ws < 4 → min count_top (n * count (branch_in ws)) ≡ n
+pub branch_count_end : (n : ℕ) (ws : List ℕ) (i : ℕ) → n ≤ count_top → i ≡ length ws / 4 → min count_top (n * count (branch_in (drop (4 * i) ws))) ≡ n
 unfolding count
-branch_count_end n ws h l = rw (branch_end ws l) (cap_small n h)
+branch_count_end n ws i h e = rw (entries_end ws i e) (cap_small n h)
 
-pub branch_count_more : (n : ℕ) (ws : List ℕ) → 4 ≤ length ws → min count_top (n * count (branch_in ws)) ≡ min count_top (min count_top (n * min count_top (count_of (first_entry ws))) * count (branch_in (drop 4 ws)))
+pub branch_count_more : (n : ℕ) (ws : List ℕ) (i c : ℕ) (head : List ℕ) → i < length ws / 4 → head ≡ get_or (first_chunks 4 (length ws / 4) ws) i [] → c ≡ length (taken (entry_at head)) → c ≤ 256
+    → min count_top (n * count (branch_in (drop (4 * i) ws))) ≡ min count_top (min count_top (n * c) * count (branch_in (drop (4 * (i + 1)) ws)))
 unfolding count
-branch_count_more n ws h = rw (branch_step ws h) (cap_more n (count_of (first_entry ws)) (count (branch_in (drop 4 ws))))
+branch_count_more n ws i c head h e f l =
+    let k : c ≡ min count_top (count_of (entry_at head)) = (let g = entry_count (get_or head 0 0) (get_or head 1 0) (get_or head 2 0) in omega arith) in
+    rw (entry_next ws i head h e, k) (cap_more n (count_of (entry_at head)) (count (branch_in (drop (4 * (i + 1)) ws))))
 
 pub branch_combinations : (ws : List ℕ) → combinations (branch_in ws) ≡ count (branch_in ws)
 unfolding count combinations
@@ -95,27 +102,27 @@ branch_length =
 
 -- ---- lists after their marks
 
-module _ (ws : List ℕ) (h : 4 ≤ length ws) where
-  pub lists_count_more : (n : ℕ) → min count_top (n + count_in (lists_in ws)) ≡ min count_top (min count_top (n + min count_top (count (branch_in (inside ws)))) + count_in (lists_in (drop (ends ws) ws)))
+module _ (ws list rest : List ℕ) (f : IsList ws list rest) (m n : ℕ) (e : m ≡ min count_top (count (branch_in list))) where
+  pub lists_count_more : min count_top (n + count_in (lists_in ws)) ≡ min count_top (min count_top (n + m) + count_in (lists_in rest))
   unfolding count
-  lists_count_more n = rw (lists_step ws h) (cap_sum n (count (branch_in (inside ws))) (count_in (lists_in (drop (ends ws) ws))))
+  lists_count_more = rw (list_next ws list rest f, e) (cap_sum n (count (branch_in list)) (count_in (lists_in rest)))
 
-  pub lists_combinations_more : (n : ℕ) → min count_top (n * combinations_in (lists_in ws)) ≡ min count_top (min count_top (n * min count_top (count (branch_in (inside ws)))) * combinations_in (lists_in (drop (ends ws) ws)))
+  pub lists_combinations_more : min count_top (n * combinations_in (lists_in ws)) ≡ min count_top (min count_top (n * m) * combinations_in (lists_in rest))
   unfolding combinations
-  lists_combinations_more n =
-      rw (lists_step ws h) (cap_more n (combinations (branch_in (inside ws))) (combinations_in (lists_in (drop (ends ws) ws)))
-      ∙ ap (λ (x : ℕ). min count_top (min count_top (n * min count_top x) * combinations_in (lists_in (drop (ends ws) ws)))) (branch_combinations (inside ws)))
+  lists_combinations_more =
+      rw (list_next ws list rest f, e, branch_combinations list) (cap_more n (count (branch_in list)) (combinations_in (lists_in rest)))
 
-  pub lists_shorter : (n : ℕ) → shorter (lists_in ws) n ≡ shorter (lists_in (drop (ends ws) ws)) (min n (length (inside ws) / 4))
+module _ (ws list rest : List ℕ) (f : IsList ws list rest) where
+  pub lists_shorter : (n : ℕ) → shorter (lists_in ws) n ≡ shorter (lists_in rest) (min n (length list / 4))
   unfolding shorter
-  lists_shorter n = rw (lists_step ws h) (ap (λ (x : ℕ). shorter (lists_in (drop (ends ws) ws)) (min n x)) (branch_length (inside ws)))
+  lists_shorter n = rw (list_next ws list rest f) (ap (λ (x : ℕ). shorter (lists_in rest) (min n x)) (branch_length list))
 
-  pub lists_shortest : shortest (lists_in ws) ≡ shorter (lists_in (drop (ends ws) ws)) (length (inside ws) / 4)
+  pub lists_shortest : shortest (lists_in ws) ≡ shorter (lists_in rest) (length list / 4)
   unfolding shorter
-  lists_shortest = rw (lists_step ws h) (ap (shorter (lists_in (drop (ends ws) ws))) (branch_length (inside ws)))
+  lists_shortest = rw (list_next ws list rest f) (ap (shorter (lists_in rest)) (branch_length list))
 
-  pub length_inside : length (inside ws) ≡ ends ws - 4
-  length_inside = length-take (ends ws - 4) (drop 4 ws) ∙ (let a = length-drop 4 ws in let b = ends_le ws in omega arith)
+pub length_inside : (ws : List ℕ) → 4 ≤ length ws → length (inside ws) ≡ ends ws - 4
+length_inside ws h = length-take (ends ws - 4) (drop 4 ws) ∙ (let a = length-drop 4 ws in let b = ends_le ws in omega arith)
 
 module _ (ws : List ℕ) (h : length ws < 4) where
   pub lists_count_end : (n : ℕ) → n ≤ count_top → min count_top (n + count_in (lists_in ws)) ≡ n
@@ -136,40 +143,18 @@ module _ (ws : List ℕ) (h : length ws < 4) where
 
 -- ---- tokens
 
-pub token_count_inside : (ws : List ℕ) → get_or ws 0 0 ≡ 5 → count_of (token_in ws) ≡ count_in (lists_in (inside ws))
-unfolding count
-token_count_inside ws e = ap count_of (token_alternatives ws e)
-
-pub token_combinations_inside : (ws : List ℕ) → get_or ws 0 0 ≡ 5 → combinations_of (token_in ws) ≡ combinations_in (lists_in (inside ws))
-unfolding combinations
-token_combinations_inside ws e = ap combinations_of (token_alternatives ws e)
-
-pub token_length_inside : (ws : List ℕ) → get_or ws 0 0 ≡ 5 → length_of (token_in ws) ≡ shortest (lists_in (inside ws))
-unfolding length_of
-token_length_inside ws e = ap length_of (token_alternatives ws e)
-
-pub token_count_entry : (ws : List ℕ) → (get_or ws 0 0 ≡ 5 → ⊥) → count_of (token_in ws) ≡ length (taken (first_entry ws))
-token_count_entry ws f = ap count_of (token_entry ws f) ∙ entry_count (get_or ws 0 0) (get_or ws 1 0) (get_or ws 2 0)
-
-pub token_combinations_entry : (ws : List ℕ) → (get_or ws 0 0 ≡ 5 → ⊥) → combinations_of (token_in ws) ≡ length (taken (first_entry ws))
-token_combinations_entry ws f =
-    ap combinations_of (token_entry ws f) ∙ entry_combinations (get_or ws 0 0) (get_or ws 1 0) (get_or ws 2 0) ∙ entry_count (get_or ws 0 0) (get_or ws 1 0) (get_or ws 2 0)
-
-pub token_length_entry : (ws : List ℕ) → (get_or ws 0 0 ≡ 5 → ⊥) → length_of (token_in ws) ≡ 1
-token_length_entry ws f = ap length_of (token_entry ws f) ∙ entry_length (get_or ws 0 0) (get_or ws 1 0) (get_or ws 2 0)
-
-module _ (ws : List ℕ) (h : 4 ≤ length ws) where
-  pub tokens_count_more : (n : ℕ) → min count_top (n * count (tokens_in ws)) ≡ min count_top (min count_top (n * min count_top (count_of (token_in ws))) * count (tokens_in (drop (width ws) ws)))
+module _ (ws : List ℕ) (t : Token) (rest : List ℕ) (f : IsFront ws t rest) where
+  pub tokens_count_more : (m n : ℕ) → m ≡ min count_top (count_of (meant t)) → min count_top (n * count (tokens_in ws)) ≡ min count_top (min count_top (n * m) * count (tokens_in rest))
   unfolding count
-  tokens_count_more n = rw (tokens_step ws h) (cap_more n (count_of (token_in ws)) (count (tokens_in (drop (width ws) ws))))
+  tokens_count_more m n e = rw (token_next ws t rest f, e) (cap_more n (count_of (meant t)) (count (tokens_in rest)))
 
-  pub tokens_combinations_more : (n : ℕ) → min count_top (n * combinations (tokens_in ws)) ≡ min count_top (min count_top (n * min count_top (combinations_of (token_in ws))) * combinations (tokens_in (drop (width ws) ws)))
+  pub tokens_combinations_more : (m n : ℕ) → m ≡ min count_top (combinations_of (meant t)) → min count_top (n * combinations (tokens_in ws)) ≡ min count_top (min count_top (n * m) * combinations (tokens_in rest))
   unfolding combinations
-  tokens_combinations_more n = rw (tokens_step ws h) (cap_more n (combinations_of (token_in ws)) (combinations (tokens_in (drop (width ws) ws))))
+  tokens_combinations_more m n e = rw (token_next ws t rest f, e) (cap_more n (combinations_of (meant t)) (combinations (tokens_in rest)))
 
-  pub tokens_length_more : length_in (tokens_in ws) ≡ length_of (token_in ws) + length_in (tokens_in (drop (width ws) ws))
+  pub tokens_length_more : length_in (tokens_in ws) ≡ length_of (meant t) + length_in (tokens_in rest)
   unfolding length_in
-  tokens_length_more = rw (tokens_step ws h)
+  tokens_length_more = rw (token_next ws t rest f)
 
 module _ (ws : List ℕ) (h : length ws < 4) where
   pub tokens_count_end : (n : ℕ) → n ≤ count_top → min count_top (n * count (tokens_in ws)) ≡ n
@@ -184,31 +169,22 @@ module _ (ws : List ℕ) (h : length ws < 4) where
   unfolding length_in
   tokens_length_end = rw (tokens_end ws h)
 
--- ---- in the words of the code
+-- ---- the code's token
 
-pub taken_capped : (ws : List ℕ) (c : ℕ) → c ≡ length (taken (first_entry ws)) → c ≤ 256 → c ≡ min count_top (count_of (first_entry ws))
-taken_capped ws c e l = let f = entry_count (get_or ws 0 0) (get_or ws 1 0) (get_or ws 2 0) in omega arith
+pub one_count : (e : Entry) → count_of (token_of e) ≡ length (taken (token_of e))
+unfolding count_of
+one_count = one_cases (λ t. count_of t ≡ length (taken t)) (λ v. refl) (λ v. refl) (λ v m. refl) (λ v m. refl) refl
 
-pub token_tallied : (ws : List ℕ) (t : Tally) → get_or ws 0 0 ≡ 5 → Tallied t (count_in (lists_in (inside ws))) (combinations_in (lists_in (inside ws))) → Tallied t (count_of (token_in ws)) (combinations_of (token_in ws))
-token_tallied ws t k h =
-    record {
-      literals_are = h.literals_are ∙ ap (min count_top) (sym (token_count_inside ws k));
-      combinations_are = h.combinations_are ∙ ap (min count_top) (sym (token_combinations_inside ws k));
-    }
+one_combinations : (e : Entry) → combinations_of (token_of e) ≡ count_of (token_of e)
+unfolding count_of combinations_of taken
+one_combinations = one_cases (λ t. combinations_of t ≡ count_of t) (λ v. refl) (λ v. refl) (λ v m. refl) (λ v m. refl) refl
 
-pub entry_tallied : (ws : List ℕ) (n : ℕ) → (get_or ws 0 0 ≡ 5 → ⊥) → n ≡ length (taken (first_entry ws)) → n ≤ 256 → Tallied (record { literals = n; combinations = n }) (count_of (token_in ws)) (combinations_of (token_in ws))
-entry_tallied ws n f e l =
-    let a = token_count_entry ws f in
-    let b = token_combinations_entry ws f in
+pub one_length : (e : Entry) → length_of (token_of e) ≡ 1
+unfolding length_of
+one_length = one_cases (λ t. length_of t ≡ 1) (λ v. refl) (λ v. refl) (λ v m. refl) (λ v m. refl) refl
+
+pub one_tallied : (e : Entry) (n : ℕ) → n ≡ length (taken (token_of e)) → n ≤ 256 → Tallied (record { literals = n; combinations = n }) (count_of (token_of e)) (combinations_of (token_of e))
+one_tallied e n f l =
+    let a = one_count e in
+    let b = one_combinations e in
     record { literals_are = (omega arith); combinations_are = (omega arith) }
-
--- a token is no longer than its words, its own entry taken off
-pub token_length_fits : (ws : List ℕ) → 4 ≤ length ws → get_or ws 0 0 ≡ 5 → (r e : ℕ) → e ≡ ends ws → r ≤ length (take (e - 4) (drop 4 ws)) → r + 3 ≤ width ws
-token_length_fits ws h k r e g l =
-    let a = width_inside ws k in
-    let b = length-take (e - 4) (drop 4 ws) in
-    let c = ends_long ws h in
-    omega arith
-
-pub entry_fits : (ws : List ℕ) → 4 ≤ length ws → 1 + 3 ≤ width ws
-entry_fits ws h = width_long ws h

@@ -3,45 +3,39 @@
 #![tactic(auto)]
 
 ghost use Rattle.std.specs.Prelude.{◌≡◌, ◌+◌, ◌*◌, ◌≤◌, min, length};
-ghost use Rattle.tallies.specs.Tallies.{count_top};
+ghost use Rattle.tallies.specs.Tallies.{count_top, Tallied};
 ghost use Rattle.def_picking.specs.Literals.{combinations_of, combinations, combinations_in, length_of, length_in, shortest};
 ghost use Rattle.def_picking.specs.Numbers.{count_of, count, count_in};
-ghost use Rattle.entries.specs.Words.{branch_in, lists_in, token_in, width, tokens_in};
-ghost use Rattle.tallies.specs.Tallies.{Tallied};
+ghost use Rattle.entries.specs.Walks.{meant, words_of};
+ghost use Rattle.entries.specs.Words.{branch_in, lists_in, tokens_in};
 
 use base::LITERAL_LIMIT;
+use classes::Entry;
+use entries::{ENTRY, Lists, Token, Tokens};
 
 // Counts above the limit, which combinations share with literals, are all one to the picker, so they stop right above it.
 const COUNT_TOP: usize = LITERAL_LIMIT + 1;
-
-fn smaller(a: usize, b: usize) -> usize
-    ensures { result ≡ min a b }
-{
-    if a < b { a } else { b }
-}
 
 fn times(a: usize, b: usize) -> usize
     requires { (a ≤ count_top) × (b ≤ count_top) }
     ensures { result ≡ min count_top (a * b) }
 {
-    smaller(COUNT_TOP, a * b)
+    COUNT_TOP.min(a * b)
 }
 
 pub fn count_list(ws: &[u32]) -> usize
     ensures { result ≡ min count_top (count (branch_in ws.now)) }
 {
-    let mut rest = ws;
+    let (entries, _) = ws.as_chunks::<ENTRY>();
     let mut n = 1;
-    while 4 <= rest.len() {
-        let c = classes::taken_count(rest[0], rest[1], rest[2]);
-        n = times(n, c);
-        rest = &rest[4..];
+    for entry in entries {
+        n = times(n, Entry::from(*entry).count());
     }
     n
 }
 
 // How many literals, and how many combinations by 01's count, each up to that.
-#[derive(Drop)]
+#[derive(Clone, Copy, Debug, PartialEq, Eq)]
 pub struct Tally {
     pub literals: usize,
     pub combinations: usize,
@@ -50,15 +44,12 @@ pub struct Tally {
 fn tally_lists(ws: &[u32]) -> Tally
     ensures { Tallied result (count_in (lists_in ws.now)) (combinations_in (lists_in ws.now)) }
 {
-    let mut rest = ws;
     let mut literals = 0;
     let mut combinations = 1;
-    while 4 <= rest.len() {
-        let e = entries::end_of(rest);
-        let n = count_list(&rest[4..e]);
-        literals = smaller(COUNT_TOP, literals + n);
+    for list in (Lists { words: ws }) {
+        let n = count_list(list);
+        literals = COUNT_TOP.min(literals + n);
         combinations = times(combinations, n);
-        rest = &rest[e..];
     }
     Tally {
         literals,
@@ -66,33 +57,30 @@ fn tally_lists(ws: &[u32]) -> Tally
     }
 }
 
-pub fn tally_token(ws: &[u32]) -> Tally
-    requires { 4 ≤ length ws.now }
-    ensures { Tallied result (count_of (token_in ws.now)) (combinations_of (token_in ws.now)) }
+pub fn tally_token(token: Token) -> Tally
+    ensures { Tallied result (count_of (meant token.entry)) (combinations_of (meant token.entry)) }
 {
-    if ws[0] == 5 {
-        let e = entries::end_of(ws);
-        return tally_lists(&ws[4..e]);
-    }
-    let n = classes::taken_count(ws[0], ws[1], ws[2]);
-    Tally {
-        literals: n,
-        combinations: n,
+    match token {
+        Token::Alternatives(lists) => tally_lists(lists),
+        Token::One(entry) => {
+            let n = entry.count();
+            Tally {
+                literals: n,
+                combinations: n,
+            }
+        }
     }
 }
 
 pub fn tally_tokens(ws: &[u32]) -> Tally
     ensures { Tallied result (count (tokens_in ws.now)) (combinations (tokens_in ws.now)) }
 {
-    let mut rest = ws;
     let mut literals = 1;
     let mut combinations = 1;
-    while 4 <= rest.len() {
-        let t = tally_token(rest);
+    for token in (Tokens { words: ws }) {
+        let t = tally_token(token);
         literals = times(literals, t.literals);
         combinations = times(combinations, t.combinations);
-        let e = entries::width_of(rest);
-        rest = &rest[e..];
     }
     Tally {
         literals,
@@ -104,41 +92,33 @@ pub fn tally_tokens(ws: &[u32]) -> Tally
 fn shortest_of(ws: &[u32]) -> usize
     ensures { (result ≡ shortest (lists_in ws.now)) × (result ≤ length ws.now) }
 {
-    if ws.len() < 4 {
+    let mut lists = Lists { words: ws };
+    let Some(first) = lists.next() else {
         return 0;
-    }
-    let first = entries::end_of(ws);
-    let mut n = (first - 4) / 4;
-    let mut rest = &ws[first..];
-    while 4 <= rest.len() {
-        let e = entries::end_of(rest);
-        n = smaller(n, (e - 4) / 4);
-        rest = &rest[e..];
+    };
+    let mut n = first.len() / ENTRY;
+    for list in lists {
+        n = n.min(list.len() / ENTRY);
     }
     n
 }
 
-fn length_token(ws: &[u32]) -> usize
-    requires { 4 ≤ length ws.now }
-    ensures { (result ≡ length_of (token_in ws.now)) × (result + 3 ≤ width ws.now) }
+fn length_token(token: Token) -> usize
+    ensures { (result ≡ length_of (meant token.entry)) × (result + 3 ≤ words_of token.entry) }
 {
-    if ws[0] == 5 {
-        let e = entries::end_of(ws);
-        return shortest_of(&ws[4..e]);
+    match token {
+        Token::Alternatives(lists) => shortest_of(lists),
+        Token::One(_) => 1,
     }
-    1
 }
 
 // The length of the shortest literal.
 pub fn length_of(ws: &[u32]) -> usize
     ensures { (result ≡ length_in (tokens_in ws.now)) × (result ≤ length ws.now) }
 {
-    let mut rest = ws;
     let mut n = 0;
-    while 4 <= rest.len() {
-        n += length_token(rest);
-        let e = entries::width_of(rest);
-        rest = &rest[e..];
+    for token in (Tokens { words: ws }) {
+        n += length_token(token);
     }
     n
 }
