@@ -17,7 +17,7 @@ use Rattle.entries.specs.declared.Token.{Token}
 use Rattle.entries.specs.declared.Token.TheVariants.{One, Alternatives}
 use Rattle.entries.specs.Words.{branch_in, ends, inside, lists_in, width, tokens_in}
 use Rattle.entries.specs.Walks.{meant, words_of, IsFront, IsList}
-use Rattle.entries.proofs.StepLaws.{branch_end, branch_step, ends_le, ends_long, lists_end, lists_step, tokens_end, tokens_step, width_le, width_entry, width_inside, by_entries}
+use Rattle.entries.proofs.StepLaws.{branch_end, branch_step, ends_le, ends_long, lists_end, lists_step, tokens_end, tokens_step, width_le, width_long, width_entry, width_inside, by_entries}
 use Rattle.entries.proofs.PlainLaws.{token_alternatives, token_entry}
 
 pub head_at : (ws head : List ℕ) → head ≡ take 4 ws → (i : ℕ) → i < 4 → get_or head i 0 ≡ get_or ws i 0
@@ -61,6 +61,9 @@ list_next ws list rest f = lists_step ws f.long ∙ ap₂ (λ (x l : List ℕ). 
 -- the words of what is found, and what is left
 pub token_words : (ws : List ℕ) (t : Token) (rest : List ℕ) → IsFront ws t rest → words_of t + length rest ≡ length ws
 token_words ws t rest f = omega (arith, f.wide, ap length f.left, length-drop (width ws) ws, width_le ws f.long)
+
+pub token_wide : (ws : List ℕ) (t : Token) (rest : List ℕ) → IsFront ws t rest → 4 ≤ words_of t
+token_wide ws t rest f = omega (arith, f.wide, width_long ws f.long)
 
 pub list_words : (ws list rest : List ℕ) → IsList ws list rest → length list + 4 + length rest ≡ length ws
 list_words ws list rest f =

@@ -1,79 +1,46 @@
 -- `prefixes::prefixed_by`, which calls itself, meets its contract. Assumes nothing.
-use Rattle.prefixes.specs.Numbers.{Numerable}
-use Prim.Native.Nat.{◌*◌}
-use native.Mathlib.Nat.{mul-le-mul}
-use Rattle.def_picking.specs.Numbers.{count, prefix_of, prefixed}
+use Rattle.std.proofs.Common.{ℕ, ◌≡◌, ◌*◌, sym, ap, ◌∙◌, arith, rules}
+use Rattle.def_picking.specs.Numbers.{prefix_of, prefixed}
+use Rattle.entries.proofs.WalkLaws.{token_words, token_wide}
+use Rattle.classes.specs.declared.Entry.TheVariants.{Byte}
+use Rattle.entries.specs.declared.Token.TheVariants.{One}
+use Rattle.entries.specs.Walks.{meant}
+use Rattle.entries.specs.Words.{tokens_in}
 use Rattle.prefixes.proofs.PrefixLaws as prefix
-use Rattle.entries.proofs.StepLaws as step
-use Rattle.entries.specs.Words.{token_in, tokens_in}
-use lib.ListN.{drop}
-use mathlib.Core.Path.{sym, ap, ap₂, ◌∙◌, subst}
-use Rattle.entries.proofs.PartLaws as part
-use mathlib.Core.List.{List}
-use native.Mathlib.Omega.{arith}
-use Prim.Native.Nat.{ℕ}
-use Rattle.def_meaning.proofs.PartLaws.{to_end}
 use Rattle.prefixes.proofs.+prefixed_by.Goals as goal
 
-pub returns-then-rest-lt4 : goal.returns-then-rest-lt4
-returns-then-rest-lt4 t c =
-    sym (c.past_bytes-rest.ensures.numbered c.args.p c.args.k ∙ prefix.prefixed_end c.past_bytes-rest.result.now c.if-rest-lt4.true c.args.p c.args.k)
+pub loop-token-preserved : goal.loop-token-preserved
+loop-token-preserved t c =
+    let a = c.in-One-Byte in
+    let e : a.field-0 ≡ Byte a.field-0-0 = rw a.is at a.field-0-is in
+    (search rules, search rules, prefix.past_more _ _ _ c.in-Some.ensures.steps a.field-0-0 (a.is ∙ ap One e) _ c.loop-token.invariant.2)
 
 pub overflow_mul-after : goal.overflow_mul-after
 overflow_mul-after t c =
-    omega (
-      arith,
-      mul-le-mul
-          (prefix.prefixes_few c.past_bytes-rest.result.now c.if-rest-lt4.false c.args.p (prefix.past_numerable c.args.ws.now c.past_bytes-rest.result.now c.past_bytes-rest.ensures c.args.p c.requires) c.tally_token-t.result.literals
-          c.tally_token-t.ensures.literals_are)
-          (prefix.c_le c.past_bytes-rest.result.now c.if-rest-lt4.false c.args.p (prefix.past_numerable c.args.ws.now c.past_bytes-rest.result.now c.past_bytes-rest.ensures c.args.p c.requires) c.tally_token-t.result.literals
-          c.tally_token-t.ensures.literals_are),
-    )
-
-pub offset_bounds-rest-e : goal.offset_bounds-rest-e
-offset_bounds-rest-e t c =
-    omega (arith, c.width_of-e.ensures, (step.width_le c.past_bytes-rest.result.now c.if-rest-lt4.false))
-
-pub slice_bounds-prefixed_by-count : goal.slice_bounds-prefixed_by-count
-slice_bounds-prefixed_by-count t c =
-    omega (arith, c.width_of-e.ensures, (step.width_le c.past_bytes-rest.result.now c.if-rest-lt4.false))
-
-pub slice_bounds-prefixed_by-start : goal.slice_bounds-prefixed_by-start
-slice_bounds-prefixed_by-start t c =
-    omega (arith, c.width_of-e.ensures, (step.width_le c.past_bytes-rest.result.now c.if-rest-lt4.false))
+    let num = prefix.past_numerable _ _ c.loop-token.invariant.2 c.args.p c.requires in
+    omega (arith, prefix.after_fits _ _ _ c.in-Some.ensures.steps c.args.p num _ c.tally_token.ensures.literals_are)
 
 pub prefixed_by-q-requires : goal.prefixed_by-q-requires
-prefixed_by-q-requires t c = (
-  omega (
-    arith,
-    c.decreases,
-    c.past_bytes-rest.ensures.short,
-    part.part_less c.width_of-e.result c.past_bytes-rest.result.now
-        (omega (arith, c.width_of-e.ensures, (step.width_long c.past_bytes-rest.result.now c.if-rest-lt4.false))) c.if-rest-lt4.false,
-  ),
-  subst
-      (λ (l : List ℕ). Numerable (c.args.p * c.tally_token-t.result.literals) (count (tokens_in l)))
-      (ap (λ (x : ℕ). drop x c.past_bytes-rest.result.now) (sym c.width_of-e.ensures) ∙ sym (to_end c.width_of-e.result c.past_bytes-rest.result.now))
-      (prefix.after_numerable c.past_bytes-rest.result.now c.if-rest-lt4.false c.args.p (prefix.past_numerable c.args.ws.now c.past_bytes-rest.result.now c.past_bytes-rest.ensures c.args.p c.requires) c.tally_token-t.result.literals
-      c.tally_token-t.ensures.literals_are),
-)
+prefixed_by-q-requires t c =
+    let num = prefix.past_numerable _ _ c.loop-token.invariant.2 c.args.p c.requires in
+    let f = c.in-Some.ensures.steps in
+    (omega (arith, c.decreases, c.loop-token.invariant.2.short, token_words _ _ _ f, token_wide _ _ _ f), prefix.after_numerable _ _ _ f c.args.p num _ c.tally_token.ensures.literals_are)
 
 pub prefix_of-requires : goal.prefix_of-requires
-prefix_of-requires t c = (
-  c.if-rest-lt4.false,
-  prefix.prefixes_few c.past_bytes-rest.result.now c.if-rest-lt4.false c.args.p (prefix.past_numerable c.args.ws.now c.past_bytes-rest.result.now c.past_bytes-rest.ensures c.args.p c.requires)
-      c.tally_token-t.result.literals c.tally_token-t.ensures.literals_are,
-  prefix.token_few c.past_bytes-rest.result.now c.if-rest-lt4.false c.args.p
-      (prefix.past_numerable c.args.ws.now c.past_bytes-rest.result.now c.past_bytes-rest.ensures c.args.p c.requires) c.tally_token-t.result.literals c.tally_token-t.ensures.literals_are,
-)
+prefix_of-requires t c =
+    let num = prefix.past_numerable _ _ c.loop-token.invariant.2 c.args.p c.requires in
+    let f = c.in-Some.ensures.steps in
+    (prefix.prefixes_few _ _ _ f c.args.p num _ c.tally_token.ensures.literals_are, prefix.token_few _ _ _ f c.args.p num _ c.tally_token.ensures.literals_are)
+
+pub returns-in-Some : goal.returns-in-Some
+returns-in-Some t c =
+    let num = prefix.past_numerable _ _ c.loop-token.invariant.2 c.args.p c.requires in
+    let f = c.in-Some.ensures.steps in
+    c.prefix_of.ensures
+    ∙ ap (prefix_of (meant c.in-Some.token) c.args.p)
+    (c.prefixed_by-q.ensures ∙ ap (λ (x : ℕ). prefixed (tokens_in c.next.new.self.words.now) (c.args.p * x) c.args.k) (prefix.token_exact _ _ _ f c.args.p num _ c.tally_token.ensures.literals_are))
+    ∙ sym (prefix.prefixed_step _ _ _ f c.args.p c.args.k) ∙ sym (c.loop-token.invariant.2.numbered c.args.p c.args.k)
 
 pub returns : goal.returns
 returns t c =
-    c.prefix_of.ensures
-    ∙ ap (prefix_of (token_in c.past_bytes-rest.result.now) c.args.p)
-    (c.prefixed_by-q.ensures
-    ∙ ap₂ (λ (x : ℕ) (l : List ℕ). prefixed (tokens_in l) (c.args.p * x) c.args.k)
-    (prefix.token_exact c.past_bytes-rest.result.now c.if-rest-lt4.false c.args.p (prefix.past_numerable c.args.ws.now c.past_bytes-rest.result.now c.past_bytes-rest.ensures c.args.p c.requires) c.tally_token-t.result.literals
-    c.tally_token-t.ensures.literals_are)
-    (sym (ap (λ (x : ℕ). drop x c.past_bytes-rest.result.now) (sym c.width_of-e.ensures) ∙ sym (to_end c.width_of-e.result c.past_bytes-rest.result.now))))
-    ∙ sym (prefix.prefixed_step c.past_bytes-rest.result.now c.if-rest-lt4.false c.args.p c.args.k) ∙ sym (c.past_bytes-rest.ensures.numbered c.args.p c.args.k)
+    sym (c.loop-token.invariant.2.numbered c.args.p c.args.k ∙ prefix.prefixed_end _ c.in_default.ensures.steps.0 c.args.p c.args.k)
