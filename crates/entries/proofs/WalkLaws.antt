@@ -15,7 +15,7 @@ use Rattle.classes.specs.declared.Entry.{Entry}
 use Rattle.classes.specs.Entry.{entry_at, token_of}
 use Rattle.entries.specs.declared.Token.{Token}
 use Rattle.entries.specs.declared.Token.TheVariants.{One, Alternatives}
-use Rattle.entries.specs.Words.{branch_in, ends, inside, lists_in, width, tokens_in}
+use Rattle.entries.specs.Words.{first_entry, branch_in, ends, inside, lists_in, width, tokens_in}
 use Rattle.entries.specs.Walks.{meant, words_of, IsFront, IsList}
 use Rattle.entries.proofs.StepLaws.{branch_end, branch_step, ends_le, ends_long, lists_end, lists_step, tokens_end, tokens_step, width_le, width_long, width_entry, width_inside, by_entries}
 use Rattle.entries.proofs.PlainLaws.{token_alternatives, token_entry}
@@ -75,14 +75,20 @@ chunk_at zero i ws h = absurd (omega arith)
 chunk_at (suc k) zero ws h = refl
 chunk_at (suc k) (suc i) ws h = let e : 4 + 4 * i ≡ 4 * suc i = omega arith in chunk_at k i (drop 4 ws) (omega arith) ∙ ap (take 4) (drop-drop (4 * i) 4 ws ∙ ap (λ (x : ℕ). drop x ws) e)
 
-pub entry_next : (ws : List ℕ) (i : ℕ) (head : List ℕ) → i < length ws / 4 → head ≡ get_or (first_chunks 4 (length ws / 4) ws) i []
-    → branch_in (drop (4 * i) ws) ≡ entry_at head then branch_in (drop (4 * (i + 1)) ws)
-entry_next ws i head h e =
-    let l : 4 ≤ length (drop (4 * i) ws) = omega (arith, length-drop (4 * i) ws) in
-    let n : 4 * i + 4 ≡ 4 * (i + 1) = omega arith in
-    branch_step (drop (4 * i) ws) l
-    ∙ ap₂ (λ (t : token.Token) (l : List ℕ). t then branch_in l) (sym (entry_front (drop (4 * i) ws) head (e ∙ chunk_at (length ws / 4) i ws h)))
-    (drop-drop 4 (4 * i) ws ∙ ap (λ (x : ℕ). drop x ws) n)
+-- at the chunk with number i: what is left of the words, its entry, and what is left after it
+module _ (ws : List ℕ) (i : ℕ) (head : List ℕ) (h : i < length ws / 4) (e : head ≡ get_or (first_chunks 4 (length ws / 4) ws) i []) where
+  pub chunk_long : 4 ≤ length (drop (4 * i) ws)
+  chunk_long = omega (arith, length-drop (4 * i) ws)
+
+  pub chunk_entry : entry_at head ≡ first_entry (drop (4 * i) ws)
+  chunk_entry = entry_front (drop (4 * i) ws) head (e ∙ chunk_at (length ws / 4) i ws h)
+
+  pub chunk_left : drop 4 (drop (4 * i) ws) ≡ drop (4 * (i + 1)) ws
+  chunk_left = let n : 4 * i + 4 ≡ 4 * (i + 1) = omega arith in drop-drop 4 (4 * i) ws ∙ ap (λ (x : ℕ). drop x ws) n
+
+  pub entry_next : branch_in (drop (4 * i) ws) ≡ entry_at head then branch_in (drop (4 * (i + 1)) ws)
+  entry_next =
+      branch_step (drop (4 * i) ws) chunk_long ∙ ap₂ (λ (t : token.Token) (l : List ℕ). t then branch_in l) (sym chunk_entry) chunk_left
 
 pub entries_end : (ws : List ℕ) (i : ℕ) → i ≡ length ws / 4 → branch_in (drop (4 * i) ws) ≡ nothing
 entries_end ws i e = branch_end (drop (4 * i) ws) (omega (arith, length-drop (4 * i) ws))

@@ -1,37 +1,54 @@
 -- The pieces of literal number k, from the entries. Assumes nothing.
 use mathlib.Core.Path.{◌≡◌, refl, sym, ap, ap₂, ◌∙◌, subst}
 use mathlib.Core.List.{List, [], ◌∷◌, ◌++◌}
-use Prim.Native.Nat.{ℕ, ◌-◌, ◌*◌, ◌/◌, ◌%◌, ◌≤◌, ◌<◌, min}
+use Prim.Native.Nat.{ℕ, ◌+◌, ◌-◌, ◌*◌, ◌/◌, ◌%◌, ◌≤◌, ◌<◌, min}
 use native.Mathlib.Omega.{arith}
 use native.Mathlib.Nat.{one-mul, mul_comm, div-one, div-div-eq-div-mul, mul-div_cancel_left, mod-lt, mod-one}
-use lib.ListN.{length, get_or, take, drop}
+use lib.ListN.{length, get_or, drop, length-drop}
 use borrow.Author.Tests.{lt-ltb, le-ltb}
 use Rattle.def_meaning.specs.Limits.{literal_limit}
 use Rattle.tallies.specs.Tallies.{count_top}
-use Rattle.def_meaning.specs.Tokens.{Token, Tokens}
+use Rattle.def_meaning.specs.Tokens.{Tokens}
 use Rattle.def_picking.specs.Literals.{taken}
 use Rattle.def_picking.specs.Numbers.{count_of, count, count_in, prefix_of, prefixed, ending_of, ending, ending_in, literal_at}
 use Rattle.def_picking.proofs.NumberLaws.{pos_right}
-use Rattle.classes.specs.Entry.{entry_token}
-use Rattle.entries.specs.Words.{first_entry, branch_in, ends, inside, lists_in, token_in, width, tokens_in}
-use Rattle.entries.proofs.StepLaws.{branch_end, branch_step, lists_end, lists_step, tokens_end, tokens_step, by_entries}
-use Rattle.entries.proofs.PlainLaws.{token_alternatives, token_entry}
+use Rattle.classes.specs.Entry.{entry_at, entry_token, token_of}
+use Rattle.classes.specs.declared.Entry.{Entry}
+use Rattle.classes.specs.declared.Entry.TheVariants.{Byte}
+use Rattle.entries.specs.declared.Token.{Token}
+use Rattle.entries.specs.Walks.{meant, IsFront, IsList}
+use Rattle.entries.specs.Words.{first_entry, branch_in, lists_in, tokens_in}
+use Rattle.entries.proofs.WalkLaws.{list_next, token_next, chunk_long, chunk_entry, chunk_left}
+use Rattle.std.specs.Simd.{first_chunks}
+use Rattle.def_meaning.specs.Tokens as meaning
+use Rattle.entries.proofs.StepLaws.{branch_end, branch_step, lists_end, tokens_end, by_entries}
 use Rattle.prefixes.specs.Numbers.{Numerable}
-use Rattle.classes.proofs.ClassLaws.{byte_taken}
+use Rattle.classes.proofs.EntryLaws.{one_cases}
 use Rattle.classes.proofs.KindLaws.{entry_cases}
-use Rattle.tallies.proofs.TallyLaws.{entry_count, token_count_entry}
-use Rattle.prefixes.proofs.PrefixLaws.{count_lists, entry_prefix, tokens_count, factor_le, list_exact}
+use Rattle.tallies.proofs.TallyLaws.{entry_count, one_count}
+use Rattle.prefixes.proofs.PrefixLaws.{count_lists, entry_prefix, factor_le}
 
 -- ---- lists
 
-module _ (ws : List ℕ) (h : 4 ≤ length ws) (p q : ℕ) where
-  pub ending_here : q < p * count (branch_in (inside ws)) → ending_in (lists_in ws) p q ≡ literal_at (branch_in (inside ws)) (q % count (branch_in (inside ws)))
+module _ (ws list rest : List ℕ) (f : IsList ws list rest) where
+  ending_here : (p q : ℕ) → q < p * count (branch_in list) → ending_in (lists_in ws) p q ≡ literal_at (branch_in list) (q % count (branch_in list))
   unfolding ending_in
-  ending_here l = rw (lists_step ws h) (rw (lt-ltb q (p * count (branch_in (inside ws))) l))
+  ending_here p q l = rw (list_next ws list rest f) (rw (lt-ltb q (p * count (branch_in list)) l))
 
-  pub ending_later : p * count (branch_in (inside ws)) ≤ q → ending_in (lists_in ws) p q ≡ ending_in (lists_in (drop (ends ws) ws)) p (q - p * count (branch_in (inside ws)))
+  ending_later : (p q : ℕ) → p * count (branch_in list) ≤ q → ending_in (lists_in ws) p q ≡ ending_in (lists_in rest) p (q - p * count (branch_in list))
   unfolding ending_in
-  ending_later l = rw (lists_step ws h) (rw (le-ltb q (p * count (branch_in (inside ws))) l))
+  ending_later p q l = rw (list_next ws list rest f) (rw (le-ltb q (p * count (branch_in list)) l))
+
+  pub ending_found : (p q n : ℕ) → n ≡ count (branch_in list) → q < p * n → ending_in (lists_in ws) p q ≡ literal_at (branch_in list) (q % n)
+  ending_found p q n e l = ending_here p q (subst (λ (x : ℕ). q < p * x) e l) ∙ ap (λ (x : ℕ). literal_at (branch_in list) (q % x)) (sym e)
+
+  pub ending_passed : (p q n : ℕ) → n ≡ count (branch_in list) → p * n ≤ q → ending_in (lists_in ws) p q ≡ ending_in (lists_in rest) p (q - p * n)
+  ending_passed p q n e l = ending_later p q (subst (λ (x : ℕ). p * x ≤ q) e l) ∙ ap (λ (x : ℕ). ending_in (lists_in rest) p (q - p * x)) (sym e)
+
+  pub within_list : (p q n : ℕ) → n ≡ count (branch_in list) → count_in (lists_in ws) ≤ literal_limit → q < p * n → (q % n < count (branch_in list)) × (count (branch_in list) ≤ literal_limit)
+  within_list p q n e few l =
+      let m : q % n < n = mod-lt q (pos_right q p n l) in
+      (omega arith, omega (arith, count_lists ws list rest f))
 
 pub ending_none : (ws : List ℕ) → length ws < 4 → (p q : ℕ) → ending_in (lists_in ws) p q ≡ []
 unfolding ending_in
@@ -93,24 +110,26 @@ branch_count ws h = rw (branch_step ws h)
 
 -- ---- tokens
 
-pub ending_inside : (ws : List ℕ) → get_or ws 0 0 ≡ 5 → (p q : ℕ) → ending_of (token_in ws) p q ≡ ending_in (lists_in (inside ws)) p q
+one_ending_by : (e : Entry) (p q : ℕ) → ending_of (token_of e) p q ≡ get_or (taken (token_of e)) (q % count_of (token_of e)) 0 ∷ []
 unfolding ending_of
-ending_inside ws e p q = ap (λ (t : Token). ending_of t p q) (token_alternatives ws e)
+one_ending_by =
+    one_cases (λ t. (p q : ℕ) → ending_of t p q ≡ get_or (taken t) (q % count_of t) 0 ∷ []) (λ v p q. refl) (λ v p q. refl) (λ v m p q. refl) (λ v m p q. refl) (λ p q. refl)
 
-pub ending_entry : (ws : List ℕ) → (get_or ws 0 0 ≡ 5 → ⊥) → (p q : ℕ) → ending_of (token_in ws) p q ≡ get_or (taken (first_entry ws)) (q % length (taken (first_entry ws))) 0 ∷ []
-ending_entry ws f p q =
-    ap (λ (t : Token). ending_of t p q) (token_entry ws f) ∙ entry_ending (get_or ws 0 0) (get_or ws 1 0) (get_or ws 2 0) p q
-    ∙ ap (λ (x : ℕ). get_or (taken (first_entry ws)) (q % x) 0 ∷ []) (entry_count (get_or ws 0 0) (get_or ws 1 0) (get_or ws 2 0))
+pub one_ending : (e : Entry) (p q : ℕ) → ending_of (token_of e) p q ≡ get_or (taken (token_of e)) (q % length (taken (token_of e))) 0 ∷ []
+one_ending e p q = one_ending_by e p q ∙ ap (λ (n : ℕ). get_or (taken (token_of e)) (q % n) 0 ∷ []) (one_count e)
+
+pub byte_ending : (b p q : ℕ) → ending_of (token_of (Byte b)) p q ≡ b ∷ []
+unfolding taken
+byte_ending b p q = one_ending (Byte b) p q ∙ ap (λ (x : ℕ). get_or (b ∷ []) x 0 ∷ []) (mod-one q)
 
 pub ending_end : (ws : List ℕ) → length ws < 4 → (p k : ℕ) → ending (tokens_in ws) p k ≡ []
 unfolding ending
 ending_end ws h p k = rw (tokens_end ws h)
 
-pub ending_step : (ws : List ℕ) → 4 ≤ length ws → (p k : ℕ)
-    → ending (tokens_in ws) p k
-    ≡ ending_of (token_in ws) p (prefixed (tokens_in (drop (width ws) ws)) (p * count_of (token_in ws)) k) ++ ending (tokens_in (drop (width ws) ws)) (p * count_of (token_in ws)) k
+pub ending_step : (ws : List ℕ) (t : Token) (rest : List ℕ) → IsFront ws t rest → (p k : ℕ)
+    → ending (tokens_in ws) p k ≡ ending_of (meant t) p (prefixed (tokens_in rest) (p * count_of (meant t)) k) ++ ending (tokens_in rest) (p * count_of (meant t)) k
 unfolding ending
-ending_step ws h p k = rw (tokens_step ws h)
+ending_step ws t rest f p k = rw (token_next ws t rest f)
 
 -- ---- numbers
 
@@ -118,29 +137,6 @@ pub cap_exact : (r c : ℕ) → r ≡ min count_top c → c ≤ literal_limit �
 cap_exact r c e l = omega arith
 
 -- ---- in the words of the code
-
-module _ (ws : List ℕ) (h : 4 ≤ length ws) (n e : ℕ) (ends_at : e ≡ ends ws) (counted : n ≡ min count_top (count (branch_in (take (e - 4) (drop 4 ws))))) (few : count_in (lists_in ws) ≤ literal_limit) where
-  exact : n ≡ count (branch_in (inside ws))
-  exact = list_exact ws h n e ends_at counted few
-
-  pub ending_found : (p q : ℕ) → q < p * n → ending_in (lists_in ws) p q ≡ literal_at (branch_in (take (e - 4) (drop 4 ws))) (q % n)
-  ending_found p q l =
-      ending_here ws h p q (subst (λ (x : ℕ). q < p * x) exact l)
-      ∙ ap₂ (λ (x y : ℕ). literal_at (branch_in (take (x - 4) (drop 4 ws))) (q % y)) (sym ends_at) (sym exact)
-
-  pub ending_passed : (p q : ℕ) → p * n ≤ q → ending_in (lists_in ws) p q ≡ ending_in (lists_in (drop (ends ws) ws)) p (q - p * n)
-  ending_passed p q l =
-      ending_later ws h p q (subst (λ (x : ℕ). p * x ≤ q) exact l)
-      ∙ ap (λ (x : ℕ). ending_in (lists_in (drop (ends ws) ws)) p (q - p * x)) (sym exact)
-
-  pub within_list : (p q : ℕ) → q < p * n → (q % n < count (branch_in (take (e - 4) (drop 4 ws)))) × (count (branch_in (take (e - 4) (drop 4 ws))) ≤ literal_limit)
-  within_list p q l =
-      let z : 0 < n = pos_right q p n l in
-      let m : q % n < n = mod-lt q z in
-      let f : count (branch_in (take (e - 4) (drop 4 ws))) ≡ count (branch_in (inside ws)) = ap (λ (x : ℕ). count (branch_in (take (x - 4) (drop 4 ws)))) ends_at in
-      let g = exact in
-      let k : count (branch_in (inside ws)) ≤ literal_limit = omega (arith, count_lists ws h) in
-      (omega arith, omega arith)
 
 -- one byte of a list: c bytes are taken by the first entry, n literals are left
 module _ (ws : List ℕ) (h : 4 ≤ length ws) (c n : ℕ) (c-is : c ≡ length (taken (first_entry ws))) (n-is : n ≡ count (branch_in ws)) (some : 0 < n) (few : n ≤ literal_limit) where
@@ -169,21 +165,49 @@ module _ (ws : List ℕ) (h : 4 ≤ length ws) (c n : ℕ) (c-is : c ≡ length 
       ∙ ap₂ (λ (x y : ℕ). get_or (taken (first_entry ws)) (k / x % y) 0 ∷ literal_at (branch_in (drop 4 ws)) k) (sym rest_is)
       (entry_count (get_or ws 0 0) (get_or ws 1 0) (get_or ws 2 0) ∙ sym c-is)
 
-pub byte_ending : (ws : List ℕ) → get_or ws 0 0 ≡ 0 → (p q : ℕ) → ending_of (token_in ws) p q ≡ get_or ws 1 0 % 256 ∷ []
-byte_ending ws e p q =
-    let f : get_or ws 0 0 ≡ 5 → ⊥ = λ g. omega arith in
-    ending_entry ws f p q ∙ ap (λ (l : List ℕ). get_or l (q % length l) 0 ∷ []) (byte_taken (get_or ws 0 0) (get_or ws 1 0) (get_or ws 2 0) e)
-    ∙ ap (λ (x : ℕ). get_or (get_or ws 1 0 % 256 ∷ []) x 0 ∷ []) (mod-one q)
+-- the same of the chunk with number i
+module _ (ws : List ℕ) (i : ℕ) (head : List ℕ) (h : i < length ws / 4) (e : head ≡ get_or (first_chunks 4 (length ws / 4) ws) i []) (x : Entry) (x-is : token_of x ≡ entry_at head)
+    (c n : ℕ) (c-is : c ≡ length (taken (token_of x))) (n-is : n ≡ count (branch_in (drop (4 * i) ws))) (some : 0 < n) (few : n ≤ literal_limit) where
+  long : 4 ≤ length (drop (4 * i) ws)
+  long = chunk_long ws i head h e
 
-pub token_some : (ws : List ℕ) → 4 ≤ length ws → (p : ℕ) → Numerable p (count (tokens_in ws)) → 0 < count_of (token_in ws)
-token_some ws h p num =
-    let R = count (tokens_in (drop (width ws) ws)) in
-    let e : p * (count_of (token_in ws) * R) ≡ p * count (tokens_in ws) = ap (λ (x : ℕ). p * x) (sym (tokens_count ws h)) in
-    let f = factor_le p (count_of (token_in ws) * R) (p * count (tokens_in ws)) e num.some in
-    (factor_le (count_of (token_in ws)) R (count_of (token_in ws) * R) refl f.1).0
+  same : token_of x ≡ first_entry (drop (4 * i) ws)
+  same = x-is ∙ chunk_entry ws i head h e
 
-pub entry_some : (ws : List ℕ) → (get_or ws 0 0 ≡ 5 → ⊥) → (n : ℕ) → n ≡ length (taken (first_entry ws)) → 0 < count_of (token_in ws) → 0 < n
-entry_some ws f n e h = let a = token_count_entry ws f in omega arith
+  so_many : c ≡ length (taken (first_entry (drop (4 * i) ws)))
+  so_many = c-is ∙ ap (λ t. length (taken t)) same
+
+  pub chunk_some : 0 < c
+  chunk_some = c_some (drop (4 * i) ws) long c n so_many n-is some few
+
+  pub chunk_rest : n / c ≡ count (branch_in (drop (4 * (i + 1)) ws))
+  chunk_rest = rest_is (drop (4 * i) ws) long c n so_many n-is some few ∙ ap (λ (l : List ℕ). count (branch_in l)) (chunk_left ws i head h e)
+
+  pub chunk_rest_some : 0 < n / c
+  chunk_rest_some = omega (arith, rest_is (drop (4 * i) ws) long c n so_many n-is some few, rest_some (drop (4 * i) ws) long c n so_many n-is some few)
+
+  pub chunk_rest_few : n / c ≤ literal_limit
+  chunk_rest_few = omega (arith, rest_is (drop (4 * i) ws) long c n so_many n-is some few, rest_few (drop (4 * i) ws) long c n so_many n-is some few)
+
+  pub chunk_digit : (k : ℕ) → k / (n / c) % c < length (taken (token_of x))
+  chunk_digit k = let l : k / (n / c) % c < c = mod-lt (k / (n / c)) chunk_some in omega arith
+
+  pub chunk_byte : (k : ℕ) → literal_at (branch_in (drop (4 * i) ws)) k ≡ get_or (taken (token_of x)) (k / (n / c) % c) 0 ∷ literal_at (branch_in (drop (4 * (i + 1)) ws)) k
+  chunk_byte k =
+      byte_first (drop (4 * i) ws) long c n so_many n-is some few k
+      ∙ ap₂ (λ (t : meaning.Token) (l : List ℕ). get_or (taken t) (k / (n / c) % c) 0 ∷ literal_at (branch_in l) k) (sym same) (chunk_left ws i head h e)
+
+pub chunks_end : (ws : List ℕ) (i k : ℕ) → i ≡ length ws / 4 → literal_at (branch_in (drop (4 * i) ws)) k ≡ []
+chunks_end ws i k e = branch_ending_end (drop (4 * i) ws) 1 k (omega (arith, length-drop (4 * i) ws))
+
+-- a token's piece, asked for by any number that gives it
+pub next_piece : (ws : List ℕ) (t : Token) (rest : List ℕ) → IsFront ws t rest → (p k q n : ℕ) → n ≡ count_of (meant t)
+    → ending_of (meant t) p q ≡ ending_of (meant t) p (prefixed (tokens_in rest) (p * n) k)
+    → ending (tokens_in ws) p k ≡ ending_of (meant t) p q ++ ending (tokens_in rest) (p * n) k
+next_piece ws t rest f p k q n e g =
+    ending_step ws t rest f p k
+    ∙ ap (λ (x : ℕ). ending_of (meant t) p (prefixed (tokens_in rest) (p * x) k) ++ ending (tokens_in rest) (p * x) k) (sym e)
+    ∙ ap (λ (l : List ℕ). l ++ ending (tokens_in rest) (p * n) k) (sym g)
 
 pub one_below : (n k : ℕ) → k < n → k < 1 * n
 one_below n k h = let e : 1 * n ≡ n = one-mul n in omega arith
@@ -191,12 +215,15 @@ one_below n k h = let e : 1 * n ≡ n = one-mul n in omega arith
 pub one_numerable : (n k : ℕ) → k < n → n ≤ literal_limit → Numerable 1 n
 one_numerable n k h l = let e : 1 * n ≡ n = one-mul n in record { some = (omega arith); few = (omega arith) }
 
--- an ending of one byte
-pub entry_room : (ws : List ℕ) → (get_or ws 0 0 ≡ 5 → ⊥) → (p q room : ℕ) → length (ending_of (token_in ws) p q) ≤ room → 0 < room
-entry_room ws f p q room l = let e : length (ending_of (token_in ws) p q) ≡ 1 = ap length (ending_entry ws f p q) in omega arith
+-- a token of one entry: its ending is one byte
+pub one_some : (e : Entry) (n : ℕ) → n ≡ length (taken (token_of e)) → 0 < count_of (token_of e) → 0 < n
+one_some e n f h = let a = one_count e in omega arith
 
-pub number_fits : (ws : List ℕ) (q n : ℕ) → n ≡ length (taken (first_entry ws)) → 0 < n → q % n < length (taken (first_entry ws))
-number_fits ws q n e z = let l : q % n < n = mod-lt q z in omega arith
+pub one_room : (e : Entry) (p q room : ℕ) → length (ending_of (token_of e) p q) ≤ room → 0 < room
+one_room e p q room l = let a : length (ending_of (token_of e) p q) ≡ 1 = ap length (one_ending e p q) in omega arith
 
-pub ending_is_byte : (ws : List ℕ) → (get_or ws 0 0 ≡ 5 → ⊥) → (p q n b : ℕ) → n ≡ length (taken (first_entry ws)) → b ≡ get_or (taken (first_entry ws)) (q % n) 0 → ending_of (token_in ws) p q ≡ b ∷ []
-ending_is_byte ws f p q n b e g = ending_entry ws f p q ∙ ap (λ (x : ℕ). get_or (taken (first_entry ws)) (q % x) 0 ∷ []) (sym e) ∙ ap (λ (x : ℕ). x ∷ []) (sym g)
+pub number_fits : (e : Entry) (q n : ℕ) → n ≡ length (taken (token_of e)) → 0 < n → q % n < length (taken (token_of e))
+number_fits e q n f z = let l : q % n < n = mod-lt q z in omega arith
+
+pub ending_is : (e : Entry) (p q n b : ℕ) → n ≡ length (taken (token_of e)) → b ≡ get_or (taken (token_of e)) (q % n) 0 → ending_of (token_of e) p q ≡ b ∷ []
+ending_is e p q n b f g = one_ending e p q ∙ ap (λ (x : ℕ). get_or (taken (token_of e)) (q % x) 0 ∷ []) (sym f) ∙ ap (λ (x : ℕ). x ∷ []) (sym g)

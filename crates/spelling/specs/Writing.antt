@@ -11,8 +11,7 @@ pub record Written (r : ℕ) (literal was is : List ℕ) : Type 0 where
   pub content : is ≡ literal ++ drop (length literal) was
 
 -- what the writer of one token's ending needs
-pub record Writable (p : ℕ) (t : Token) (q words room : ℕ) : Type 0 where
-  pub entry : 4 ≤ words
+pub record Writable (p : ℕ) (t : Token) (q room : ℕ) : Type 0 where
   pub prefixes : p ≤ literal_limit
   pub some : 0 < count_of t
   pub few : count_of t ≤ literal_limit

@@ -6,28 +6,28 @@ ghost use Rattle.std.specs.Prelude.{◌≤◌, ◌<◌, length};
 ghost use Rattle.std.specs.Fn.{FnOnceReturnsAt};
 ghost use Rattle.def_meaning.specs.Limits.{literal_limit, token_pool};
 ghost use Rattle.def_picking.specs.Numbers.{count, count_in, ending_of, ending_in, literal_at};
-ghost use Rattle.entries.specs.Words.{branch_in, lists_in, token_in, tokens_in};
+ghost use Rattle.entries.specs.Walks.{meant};
+ghost use Rattle.entries.specs.Words.{branch_in, lists_in, tokens_in};
 ghost use Rattle.spelling.specs.Writing.{Written, Writable};
 
 use base::ENTRY_LIMIT;
+use classes::Entry;
+use entries::{ENTRY, Lists, Token, Tokens};
 
 // Writes literal number k of a list without alternatives.
 fn write_list(ws: &[u32], k: usize, dst: &mut [u8]) -> usize
     requires { (k < count (branch_in ws.now)) × (count (branch_in ws.now) ≤ literal_limit) × (length (literal_at (branch_in ws.now) k) ≤ length dst.old) }
     ensures { Written result (literal_at (branch_in ws.now) k) dst.old dst.new }
 {
-    let mut rest = ws;
+    let (entries, _) = ws.as_chunks::<ENTRY>();
     let mut n = tallies::count_list(ws);
-    let mut i = 0;
-    while 4 <= rest.len() {
-        let c = classes::taken_count(rest[0], rest[1], rest[2]);
-        n = n / c;
-        let b = classes::taken_at(rest[0], rest[1], rest[2], k / n % c);
-        dst[i] = b;
-        i += 1;
-        rest = &rest[4..];
+    for (i, words) in entries.iter().enumerate() {
+        let entry = Entry::from(*words);
+        let c = entry.count();
+        n /= c;
+        dst[i] = entry.at(k / n % c);
     }
-    i
+    entries.len()
 }
 
 // Writes what literal number q of some lists has after its prefix.
@@ -35,38 +35,34 @@ fn write_branch(ls: &[u32], p: usize, q: usize, dst: &mut [u8]) -> usize
     requires { (p ≤ literal_limit) × (count_in (lists_in ls.now) ≤ literal_limit) × (length (ending_in (lists_in ls.now) p q) ≤ length dst.old) }
     ensures { Written result (ending_in (lists_in ls.now) p q) dst.old dst.new }
 {
-    let mut rest = ls;
     let mut left = q;
-    while 4 <= rest.len() {
-        let e = entries::end_of(rest);
-        let n = tallies::count_list(&rest[4..e]);
+    for list in (Lists { words: ls }) {
+        let n = tallies::count_list(list);
         let block = p * n;
         if left < block {
-            return write_list(&rest[4..e], left % n, dst);
+            return write_list(list, left % n, dst);
         }
         left -= block;
-        rest = &rest[e..];
     }
     0
 }
 
-// The same of the token at the front. Most are bytes, which need no division.
-fn write_token(ws: &[u32], p: usize, q: usize, dst: &mut [u8]) -> usize
-    requires { Writable p (token_in ws.now) q (length ws.now) (length dst.old) }
-    ensures { Written result (ending_of (token_in ws.now) p q) dst.old dst.new }
+// The same of a token. Most are bytes, which need no division.
+fn write_token(token: Token, p: usize, q: usize, dst: &mut [u8]) -> usize
+    requires { Writable p (meant token) q (length dst.old) }
+    ensures { Written result (ending_of (meant token.entry) p q) dst.old dst.new }
 {
-    if ws[0] == 5 {
-        let e = entries::end_of(ws);
-        return write_branch(&ws[4..e], p, q, dst);
+    match token {
+        Token::Alternatives(lists) => write_branch(lists, p, q, dst),
+        Token::One(Entry::Byte(b)) => {
+            dst[0] = b;
+            1
+        }
+        Token::One(entry) => {
+            dst[0] = entry.at(q % entry.count());
+            1
+        }
     }
-    if ws[0] == 0 {
-        dst[0] = (ws[1] % 256) as u8;
-        return 1;
-    }
-    let n = classes::taken_count(ws[0], ws[1], ws[2]);
-    let b = classes::taken_at(ws[0], ws[1], ws[2], q % n);
-    dst[0] = b;
-    1
 }
 
 // Writes literal number k of tokens.
@@ -74,17 +70,14 @@ pub fn write_literal(ws: &[u32], k: usize, dst: &mut [u8]) -> usize
     requires { (k < count (tokens_in ws.now)) × (count (tokens_in ws.now) ≤ literal_limit) × (length (literal_at (tokens_in ws.now) k) ≤ length dst.old) }
     ensures { Written result (literal_at (tokens_in ws.now) k) dst.old dst.new }
 {
-    let mut rest = ws;
+    let mut tokens = Tokens { words: ws };
     let mut p = 1;
     let mut i = 0;
-    while 4 <= rest.len() {
-        let t = tallies::tally_token(rest);
-        let q = prefixes::number_of(rest, p, t.literals, k);
-        let n = write_token(rest, p, q, &mut dst[i..]);
-        i += n;
-        p = p * t.literals;
-        let e = entries::width_of(rest);
-        rest = &rest[e..];
+    while let Some(token) = tokens.next() {
+        let t = tallies::tally_token(token);
+        let q = prefixes::number_of(tokens, p, t.literals, k);
+        i += write_token(token, p, q, &mut dst[i..]);
+        p *= t.literals;
     }
     i
 }
