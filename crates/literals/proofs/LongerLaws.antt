@@ -1,5 +1,5 @@
 -- The loop over the slices with one first part. Assumes nothing.
-use Rattle.std.proofs.Common.{◌≡◌, sym, ap, ap₂, ◌∙◌, subst, List, ◌∷◌, ℕ, ◌+◌, ◌-◌, ◌≤◌, ◌<◌, arith, eqb, length, get_or, take, drop, length-drop, Option, Ok, Err}
+use Rattle.std.proofs.Common.{◌≡◌, sym, ap, ap₂, ◌∙◌, subst, List, ◌∷◌, ℕ, ◌+◌, ◌-◌, ◌≤◌, ◌<◌, arith, eqb, length, get_or, take, drop, length-drop, Option, Result, Ok, Err}
 use Rattle.def_meaning.specs.Limits.{token_pool}
 use Rattle.def_meaning.specs.Tokens.{Tokens, ◌⊕◌}
 use Rattle.def_meaning.proofs.PartLaws.{to_end, length_from}
@@ -9,11 +9,11 @@ use Rattle.def_picking.specs.Candidates.{Candidate, rank, widened, best, too_man
 use Rattle.entries.specs.Words.{tokens_in}
 use Rattle.picks.specs.declared.Pick.{Pick}
 use Rattle.picks.specs.declared.TooMany.{TooMany}
-use Rattle.picks.specs.Ranks.{value_says, pick_says, Settles}
+use Rattle.picks.specs.Ranks.{rank_says, pick_says, winner_says, Settles}
 use Rattle.runs.specs.Whole.{Whole, byte_end, part_end, Placed}
 use Rattle.runs.proofs.PartLaws.{Part, first_part}
 use Rattle.picks.proofs.WinnerLaws.{Stands}
-use Rattle.def_picking.proofs.RefusalLaws.{against_full, best_full}
+use Rattle.def_picking.proofs.RefusalLaws.{best_full}
 use Rattle.literals.proofs.SliceLaws.{next_literal, further, turn, further_more, Next, next_of, widened_words, grown_words, grown_whole, later_words}
 
 -- the tokens of the words from a to b
@@ -78,9 +78,9 @@ module _ (run : List ℕ) (prior at to len : ℕ) (c : Candidate) (top : Option 
       omega arith
 
   -- one slice is weighed, and what comes next is known
-  pub weighed : (now : Option Pick) (next : ℕ) (r : Option ℕ) → next ≡ byte_end (take (length run - to) (drop to run)) → Settles top (Ok r) (rank (words run at to))
-      → Stands now top prior (to + next) (value_says r) → (own : Tokens) (ps : List Tokens) → parts (tokens_in (drop at run)) ≡ own ∷ ps
-      → best c (longer ps (words run prior at) own 0) ≡ best (pick_says run now) (further (parts (tokens_in (drop to run))) (words run prior at) (words run at to) len)
+  pub weighed : (now : Result (Option Pick) TooMany) (next : ℕ) (r : Result (Option ℕ) TooMany) → next ≡ byte_end (take (length run - to) (drop to run)) → Settles (Ok top) r (rank (words run at to))
+      → Stands now (Ok top) prior (to + next) (rank_says r) → (own : Tokens) (ps : List Tokens) → parts (tokens_in (drop at run)) ≡ own ∷ ps
+      → best c (longer ps (words run prior at) own 0) ≡ best (winner_says run now) (further (parts (tokens_in (drop to run))) (words run prior at) (words run at to) len)
   unfolding widened
   weighed now next r e f s own ps k =
       let n : next ≡ byte_end (drop to run) = e ∙ ap byte_end (to_end to run) in
@@ -90,19 +90,15 @@ module _ (run : List ℕ) (prior at to len : ℕ) (c : Candidate) (top : Option 
       let wide : widened (slice (words run prior at) (words run at to) (next_literal (parts (tokens_in (drop to run))))) ≡ tokens_in (take (to + next - prior) (drop prior run)) =
       ap (λ (x : Tokens). words run prior at ⊕ (words run at to ⊕ x)) is ∙ sym (widened_words run prior at to p.behind at_le p.before_whole g.own_whole next ww) in
       g.same own ps k
-      ∙ turn (pick_says run top) (pick_says run now) (parts (tokens_in (drop to run))) (words run prior at) (words run at to) len
+      ∙ turn (pick_says run top) (winner_says run now) (parts (tokens_in (drop to run))) (words run prior at) (words run at to) len
       (s run (slice (words run prior at) (words run at to) (next_literal (parts (tokens_in (drop to run))))) wide
       ∙ f run (slice (words run prior at) (words run at to) (next_literal (parts (tokens_in (drop to run))))))
 
-  -- one slice has too many literals, whatever comes next
-  pub overfull : (e : TooMany) → Settles top (Err e) (rank (words run at to)) → (own : Tokens) (ps : List Tokens) → parts (tokens_in (drop at run)) ≡ own ∷ ps
-      → too_many_literals ≡ best c (longer ps (words run prior at) own 0)
-  overfull e f own ps k =
-      let s = slice (words run prior at) (words run at to) (next_literal (parts (tokens_in (drop to run)))) in
-      sym (g.same own ps k
-      ∙ turn (pick_says run top) too_many_literals (parts (tokens_in (drop to run))) (words run prior at) (words run at to) len
-      (sym (against_full (pick_says run top) s) ∙ f run s)
-      ∙ best_full (further (parts (tokens_in (drop to run))) (words run prior at) (words run at to) len))
+  -- too many literals, whatever comes next
+  pub overfull : (e : TooMany) → ((own : Tokens) (ps : List Tokens) → parts (tokens_in (drop at run)) ≡ own ∷ ps
+      → best c (longer ps (words run prior at) own 0) ≡ best (winner_says run (Err e)) (further (parts (tokens_in (drop to run))) (words run prior at) (words run at to) len))
+      → (own : Tokens) (ps : List Tokens) → parts (tokens_in (drop at run)) ≡ own ∷ ps → too_many_literals ≡ best c (longer ps (words run prior at) own 0)
+  overfull e s own ps k = sym (s own ps k ∙ best_full (further (parts (tokens_in (drop to run))) (words run prior at) (words run at to) len))
 
   pub rest_there : 4 ≤ length run - to → 4 ≤ length (take (length run - to) (drop to run))
   rest_there h = let e = length_from to run in omega arith

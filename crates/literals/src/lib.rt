@@ -27,9 +27,9 @@ fn longer_slices(
     let mut len = 0;
     let mut top = best;
     loop {
-        let rank = ranking::rank_of(&run[at..to], top)?;
+        let rank = ranking::rank_of(&run[at..to], Ok(top));
         let next = runs::byte_words(&run[to..]);
-        top = picks::ranked_against(top, prior, to + next, rank);
+        top = picks::ranked_against(Ok(top), prior, to + next, rank)?;
         if 4 <= len || run.len() - to < 4 {
             return Ok(top);
         }

@@ -10,16 +10,16 @@ use Rattle.picks.specs.declared.TooMany.{TooMany}
 use Rattle.picks.specs.Ranks.{rank_says, pick_says, winner_says, Settles}
 
 -- what a pick becomes against one slice more
-abbrev pub Stands : Option Pick → Option Pick → ℕ → ℕ → Ranked → Type 0
-Stands r b from to k = (run : List ℕ) (s : Slice) → widened s ≡ tokens_in (take (to - from) (drop from run)) → pick_says run r ≡ against (pick_says run b) s k
+abbrev pub Stands : Result (Option Pick) TooMany → Result (Option Pick) TooMany → ℕ → ℕ → Ranked → Type 0
+Stands r b from to k = (run : List ℕ) (s : Slice) → widened s ≡ tokens_in (take (to - from) (drop from run)) → winner_says run r ≡ against (winner_says run b) s k
 
 -- ---- an answer that is as good as the rank
 
-pub settled : (b : Option Pick) (r : Result (Option ℕ) TooMany) (k : Ranked) → rank_says r ≡ k → Settles b r k
-settled b r k e run s = ap (against (pick_says run b) s) e
+pub settled : (b : Result (Option Pick) TooMany) (r : Result (Option ℕ) TooMany) (k : Ranked) → rank_says r ≡ k → Settles b r k
+settled b r k e run s = ap (against (winner_says run b) s) e
 
-pub settled_on : (b : Option Pick) (r : Result (Option ℕ) TooMany) (k j : Ranked) → Settles b r k → k ≡ j → Settles b r j
-settled_on b r k j h e run s = h run s ∙ ap (against (pick_says run b) s) e
+pub settled_on : (b : Result (Option Pick) TooMany) (r : Result (Option ℕ) TooMany) (k j : Ranked) → Settles b r k → k ≡ j → Settles b r j
+settled_on b r k j h e run s = h run s ∙ ap (against (winner_says run b) s) e
 
 -- too many literals are handed up as such
 pub failed_says : (run : List ℕ) (w : Result (Option Pick) TooMany) → IsErr w → winner_says run w ≡ too_many_literals

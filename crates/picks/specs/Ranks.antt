@@ -27,9 +27,9 @@ winner_says run (Ok w) = pick_says run w
 winner_says run (Err e) = too_many_literals
 
 -- to the best so far the answer is as good as the rank
-abbrev pub Settles : Option Pick → Result (Option ℕ) TooMany → Ranked → Type 0
-Settles best r k = (run : List ℕ) (s : Slice) → against (pick_says run best) s (rank_says r) ≡ against (pick_says run best) s k
+abbrev pub Settles : Result (Option Pick) TooMany → Result (Option ℕ) TooMany → Ranked → Type 0
+Settles best r k = (run : List ℕ) (s : Slice) → against (winner_says run best) s (rank_says r) ≡ against (winner_says run best) s k
 
 -- and a rank of at most m is as good as none
-abbrev pub Beaten : Option Pick → ℕ → Type 0
+abbrev pub Beaten : Result (Option Pick) TooMany → ℕ → Type 0
 Beaten best m = (n : ℕ) → n ≤ m → Settles best (Ok None) (ranked n)

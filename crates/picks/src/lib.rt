@@ -7,7 +7,7 @@ ghost use Rattle.base.specs.declared.Refusal.TheVariants.{TooManyLiterals};
 ghost use Rattle.def_picking.specs.Runs.{Slice};
 ghost use Rattle.def_picking.specs.Candidates.{ranked, widened, against};
 ghost use Rattle.entries.specs.Words.{tokens_in};
-ghost use Rattle.picks.specs.Ranks.{value_says, pick_says, Beaten};
+ghost use Rattle.picks.specs.Ranks.{rank_says, pick_says, winner_says, Beaten};
 
 use base::{Refusal, Refused};
 
@@ -32,10 +32,19 @@ pub struct Pick {
     pub rank: u32,
 }
 
+// What wins so far: a pick, if there is one yet, or too many literals somewhere.
+pub type Winner = Result<Option<Pick>, TooMany>;
+
+// A slice's rank, if it is not skipped, or too many literals.
+pub type Rank = Result<Option<u32>, TooMany>;
+
 // No rank up to this one changes what is chosen.
-pub fn beaten(best: Option<Pick>, rank: u32) -> bool
+pub fn beaten(best: Winner, rank: u32) -> bool
     ensures { result ≡ true → Beaten best rank }
 {
+    let Ok(best) = best else {
+        return true;
+    };
     match best {
         None => false,
         Some(b) => rank <= b.rank,
@@ -52,12 +61,13 @@ fn challenge(best: Option<Pick>, new: Pick) -> Pick
     }
 }
 
-// One more slice, which is skipped where it has no rank. Its words with the literal parts on either side are from `from` to `to`.
-pub fn ranked_against(best: Option<Pick>, from: usize, to: usize, rank: Option<u32>) -> Option<Pick>
-    ensures { (run : List ℕ) (s : Slice) → widened s ≡ tokens_in (take (to - from) (drop from run)) → pick_says run result ≡ against (pick_says run best) s (value_says rank) }
+// One more slice, whose words with the literal parts on either side are from `from` to `to`.
+pub fn ranked_against(best: Winner, from: usize, to: usize, rank: Rank) -> Winner
+    ensures { (run : List ℕ) (s : Slice) → widened s ≡ tokens_in (take (to - from) (drop from run)) → winner_says run result ≡ against (winner_says run best) s (rank_says rank) }
 {
-    match rank {
-        None => best,
-        Some(rank) => Some(challenge(best, Pick { from, to, rank })),
+    let best = best?;
+    match rank? {
+        None => Ok(best),
+        Some(rank) => Ok(Some(challenge(best, Pick { from, to, rank }))),
     }
 }

@@ -1,15 +1,16 @@
 -- Where scoring may stop. Assumes nothing.
-use Rattle.std.proofs.Common.{◌≡◌, sym, ap, ◌∙◌, ℕ, ◌-◌, ◌≤◌, arith, drop, Option, Some, None, Ok}
+use Rattle.std.proofs.Common.{◌≡◌, sym, ap, ◌∙◌, ℕ, ◌-◌, ◌≤◌, arith, drop, Option, Some, None, Result, Ok}
 use Rattle.def_meaning.specs.Tokens.{Tokens}
 use Rattle.atoms.specs.Score.{literal_score}
 use Rattle.def_picking.specs.Literals.{literals}
 use Rattle.def_picking.specs.Candidates.{lowest, least, ranked}
 use Rattle.picks.specs.declared.Pick.{Pick}
+use Rattle.picks.specs.declared.TooMany.{TooMany}
 use Rattle.picks.specs.Ranks.{Settles, Beaten}
 use Rattle.ranking.proofs.RankLaws.{lowest_le}
 use Rattle.picks.proofs.WinnerLaws.{settled}
 
-module _ (ts : Tokens) (penalty : ℕ) (b : Option Pick) where
+module _ (ts : Tokens) (penalty : ℕ) (b : Result (Option Pick) TooMany) where
   -- all literals are scored
   pub worth_all : (x y : ℕ) → least literal_score (literals ts) ≡ x → y ≡ x - penalty → Settles b (Ok (Some y)) (ranked (least literal_score (literals ts) - penalty))
   worth_all x y e f = settled b (Ok (Some y)) (ranked (least literal_score (literals ts) - penalty)) (ap ranked (f ∙ ap (λ (n : ℕ). n - penalty) (sym e)))

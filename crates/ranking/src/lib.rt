@@ -12,7 +12,7 @@ ghost use Rattle.entries.specs.Words.{tokens_in};
 ghost use Rattle.picks.specs.Ranks.{Settles};
 
 use base::{COMBINATION_LIMIT, LITERAL_LIMIT};
-use picks::{Pick, TooMany};
+use picks::{Rank, TooMany, Winner};
 
 pub fn score_at(ws: &[u32], k: usize) -> u32
     requires { (length ws.now ≤ token_pool) × (k < count (tokens_in ws.now)) × (count (tokens_in ws.now) ≤ literal_limit) }
@@ -33,7 +33,7 @@ fn penalty_of(n: usize) -> u32
 }
 
 // What the literals are worth to the best so far. Scoring more of them can only lower the rank, so it stops where that changes nothing.
-fn worth(ws: &[u32], n: usize, penalty: u32, best: Option<Pick>) -> Option<u32>
+fn worth(ws: &[u32], n: usize, penalty: u32, best: Winner) -> Option<u32>
     requires { (length ws.now ≤ token_pool) × (n ≡ count (tokens_in ws.now)) × (n ≤ literal_limit) }
     ensures { Settles best (Ok result) (ranked (least literal_score (literals (tokens_in ws.now)) - penalty)) }
 {
@@ -55,7 +55,7 @@ fn worth(ws: &[u32], n: usize, penalty: u32, best: Option<Pick>) -> Option<u32>
 }
 
 // A slice's rank, or one that changes the best so far as little; none where the slice is skipped.
-pub fn rank_of(ws: &[u32], best: Option<Pick>) -> Result<Option<u32>, TooMany>
+pub fn rank_of(ws: &[u32], best: Winner) -> Rank
     requires { length ws.now ≤ token_pool }
     ensures { Settles best result (rank (tokens_in ws.now)) }
 {
