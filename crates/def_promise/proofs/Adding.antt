@@ -1,11 +1,7 @@
 -- The computed addition of an item is the listed one. Assumes nothing.
-use mathlib.Core.Path.{◌≡◌, refl, sym, ap, ◌∙◌, subst}
-use mathlib.Core.Bool.{Bool, true, false, cond}
-use mathlib.Core.Option.{Option, none, some}
-use Prim.Native.Nat.{ℕ, ◌+◌, ◌≤◌, ◌<◌}
-use native.Mathlib.Omega.{arith}
-use lib.Dec.{leb}
-use borrow.Author.Tests.{leb-true, leb-false, le-leb, lt-leb}
+use Rattle.std.proofs.Common.{◌≡◌, refl, sym, ap, ◌∙◌, subst, Bool, true, false, cond, ℕ, ◌+◌, ◌≤◌, ◌<◌, arith, leb, leb-true, leb-false, le-leb}
+use Rattle.std.proofs.Math.Option.{Option, none, some}
+use borrow.Author.Tests.{lt-leb}
 use Rattle.def_meaning.specs.Limits.{jump_limit}
 use Rattle.def_meaning.specs.Programs.{Item, Prog, one, jump, range, alt, end, ◌▹◌, ◌⧺◌}
 use Rattle.def_compiling.specs.Compiling.{jump_of, pair_by, add}
@@ -14,14 +10,14 @@ use Rattle.def_promise.specs.Adding.{Adds, enlarges, appends}
 -- what is said of an item by its jump
 is_jump_lem : (i : Item) (m : ℕ) → jump_of i ≡ some m → i ≡ jump m
 unfolding jump_of
-is_jump_lem (one t) m h = let z : ◌≡◌ {A = ℕ} 0 1 = cc in absurd (omega arith)
+is_jump_lem (one t) m h = cc
 is_jump_lem (jump n) m h = let z : n ≡ m = cc in ap jump z
-is_jump_lem (range a b) m h = let z : ◌≡◌ {A = ℕ} 0 1 = cc in absurd (omega arith)
-is_jump_lem (alt bs) m h = let z : ◌≡◌ {A = ℕ} 0 1 = cc in absurd (omega arith)
+is_jump_lem (range a b) m h = cc
+is_jump_lem (alt bs) m h = cc
 
 no_jump : (i : Item) (n : ℕ) → jump_of i ≡ none → i ≡ jump n → ⊥
 unfolding jump_of
-no_jump i n h e = let g : some n ≡ none = sym (ap jump_of e) ∙ h in let z : ◌≡◌ {A = ℕ} 0 1 = cc in omega arith
+no_jump i n h e = let g : some n ≡ none = sym (ap jump_of e) ∙ h in cc
 
 same_jump : (m n : ℕ) → jump m ≡ jump n → m ≡ n
 same_jump m n e = cc
@@ -29,8 +25,8 @@ same_jump m n e = cc
 -- a program that ends with an item is not empty
 ends : (q : Prog) (i : Item) → end ≡ q ⧺ (i ▹ end) → ⊥
 unfolding ◌⧺◌
-ends end i e = let z : ◌≡◌ {A = ℕ} 0 1 = cc in omega arith
-ends (k ▹ q) i e = let z : ◌≡◌ {A = ℕ} 0 1 = cc in omega arith
+ends end i e = cc
+ends (k ▹ q) i e = cc
 
 only : (q : Prog) (k i : Item) → (k ▹ end) ≡ q ⧺ (i ▹ end) → k ≡ i
 unfolding ◌⧺◌
@@ -72,7 +68,7 @@ pub adds : (p : Prog) (i : Item) → Adds p i (add p i)
 unfolding add ◌⧺◌
 adds end i = appends {p = end} (λ q m n e f. absurd (ends q (jump m) e))
 adds (k ▹ end) i = pair_added k i (jump_of k) (jump_of i) refl refl
-adds (k ▹ (l ▹ p)) i = lift k (adds (l ▹ p) i) (λ e. let z : ◌≡◌ {A = ℕ} 0 1 = cc in omega arith)
+adds (k ▹ (l ▹ p)) i = lift k (adds (l ▹ p) i) (λ e. cc)
 
 -- and there is no other
 enlarged : (p : Prog) (m n : ℕ) → m + n ≤ jump_limit → p ⧺ (jump (m + n) ▹ end) ≡ add (p ⧺ (jump m ▹ end)) (jump n)

@@ -1,12 +1,7 @@
 -- Sound words whose program has exactly some spans: what the doors answer with them. Assumes nothing.
-use mathlib.Core.Path.{◌≡◌, refl, sym, ap, ◌∙◌, subst}
-use mathlib.Core.Bool.{true}
-use mathlib.Core.Logic.{◌↔◌}
-use mathlib.Core.Option.{Option, none, some}
-use mathlib.Core.List.{List, ◌++◌, reverse, reverse-append, reverse-reverse}
-use Prim.Native.Nat.{ℕ, ◌+◌, ◌-◌, ◌≤◌}
-use native.Mathlib.Omega.{arith}
-use lib.ListN.{length}
+use Rattle.std.proofs.Common.{◌≡◌, refl, sym, ap, ◌∙◌, subst, true, ◌↔◌, List, ◌++◌, reverse, ℕ, ◌+◌, ◌-◌, ◌≤◌, arith, length}
+use Rattle.std.proofs.Math.Option.{Option, none, some}
+use mathlib.Core.List.{reverse-append, reverse-reverse}
 use Rattle.def_meaning.specs.Values.{Bytes}
 use Rattle.def_meaning.specs.Programs.{Prog, Span}
 use Rattle.def_meaning.specs.Choices.{FirstForward, FirstReverse}
@@ -23,12 +18,12 @@ use Rattle.def_meaning.proofs.NodeWords.{sound_listed, program_listed}
 use Rattle.def_promise.proofs.Cuts.{part_length, part_bytes, parts, cut}
 
 end_fine : (e k p : ℕ) (x : Option (List ℕ)) → end_at e x ≡ refuses k p → ⊥
-end_fine e k p none h = let z : ◌≡◌ {A = ℕ} 0 1 = cc in omega arith
-end_fine e k p (some v) h = let z : ◌≡◌ {A = ℕ} 0 1 = cc in omega arith
+end_fine e k p none h = cc
+end_fine e k p (some v) h = cc
 
 start_fine : (s k p : ℕ) (x : Option (List ℕ)) → start_at s x ≡ refuses k p → ⊥
-start_fine s k p none h = let z : ◌≡◌ {A = ℕ} 0 1 = cc in omega arith
-start_fine s k p (some v) h = let z : ◌≡◌ {A = ℕ} 0 1 = cc in omega arith
+start_fine s k p none h = cc
+start_fine s k p (some v) h = cc
 
 -- an answer that is no refusal is found wherever it is not missed
 found_or : (P : Type 0) (x : CheckSaid) → ((k p : ℕ) → x ≡ refuses k p → ⊥) → (x ≡ no_match → P → ⊥) → P → (n : ℕ) × (x ≡ found n)

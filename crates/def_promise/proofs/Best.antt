@@ -1,10 +1,7 @@
 -- Of some candidates there is one best, and comparing them one after another finds it. Assumes nothing.
-use mathlib.Core.Path.{◌≡◌, refl, sym, ap, ◌∙◌, subst}
-use mathlib.Core.Bool.{Bool, true, false, cond}
-use mathlib.Core.Logic.{◌⊎◌, inl, inr, ⊎_elim, ◌↔◌}
+use Rattle.std.proofs.Common.{◌≡◌, refl, sym, ap, ◌∙◌, subst, Bool, true, false, cond, ◌⊎◌, inl, inr, ⊎_elim, ◌↔◌, List, [], ◌∷◌, ◌++◌, append-nil, append_assoc, ℕ}
+use mathlib.Core.List.{Memᴰ}
 use mathlib.Core.List.Memᴰ
-use mathlib.Core.List.{List, [], ◌∷◌, ◌++◌, append-nil, append_assoc, Memᴰ}
-use Prim.Native.Nat.{ℕ}
 use Rattle.def_meaning.specs.Tokens.{Tokens}
 use Rattle.def_reading.proofs.PieceLaws.{never}
 use Rattle.def_picking.specs.Candidates.{Candidate, unranked, chosen, too_many_literals}

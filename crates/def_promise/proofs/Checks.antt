@@ -1,14 +1,6 @@
 -- The doors of the checks have the listed outcomes, and no others. Assumes nothing.
-use mathlib.Core.Path.{◌≡◌, refl, sym, ap, subst}
-use mathlib.Core.Bool.{Bool, true, false}
-use mathlib.Core.Logic.{◌⊎◌, inl, inr}
-use mathlib.Core.Option.{some}
-use mathlib.Core.List.{List, [], reverse}
-use Prim.Native.Nat.{ℕ, ◌≤◌}
-use native.Mathlib.Omega.{arith}
-use lib.Dec.{leb}
-use borrow.Author.Tests.{leb-true, leb-false}
-use lib.ListN.{length}
+use Rattle.std.proofs.Common.{◌≡◌, refl, sym, ap, subst, Bool, true, false, ◌⊎◌, inl, inr, List, [], reverse, ℕ, ◌≤◌, arith, leb, leb-true, leb-false, length}
+use Rattle.std.proofs.Math.Option.{some}
 use Rattle.def_meaning.specs.Limits.{node_limit}
 use Rattle.def_meaning.specs.Programs.{Prog}
 use Rattle.def_meaning.specs.Choices.{Nowhere}
@@ -44,7 +36,7 @@ module _ (ws hay : List ℕ) (s e : ℕ) where
       at_words d l b h true g = inl (record { ordered = d; inside = l; tested = g })
       at_words d l true h false g =
           let k = leb-true (length ws) node_limit h in
-          inr (record { number = 15; listed = table.unsound d l k (λ x. let y = (sound_listed ws).1 x in let z : ◌≡◌ {A = ℕ} 0 1 = cc in omega arith); tells = law.unsound ws (length hay) s e d l k (sym g) })
+          inr (record { number = 15; listed = table.unsound d l k (λ x. let y = (sound_listed ws).1 x in cc); tells = law.unsound ws (length hay) s e d l k (sym g) })
       at_words d l false h false g = let k = leb-false (length ws) node_limit h in inr (record { number = 13; listed = table.too_many d l k; tells = law.many ws (length hay) s e d l k })
 
       at_end : s ≤ e → (b : Bool) → leb e (length hay) ≡ b → Asked ws hay s e ⊎ Why ws hay s e
@@ -120,10 +112,10 @@ module _ (ws hay : List ℕ) (s e : ℕ) where
 
   -- what is left
   not_found : (k n : ℕ) (o : doors.CheckSaid) → doors.refuses k 0 ≡ o → doors.found n ≡ o → ⊥
-  not_found k n o h g = let z : ◌≡◌ {A = ℕ} 0 1 = cc in omega arith
+  not_found k n o h g = cc
 
   no_found : (n : ℕ) (o : doors.CheckSaid) → o ≡ doors.no_match → doors.found n ≡ o → ⊥
-  no_found n o h g = let z : ◌≡◌ {A = ℕ} 0 1 = cc in omega arith
+  no_found n o h g = cc
 
   -- where it begins, by what is said
   begins : (o : doors.CheckSaid) → forward_says ws hay s e ≡ o → left_from o ≡ left_at ws hay s e

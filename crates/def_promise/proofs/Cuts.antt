@@ -1,10 +1,5 @@
 -- Windows cut in two at an offset. Assumes nothing.
-use mathlib.Core.Path.{◌≡◌, refl, sym, ap, ◌∙◌, subst}
-use mathlib.Core.List.{List, ◌++◌}
-use Prim.Native.Nat.{ℕ, ◌+◌, ◌-◌, ◌≤◌}
-use native.Mathlib.Omega.{arith}
-use lib.ListN.{length, take, drop, length-take, length-drop, length-append, take-append-drop}
-use lib.Seq.{drop-drop, take-add, take_at, drop_at}
+use Rattle.std.proofs.Common.{◌≡◌, refl, sym, ap, ◌∙◌, subst, List, ◌++◌, ℕ, ◌+◌, ◌-◌, ◌≤◌, arith, length, take, drop, length-take, length-drop, length-append, take-append-drop, drop-drop, take-add, take_at, drop_at}
 use Rattle.def_meaning.specs.Values.{Bytes}
 use Rattle.def_meaning.proofs.ValueLaws.{bytes_left_lem, bytes_right}
 use Rattle.checkdoors.specs.Doors.{window}

@@ -1,7 +1,5 @@
 -- The length that picking gives to tokens is that of their shortest literal. Assumes nothing.
-use mathlib.Core.Path.{◌≡◌}
-use mathlib.Core.Bool.{true}
-use lib.ListN.{length}
+use Rattle.std.proofs.Common.{◌≡◌, true, length}
 use Rattle.def_meaning.specs.Tokens.{Tokens}
 use Rattle.def_meaning.specs.Values.{Spelled}
 use Rattle.def_picking.specs.Literals.{literals, listable, length_in}

@@ -1,12 +1,7 @@
 -- Each node of a sound program has the listed line, and no other. Assumes nothing.
-use mathlib.Core.Path.{◌≡◌, sym, ap, ap₂, ◌∙◌, subst}
-use mathlib.Core.Logic.{⊎_elim}
+use Rattle.std.proofs.Common.{◌≡◌, sym, ap, ap₂, ◌∙◌, subst, ⊎_elim, List, [], ◌∷◌, ◌++◌, ℕ, ◌<◌, arith, mod-eq_of_lt, length}
+use mathlib.Core.List.{Memᴰ}
 use mathlib.Core.List.Memᴰ
-use mathlib.Core.List.{List, [], ◌∷◌, ◌++◌, Memᴰ}
-use Prim.Native.Nat.{ℕ, ◌<◌}
-use native.Mathlib.Omega.{arith}
-use native.Mathlib.Nat.{mod-eq_of_lt}
-use lib.ListN.{length}
 use Rattle.def_meaning.specs.Programs.{Item, Prog, Branches}
 use Rattle.def_meaning.specs.Words.{field_size, shape_by}
 use Rattle.def_meaning.proofs.MadeLaws.{made_shape}

@@ -1,14 +1,8 @@
 -- The functions by which picking is defined do what their names say. Assumes nothing.
-use mathlib.Core.Path.{◌≡◌, refl, sym, ap, ap₂, ◌∙◌, subst}
-use mathlib.Core.Bool.{Bool, true, false}
-use mathlib.Core.Logic.{⊎_elim, ◌↔◌}
+use Rattle.std.proofs.Common.{◌≡◌, refl, sym, ap, ap₂, ◌∙◌, subst, Bool, true, false, ⊎_elim, ◌↔◌, List, [], ◌∷◌, ◌++◌, append-nil, append_assoc, ℕ, zero, suc, ◌+◌, ◌≤◌, ◌<◌, min, arith, le_refl, le_trans, leb, leb-true, leb-false}
+use mathlib.Core.List.{Memᴰ}
+use Rattle.std.proofs.Math.Nat.{min-le_left, min-le_right, min-eq_left, min-eq_right}
 use mathlib.Core.List.Memᴰ
-use mathlib.Core.List.{List, [], ◌∷◌, ◌++◌, append-nil, append_assoc, Memᴰ}
-use Prim.Native.Nat.{ℕ, zero, suc, ◌+◌, ◌≤◌, ◌<◌, min}
-use native.Mathlib.Omega.{arith}
-use native.Mathlib.Nat.{le_refl, le_trans, min-le_left, min-le_right, min-eq_left, min-eq_right}
-use lib.Dec.{leb}
-use borrow.Author.Tests.{leb-true, leb-false}
 use Rattle.def_meaning.specs.Tokens.{Mask, left, right, all, Token, Tokens, Lists, Byte, NotByte, MaskedByte, NotMaskedByte, Jump, Alternatives, nothing, ◌then◌, Matches}
 use Rattle.def_meaning.specs.Values.{Bytes, SpelledOne}
 use Rattle.def_meaning.proofs.SoundLaws.{and_both, false_true}
@@ -60,10 +54,10 @@ is_plain_inside t = (λ h ls e. sym (ap plain_inside e) ∙ h, go t)
     go (Alternatives ls) h = h ls refl
 
 left_some : left ≡ all → ⊥
-left_some e = let z : ◌≡◌ {A = ℕ} 0 1 = cc in omega arith
+left_some e = cc
 
 right_some : right ≡ all → ⊥
-right_some e = let z : ◌≡◌ {A = ℕ} 0 1 = cc in omega arith
+right_some e = cc
 
 open_mask : (m : Mask) → (m ≡ all → ⊥) → (P : Mask → Type 0) → P left → P right → P m
 open_mask left h P a b = a

@@ -1,7 +1,5 @@
 -- What compiling makes of tokens is what is listed, and nothing else. Assumes nothing.
-use mathlib.Core.Path.{◌≡◌, refl, ap, ap₂, ◌∙◌, subst}
-use mathlib.Core.Bool.{Bool, true, false, cond, ◌&&◌}
-use mathlib.Core.Logic.{◌↔◌}
+use Rattle.std.proofs.Common.{◌≡◌, refl, ap, ap₂, ◌∙◌, subst, Bool, true, false, cond, ◌&&◌, ◌↔◌}
 use Rattle.base.specs.declared.Refusal.TheVariants.{NotSimple, TooManyNodes, BranchTooLong}
 use Rattle.def_meaning.specs.Tokens.{Tokens}
 use Rattle.def_meaning.specs.Values.{Spelled}

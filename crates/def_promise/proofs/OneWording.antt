@@ -1,10 +1,6 @@
 -- A program has one wording: sound words that say the same program are the same words. So words that are computed (compiling's and the
 -- mirror's) are known by the program that they say. Assumes nothing.
-use mathlib.Core.Path.{◌≡◌, refl, sym, ap, ap₂, ◌∙◌, subst}
-use mathlib.Core.Bool.{true}
-use mathlib.Core.List.{List, [], ◌∷◌, ◌++◌, append-nil}
-use Prim.Native.Nat.{ℕ}
-use lib.ListN.{length}
+use Rattle.std.proofs.Common.{◌≡◌, refl, sym, ap, ap₂, ◌∙◌, subst, true, List, [], ◌∷◌, ◌++◌, append-nil, ℕ, length}
 use Rattle.def_meaning.specs.Tokens.{Tokens}
 use Rattle.def_meaning.specs.Values.{Spelled}
 use Rattle.def_meaning.specs.Programs.{Item, Prog, Branches, mirror}

@@ -1,13 +1,7 @@
 -- The doors of reading, compiling and the mirror have the listed outcomes, and no others. Assumes nothing.
-use mathlib.Core.Path.{◌≡◌, refl, sym, ap, ap₂, ◌∙◌, subst}
-use mathlib.Core.Bool.{Bool, true, false, cond, ◌&&◌, and-false}
-use mathlib.Core.Logic.{◌⊎◌, inl, inr}
-use mathlib.Core.List.{List}
-use Prim.Native.Nat.{ℕ, ◌≤◌, ◌<◌}
-use native.Mathlib.Omega.{arith}
-use lib.Dec.{leb, ltb}
-use borrow.Author.Tests.{leb-true, leb-false, le-leb, lt-leb, ltb-true, ltb-false, lt-ltb, le-ltb}
-use lib.ListN.{length}
+use Rattle.std.proofs.Common.{◌≡◌, refl, sym, ap, ap₂, ◌∙◌, subst, Bool, true, false, cond, ◌&&◌, ◌⊎◌, inl, inr, List, ℕ, ◌≤◌, ◌<◌, leb, ltb, leb-true, leb-false, le-leb, ltb-true, ltb-false, lt-ltb, le-ltb, length}
+use Rattle.std.proofs.Math.Bool.{and-false}
+use borrow.Author.Tests.{lt-leb}
 use Rattle.base.specs.Pools.{filled, cleared}
 use Rattle.def_meaning.specs.Limits.{node_limit, token_pool, node_pool}
 use Rattle.def_meaning.specs.Tokens.{Tokens}
@@ -71,7 +65,7 @@ short_some a b c d e = go (leb a b) (leb c d) refl refl e
     go : (x y : Bool) → leb a b ≡ x → leb c d ≡ y → (x && y) ≡ false → (b < a) ⊎ (d < c)
     go false y h g e = inl (leb-false a b h)
     go true false h g e = inr (leb-false c d g)
-    go true true h g e = let z : ◌≡◌ {A = ℕ} 0 1 = cc in absurd (omega arith)
+    go true true h g e = cc
 
 pub compiles : (t p q : List ℕ) → Compiles t p q (compiledoor.compile_says t p q) (compiledoor.forward_leaves t p q) (compiledoor.reverse_leaves t p q)
 unfolding compiledoor.compile_says compiledoor.forward_leaves compiledoor.reverse_leaves compiledoor.verdict_says compiledoor.verdict_forward compiledoor.verdict_reverse compiledoor.compiled_says compiledoor.compiled_forward compiledoor.compiled_reverse
@@ -135,7 +129,7 @@ mirrors ws p = go (ltb (length p) node_pool) refl (ltb node_limit (length ws)) r
     go false h false g true e = table.Mirrors.mirrored (ltb-false (length p) node_pool h) (ltb-false node_limit (length ws) g) (sound_says ws e) (mirror_wording ws e)
     go false h false g false e =
         table.Mirrors.unsound (ltb-false (length p) node_pool h) (ltb-false node_limit (length ws) g)
-        (λ s. let k = (sound_listed ws).1 s in let z : ◌≡◌ {A = ℕ} 0 1 = cc in omega arith)
+        (λ s. let k = (sound_listed ws).1 s in cc)
 
 abbrev Mirrored : List ℕ → List ℕ → mirrordoor.MirrorSaid → List ℕ → Type 0
 Mirrored ws p s u = (s ≡ mirrordoor.mirror_says ws p) × (u ≡ mirrordoor.mirror_leaves ws p)

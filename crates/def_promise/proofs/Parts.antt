@@ -1,11 +1,7 @@
 -- In a text whose alternatives are plain, each part of a run is bytes only, one class or one alternatives token; and what is computed of the parts,
 -- the slices and the winner of a run is what its name says, since they have all that the theorems on it ask. Assumes nothing.
-use mathlib.Core.Path.{◌≡◌, refl, sym, ◌∙◌, subst}
-use mathlib.Core.Bool.{Bool, true, false, ◌&&◌}
-use mathlib.Core.Logic.{inl, inr, ◌↔◌}
-use mathlib.Core.List.{List, [], ◌∷◌, Memᴰ}
-use Prim.Native.Nat.{ℕ}
-use lib.ListN.{length}
+use Rattle.std.proofs.Common.{◌≡◌, refl, sym, ◌∙◌, subst, Bool, true, false, ◌&&◌, inl, inr, ◌↔◌, List, [], ◌∷◌, ℕ, length}
+use mathlib.Core.List.{Memᴰ}
 use Rattle.def_meaning.specs.Tokens.{left, right, all, Token, Tokens, Lists, Byte, NotByte, MaskedByte, NotMaskedByte, Jump, Alternatives, nothing, ◌then◌, ◌⊕◌}
 use Rattle.def_meaning.specs.Values.{SpelledOne, Spelled, SpelledMore}
 use Rattle.def_meaning.proofs.ValueLaws.{any_spelled}

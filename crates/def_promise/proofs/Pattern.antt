@@ -1,10 +1,5 @@
 -- From a text to what the checks say of a haystack, for every pattern that compiles and every window. Assumes nothing.
-use mathlib.Core.Path.{◌≡◌, refl, sym, ap, ◌∙◌, subst}
-use mathlib.Core.Bool.{Bool, true, false, cond}
-use mathlib.Core.List.{List, ◌++◌}
-use Prim.Native.Nat.{ℕ, ◌-◌}
-use lib.ListN.{length, take, drop, replicate}
-use lib.Seq.{take_at}
+use Rattle.std.proofs.Common.{◌≡◌, refl, sym, ap, ◌∙◌, subst, Bool, true, false, cond, List, ◌++◌, ℕ, ◌-◌, length, take, drop, replicate, take_at}
 use Rattle.base.specs.Pools.{filled}
 use Rattle.def_meaning.specs.Limits.{node_pool}
 use Rattle.def_meaning.specs.Tokens.{Tokens, Spans}

@@ -1,13 +1,6 @@
 -- Tokens yield what is picked from them, and the literal door has the listed outcomes, and no others. Assumes nothing.
-use mathlib.Core.Path.{◌≡◌, refl, sym, ap, ◌∙◌, subst}
-use mathlib.Core.Bool.{Bool, true, false, cond}
-use mathlib.Core.Logic.{◌⊎◌, ◌↔◌}
-use mathlib.Core.List.{List, map, flatten}
-use Prim.Native.Nat.{ℕ, ◌≤◌, ◌<◌}
-use lib.Dec.{leb}
-use lib.ListN.{length}
-use borrow.Author.Tests.{leb-true}
-use Rattle.std.proofs.Common.{Ok, Err}
+use Rattle.std.proofs.Common.{◌≡◌, refl, sym, ap, ◌∙◌, subst, Bool, true, false, cond, ◌⊎◌, ◌↔◌, List, map, ℕ, ◌≤◌, ◌<◌, leb, length, leb-true, Ok, Err}
+use mathlib.Core.List.{flatten}
 use Rattle.base.specs.declared.Refusal.TheVariants.{NotPlain, NoRoom}
 use Rattle.def_meaning.specs.Tokens.{Tokens}
 use Rattle.def_meaning.proofs.SoundLaws.{and_left, and_right}

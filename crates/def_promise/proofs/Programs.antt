@@ -1,12 +1,6 @@
 -- Demand 3 from door to door: sound programs laid end to end, and the mirror, from the words to what the checks answer with them. Assumes nothing.
-use mathlib.Core.Path.{◌≡◌, refl, sym, ap, ◌∙◌, subst}
-use mathlib.Core.Bool.{true}
-use mathlib.Core.Logic.{◌↔◌}
-use mathlib.Core.List.{List, ◌++◌, reverse, reverse-reverse}
-use Prim.Native.Nat.{ℕ, ◌+◌, ◌≤◌}
-use lib.ListN.{length, take}
-use lib.Seq.{take_at}
-use borrow.Author.Tests.{le-ltb}
+use Rattle.std.proofs.Common.{◌≡◌, refl, sym, ap, ◌∙◌, subst, true, ◌↔◌, List, ◌++◌, reverse, ℕ, ◌+◌, ◌≤◌, length, take, take_at, le-ltb}
+use mathlib.Core.List.{reverse-reverse}
 use Rattle.base.specs.Pools.{filled}
 use Rattle.def_meaning.specs.Limits.{node_limit, node_pool}
 use Rattle.def_meaning.specs.Programs.{Prog, Span}

@@ -1,15 +1,9 @@
 -- What is chosen in a run, and between runs, is exactly what wins there. Assumes nothing.
-use mathlib.Core.Path.{◌≡◌, refl, sym, ap, ap₂, ◌∙◌, subst}
-use mathlib.Core.Bool.{Bool, true, false, cond, ◌&&◌, ◌||◌}
-use mathlib.Core.Logic.{◌⊎◌, inl, inr, ⊎_elim, ◌↔◌}
-use mathlib.Core.Option.{Option, none, some}
+use Rattle.std.proofs.Common.{◌≡◌, refl, sym, ap, ap₂, ◌∙◌, subst, Bool, true, false, cond, ◌&&◌, ◌||◌, ◌⊎◌, inl, inr, ⊎_elim, ◌↔◌, List, [], ◌∷◌, ◌++◌, map, ℕ, ◌≤◌, ◌<◌, arith, eqb, leb, ltb, length, ltb-true, ltb-false, lt-ltb, le-ltb, leb-true, le-leb, eqb-true}
+use Rattle.std.proofs.Math.Option.{Option, none, some}
+use mathlib.Core.List.{Memᴰ}
+use borrow.Author.Tests.{eqb-false}
 use mathlib.Core.List.Memᴰ
-use mathlib.Core.List.{List, [], ◌∷◌, ◌++◌, map, Memᴰ}
-use Prim.Native.Nat.{ℕ, ◌≤◌, ◌<◌}
-use native.Mathlib.Omega.{arith}
-use lib.Dec.{eqb, leb, ltb}
-use lib.ListN.{length}
-use borrow.Author.Tests.{ltb-true, ltb-false, lt-ltb, le-ltb, leb-true, le-leb, eqb-true, eqb-false}
 use Rattle.def_meaning.specs.Limits.{literal_limit, combination_limit}
 use Rattle.def_meaning.specs.Tokens.{Tokens, nothing}
 use Rattle.atoms.specs.Score.{literal_score}

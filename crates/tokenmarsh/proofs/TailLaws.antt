@@ -10,9 +10,9 @@ use Rattle.tokenmarsh.specs.Results.{tail_told, tail_bytes}
 
 -- the end that is found is not after the window's
 found_within : (x : Option ℕ) (e n : ℕ) (y : Option (List ℕ)) → unless x (end_at e y) ≡ found n → n ≤ e
-found_within none e n none h = let z : ◌≡◌ {A = ℕ} 0 1 = cc in absurd (omega arith)
+found_within none e n none h = cc
 found_within none e n (some v) h = let z : e - length v ≡ n = cc in omega arith
-found_within (some k) e n y h = let z : ◌≡◌ {A = ℕ} 0 1 = cc in absurd (omega arith)
+found_within (some k) e n y h = cc
 
 pub forward_within : (ws hay : List ℕ) (s e n : ℕ) → forward_says ws hay s e ≡ found n → n ≤ e
 unfolding forward_says
@@ -20,9 +20,9 @@ forward_within ws hay s e n h = found_within (refusal ws (length hay) s e) e n (
 
 -- a check that may run is not refused
 not_refused : (x : Option ℕ) (e n p : ℕ) (y : Option (List ℕ)) → none ≡ x → unless x (end_at e y) ≡ refuses n p → ⊥
-not_refused none e n p none g h = let z : ◌≡◌ {A = ℕ} 0 1 = cc in omega arith
-not_refused none e n p (some v) g h = let z : ◌≡◌ {A = ℕ} 0 1 = cc in omega arith
-not_refused (some k) e n p y g h = let z : ◌≡◌ {A = ℕ} 0 1 = cc in omega arith
+not_refused none e n p none g h = cc
+not_refused none e n p (some v) g h = cc
+not_refused (some k) e n p y g h = cc
 
 module _ (ws hay : List ℕ) (s e : ℕ) where
   abbrev Left : CheckSaid → Type 0
