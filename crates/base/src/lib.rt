@@ -1,9 +1,8 @@
 // What every door shares: the limits, and the numbered refusals with their places.
 #![tactic(auto)]
 
-ghost use Rattle.std.specs.Prelude.{◌≡◌, ◌≤◌, length};
+ghost use Rattle.std.specs.Prelude.{◌≡◌};
 ghost use Rattle.base.specs.Refusals.{number_of};
-ghost use Rattle.base.specs.Pools.{zeroed};
 
 // The limits of 01 and 02, each with the refusal that is given above it. The bytes of a text: 1.
 pub const TEXT_LIMIT: usize = 4096;
@@ -97,12 +96,4 @@ impl From<Refusal> for Refused {
     fn from(why: Refusal) -> Self {
         Self { why, place: 0 }
     }
-}
-
-// Zeros the words of a tokens' pool from `from` up to `to`, and leaves the others.
-pub fn zero_words(pool: &mut [u32], from: usize, to: usize)
-    requires { (from ≤ to) × (to ≤ length pool.old) }
-    ensures { pool.new ≡ zeroed from to pool.old }
-{
-    pool[from..to].fill(0);
 }

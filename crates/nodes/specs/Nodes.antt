@@ -1,14 +1,12 @@
 -- What a node says, and its word. Assumes nothing: these are definitions.
 -- To be believed: nothing.
-use Rattle.std.specs.Prelude.{Option, Some, None, cond, List, [], ◌∷◌, ℕ, ◌<◌, eqb}
+use Rattle.std.specs.Prelude.{Option, Some, None, cond, ℕ, ◌<◌, eqb}
 use Rattle.def_meaning.specs.Programs.{Test, byte, mask, negated_mask, dot, one, jump, range}
 use Rattle.def_meaning.specs.Words.{field_size, Shape, item, opens, mark, wrong, word_for, word_of_shape}
 use Rattle.nodes.specs.declared.ByteTest.{ByteTest}
 use Rattle.nodes.specs.declared.ByteTest.TheVariants.{Byte, Mask, NegatedMask, Dot}
 use Rattle.nodes.specs.declared.Node.{Node}
 use Rattle.nodes.specs.declared.Node.TheVariants.{One, Jump, JumpRange, Alternation, AltBranch}
-use Rattle.nodes.specs.declared.NextWord.{NextWord}
-use Rattle.nodes.specs.declared.NextWord.TheVariants.{Word, NoWord}
 
 -- what a node says, in the terms of words
 abbrev pub test_of : ByteTest → Test
@@ -56,11 +54,6 @@ NodeFits (AltBranch n) = n < field_size
 abbrev pub SaidFits : Option Node → Type 0
 SaidFits (Some n) = NodeFits n
 SaidFits None = Unit {0}
-
--- the first of the words, if there is one
-abbrev pub first_word : List ℕ → NextWord
-first_word [] = NoWord
-first_word (w ∷ ws) = Word w
 
 -- the mask under which a test's value lies, and the most that its second field may be, by its kind
 abbrev pub mask_in : ℕ → ℕ → ℕ

@@ -4,10 +4,9 @@
 #![tactic(auto)]
 
 ghost use Rattle.std.specs.Prelude.{◌≡◌, ◌&&◌, ◌%◌, ◌≤◌, ◌<◌, leb, ltb, length};
-ghost use Rattle.base.specs.Pools.{zeroed};
 ghost use Rattle.def_meaning.specs.NodeWords.{word};
 ghost use Rattle.def_meaning.specs.Words.{byte_size, field_size, kind_of, first_of, second_of, count_of, word_size, shape, proper_by, proper};
-ghost use Rattle.nodes.specs.Nodes.{shape_said, test_word, word_of, first_word, mask_in, most_in};
+ghost use Rattle.nodes.specs.Nodes.{shape_said, test_word, word_of, mask_in, most_in};
 
 use base::BRANCH_LIMIT;
 
@@ -16,8 +15,8 @@ pub type NodeWord = u64;
 
 pub type Field = u16;
 
-// The kinds, in the lowest part of a word. They keep the word's type: of kinds that are bytes the compiler makes one table of jumps in
-// the searches, bytes of a pattern included, and they take up to twice the time.
+// The kinds, in the lowest part of a word, by the numbers that a caller's words have. They keep the word's type and are no enum, whose cases are told
+// by bytes: of kinds that are bytes the compiler makes one table of jumps in the searches, bytes of a pattern included, and they take up to twice the time.
 pub const BYTE: NodeWord = 0;
 
 pub const MASK: NodeWord = 1;
@@ -66,23 +65,6 @@ pub enum Node {
     JumpRange(Field, Field),
     Alternation(Field),
     AltBranch(Field),
-}
-
-#[derive(Drop)]
-pub enum NextWord {
-    Word(NodeWord),
-    NoWord,
-}
-
-// The first of the words.
-pub fn first_word(ws: &[NodeWord]) -> NextWord
-    ensures { result ≡ first_word ws.now }
-{
-    if 0 < ws.len() {
-        NextWord::Word(ws[0])
-    } else {
-        NextWord::NoWord
-    }
 }
 
 pub fn kind(w: NodeWord) -> NodeWord
@@ -246,12 +228,4 @@ pub fn proper_word(w: NodeWord) -> bool
     } else {
         proper_other(w)
     }
-}
-
-// Zeros the words of a program's pool from `from` up to `to`, and leaves the others.
-pub fn zero_nodes(pool: &mut [NodeWord], from: usize, to: usize)
-    requires { (from ≤ to) × (to ≤ length pool.old) }
-    ensures { pool.new ≡ zeroed from to pool.old }
-{
-    pool[from..to].fill(0);
 }
