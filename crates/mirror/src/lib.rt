@@ -38,7 +38,7 @@ fn mirror_branches(alts: &[NodeWord], out: &mut [NodeWord])
     }
 }
 
-// Items go to the opposite places, from the back on.
+// Items go to the opposite places, from the back on: one function for both would take the end to fill from, and be no plainer.
 fn mirror_words(words: &[NodeWord], out: &mut [NodeWord])
     requires { Sound words.now × (length out.old ≡ length words.now) }
     ensures { out.new ≡ mirror_words words.now }

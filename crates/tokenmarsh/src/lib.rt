@@ -1,5 +1,5 @@
-// The doors as C functions: include/tokenmarsh.h documents them. An answer is a struct by value, whose `refusal` is 0 where there is none, and a field of
-// which the answer makes no use is 0 too. A `usize` has no `From` to a `u64`.
+// The doors as C functions: include/tokenmarsh.h documents them. An answer is a struct by value, since C has no enum with fields: its `refusal` is 0 where
+// there is none, and a field of which the answer makes no use is 0 too. A `usize` has no `From` to a `u64`, and C no slices to hand a window on in.
 #![tactic(auto)]
 
 ghost use Rattle.std.specs.Prelude.{◌≡◌, cond, ◌+◌, ◌*◌};
