@@ -112,12 +112,11 @@ fn choices<W: Way>(w: NodeWord, rest: &[NodeWord], mem: &[u8]) -> Option<usize>
     }
     let size = usize::from(count(w));
     let after = &rest[size..];
-    if let Some((&x, tail)) = after.split_first() {
-        if kind(x) == JUMP_RANGE {
-            return branches::<W>(&rest[..size], tail, mem, first(x), second(x));
-        }
-    }
-    branches::<W>(&rest[..size], after, mem, 0, 0)
+    let (tail, from, to) = match after.split_first() {
+        Some((&x, tail)) if kind(x) == JUMP_RANGE => (tail, first(x), second(x)),
+        _ => (after, 0, 0),
+    };
+    branches::<W>(&rest[..size], tail, mem, from, to)
 }
 
 // A range before the rest: the first of its lengths, of those that mem has room for, for which the rest fits.

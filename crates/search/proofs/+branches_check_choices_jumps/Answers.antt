@@ -5,7 +5,6 @@ use Rattle.def_meaning.specs.Programs.{range, ◌▹◌}
 use Rattle.def_meaning.specs.Rows.{run}
 use Rattle.def_meaning.specs.Words.{prog, Sound}
 use Rattle.def_meaning.proofs.KindLaws.{kind_jump}
-use Rattle.def_meaning.proofs.PartLaws.{length_from}
 use Rattle.steps.specs.Steps.{answer, seen}
 use Rattle.steps.proofs.Heads.{length_seen}
 use Rattle.steps.proofs.Tests.{is_test_lem}
@@ -14,8 +13,9 @@ use Rattle.steps.proofs.Turns as turns
 use Rattle.steps.proofs.Ranges as ranges
 use Rattle.steps.proofs.Alternatives as alts
 use Rattle.steps.proofs.Choices as choice
+use Rattle.steps.proofs.Choices.{Handed}
 use Rattle.search.proofs.+branches_check_choices_jumps.Goals as goal
-use Rattle.search.proofs.+branches_check_choices_jumps.Goals.{branches-in-Some-flat+else-loop-n-test, branches-in_default-flat}
+use Rattle.search.proofs.+branches_check_choices_jumps.Goals.{branches-in-Some-flat+else-loop-n-test, branches-in_default-flat, choices-in-Some, choices-in_default}
 
 pub branches-slice_bounds-flat-end : goal.branches-slice_bounds-flat-end
 branches-slice_bounds-flat-end g t c =
@@ -155,49 +155,40 @@ choices-slice_bounds-after-start g t c =
     let opened = choice.opened c.args.w c.args.rest.now k (c.from-size.ensures ∙ c.count.ensures) c.requires.0 in
     opened.fits
 
+pub choices-slice_bounds-branches-end : goal.choices-slice_bounds-branches-end
+choices-slice_bounds-branches-end g t c =
+    let k = choice.is_alt c.args.w c.requires.1 (λ z. c.if-kind-eq-JUMP_RANGE.false (c.kind.ensures ∙ z)) in
+    let opened = choice.opened c.args.w c.args.rest.now k (c.from-size.ensures ∙ c.count.ensures) c.requires.0 in
+    sym (length-take-le _ _ opened.fits)
+
 pub choices-branches-requires : goal.choices-branches-requires
 choices-branches-requires g t c κs within =
     let W = c.args.w in
     let R = c.args.rest.now in
     let k = choice.is_alt W c.requires.1 (λ z. c.if-kind-eq-JUMP_RANGE.false (c.kind.ensures ∙ z)) in
     let s = c.from-size.ensures ∙ c.count.ensures in
-    let opened = choice.opened W R k s c.requires.0 in
-    let X = c.in-Some.field-0-0.now in (
-      omega (arith, c.in-Some.ensures.cases.1, length_from c.from-size.result R),
-      (within, (opened.inside, choice.range_sound W R k s X _ c.in-Some.ensures.cases.0 (sym c.kind-in-Some.ensures ∙ c.if-kind-eq-JUMP_RANGE-2.true) c.requires.0)),
-    )
-
-pub choices-returns-then-kind-eq-JUMP_RANGE-2 : goal.choices-returns-then-kind-eq-JUMP_RANGE-2
-choices-returns-then-kind-eq-JUMP_RANGE-2 g t c =
-    let o = g.W.Way.order in
-    let W = c.args.w in
-    let R = c.args.rest.now in
-    let k = choice.is_alt W c.requires.1 (λ z. c.if-kind-eq-JUMP_RANGE.false (c.kind.ensures ∙ z)) in
-    let s = c.from-size.ensures ∙ c.count.ensures in
-    let X = c.in-Some.field-0-0.now in
-    c.branches.ensures
-    ∙ ap answer (choice.alt_range W R k s X _ c.in-Some.ensures.cases.0 (sym c.kind-in-Some.ensures ∙ c.if-kind-eq-JUMP_RANGE-2.true) c.first-then-kind-eq-JUMP_RANGE-2.ensures c.second-then-kind-eq-JUMP_RANGE-2.ensures o (seen o c.args.mem.now))
-
-pub choices-slice_bounds-branches-end-2 : goal.choices-slice_bounds-branches-end-2
-choices-slice_bounds-branches-end-2 g t c =
-    let k = choice.is_alt c.args.w c.requires.1 (λ z. c.if-kind-eq-JUMP_RANGE.false (c.kind.ensures ∙ z)) in
-    let opened = choice.opened c.args.w c.args.rest.now k (c.from-size.ensures ∙ c.count.ensures) c.requires.0 in
-    sym (length-take-le _ _ opened.fits)
-
-pub choices-branches-requires-2 : goal.choices-branches-requires-2
-choices-branches-requires-2 g t c κs within =
-    let W = c.args.w in
-    let R = c.args.rest.now in
-    let k = choice.is_alt W c.requires.1 (λ z. c.if-kind-eq-JUMP_RANGE.false (c.kind.ensures ∙ z)) in
-    let s = c.from-size.ensures ∙ c.count.ensures in
-    let opened = choice.opened W R k s c.requires.0 in
-    (omega (arith, length_from c.from-size.result R), (within, (opened.inside, choice.alone_sound W R k s c.requires.0)))
+    let after = c.match-split_first.from in
+    let handed : Handed W R c.from-size.result after.0.now after.1 after.2 =
+    elim c.match-split_first.branch [
+      | choices-in-Some w ↦ rw w.from-is (choice.ranged W R k s w.in-Some.field-0-0.now _ w.in-Some.ensures.cases.0 (omega arith) w.first-in-Some.ensures w.second-in-Some.ensures c.requires.0)
+      | choices-in_default w ↦ rw w.from-is (choice.alone W R k s c.requires.0)
+    ] in
+    (omega (arith, handed.fewer), (within, ((choice.opened W R k s c.requires.0).inside, handed.sound)))
 
 pub choices-returns : goal.choices-returns
 choices-returns g t c =
     let o = g.W.Way.order in
-    let k = choice.is_alt c.args.w c.requires.1 (λ z. c.if-kind-eq-JUMP_RANGE.false (c.kind.ensures ∙ z)) in
-    c.branches-2.ensures ∙ ap answer (choice.alt_alone c.args.w c.args.rest.now k (c.from-size.ensures ∙ c.count.ensures) o (seen o c.args.mem.now))
+    let W = c.args.w in
+    let R = c.args.rest.now in
+    let k = choice.is_alt W c.requires.1 (λ z. c.if-kind-eq-JUMP_RANGE.false (c.kind.ensures ∙ z)) in
+    let s = c.from-size.ensures ∙ c.count.ensures in
+    let after = c.match-split_first.from in
+    let handed : Handed W R c.from-size.result after.0.now after.1 after.2 =
+    elim c.match-split_first.branch [
+      | choices-in-Some w ↦ rw w.from-is (choice.ranged W R k s w.in-Some.field-0-0.now _ w.in-Some.ensures.cases.0 (omega arith) w.first-in-Some.ensures w.second-in-Some.ensures c.requires.0)
+      | choices-in_default w ↦ rw w.from-is (choice.alone W R k s c.requires.0)
+    ] in
+    c.branches.ensures ∙ ap answer (handed.same o (seen o c.args.mem.now))
 
 pub jumps-loop-n-init : goal.jumps-loop-n-init
 jumps-loop-n-init g t c =
