@@ -11,7 +11,7 @@ use Rattle.def_compiling.specs.ProgramWords.{words_for, words_of, nodes}
 use Rattle.def_compiling.specs.Compiling.{jump_of, pair_by, add}
 use Rattle.emit.specs.declared.Addend.{Addend}
 use Rattle.emit.specs.declared.Addend.TheVariants.{Word, Gap}
-use Rattle.emit.specs.Items.{byte_in, mask_item, not_mask_item, jump_item, entry_item, addend_of, growing, last_of, Behind, put_count, put_last, put_out}
+use Rattle.emit.specs.Items.{byte_in, mask_item, not_mask_item, jump_item, entry_item, addend_of, growing, last_of, put_count, put_last, put_out}
 
 -- the words of p stand at the front of what was o, there are n of them, and the last node is as told
 pub record Holds (p : Prog) (o out : List ℕ) (n : ℕ) (last : Option ℕ) : Type 0 where
@@ -109,17 +109,6 @@ add_grown (i ▹ (k ▹ p)) l m e h =
     let (q, f, g) = add_grown (k ▹ p) l m e h in
     (i ▹ q, ap (λ (x : Prog). i ▹ x) f, ap (λ (x : Prog). i ▹ x) g)
 
-grown_behind : (p : Prog) (n l : ℕ) → n ≡ nodes p → last_of p ≡ Some l → 1 ≤ n
-unfolding last_of words_of
-grown_behind end n l e f = let z : ◌≡◌ {A = ℕ} 0 1 = cc in absurd (omega arith)
-grown_behind (i ▹ p) n l e f = omega (arith, e, length-append (words_for i) (words_of p), some_word i)
-  where
-    some_word : (j : Item) → 1 ≤ length (words_for j)
-    some_word (one t) = omega arith
-    some_word (jump m) = omega arith
-    some_word (range a b) = omega arith
-    some_word (alt bs) = omega arith
-
 module _ (p : Prog) (o out : List ℕ) (n : ℕ) (last : Option ℕ) (h : Holds p o out n last) where
   room : n < length out → n < length o
   room r = let e = h.count in omega (arith, ap length h.front, length-append (words_of p) (drop n o), length-drop n o)
@@ -157,14 +146,6 @@ module _ (p : Prog) (o out : List ℕ) (n : ℕ) (last : Option ℕ) (h : Holds 
             ∙ sym (append_assoc (words_of q) (word 3 (l + m) 0 ∷ []) (drop n o))
             ∙ ap (λ (x : List ℕ). x ++ drop n o) (sym vs);
       }
-
-  pub holds_behind : Behind n last
-  unfolding Grown words_of
-  holds_behind = go last h.tail
-    where
-      go : (x : Option ℕ) → x ≡ last_of p → Behind n x
-      go None e = tt
-      go (Some l) e = grown_behind p n l h.count (sym e)
 
   put_jump : (m : ℕ) (x : Option ℕ) → x ≡ last → n < length out → Holds (add p (jump m)) o (put_out out n x (Gap m)) (put_count n x (Gap m)) (put_last x (Gap m))
   unfolding put_out put_count put_last words_of growing jump_of

@@ -9,7 +9,7 @@ use Rattle.def_meaning.specs.Words.{field_size, word_for}
 use Rattle.def_compiling.specs.Compiling.{jump_of}
 use Rattle.emit.specs.declared.Addend.{Addend}
 use Rattle.emit.specs.declared.Addend.TheVariants.{Word, Gap}
-use Rattle.std.specs.Prelude.{Option, Some, None}
+use Rattle.std.specs.Prelude.{Option, Some, None, IfSome}
 
 -- the item of an entry, by its kind and its first two values; values that a text can spell are their own remainders
 unfoldable pub mask_item : ℕ → ℕ → Item
@@ -54,8 +54,7 @@ last_of (i ▹ (k ▹ p)) = last_of (k ▹ p)
 
 -- a jump that may grow stands before the next word
 abbrev pub Behind : ℕ → Option ℕ → Type 0
-Behind n (Some m) = 1 ≤ n
-Behind n None = Unit {0}
+Behind n last = IfSome last (λ _. 1 ≤ n)
 
 -- the length of the last node, where a jump so long enlarges it
 unfoldable pub grown_of : Option ℕ → ℕ → Option ℕ

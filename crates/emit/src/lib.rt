@@ -3,6 +3,7 @@
 #![tactic(auto)]
 
 ghost use Rattle.std.specs.Prelude.{◌≡◌, true, false, not, ◌||◌, leb, ◌++◌, ◌+◌, ◌*◌, ◌-◌, ◌≤◌, ◌<◌, Some, None, length, get_or, drop, set};
+ghost use Rattle.std.proofs.Props.{props};
 ghost use Rattle.def_meaning.specs.Limits.{branch_limit, token_pool};
 ghost use Rattle.def_meaning.specs.Programs.{alt};
 ghost use Rattle.def_meaning.specs.NodeWords.{word};
@@ -38,6 +39,8 @@ pub struct Written {
     pub count: usize,
     pub last: Option<Field>,
     pub long: bool,
+    // A jump that may grow stands before the next word.
+    ghost behind: { Behind count last } by { Prim.hlevel props },
 }
 
 // The value and the mask of `?X` and `X?`; `??` has none. The values that a text can spell are below 16: the remainder spares a requirement.
@@ -111,29 +114,30 @@ impl Written {
 
     // Adding a jump enlarges the last node where it may grow, else appends.
     fn add_jump(self, out: &mut [NodeWord], len: Field) -> Self
-        requires { (self.count < length out.old) × Behind self.count self.last }
+        requires { self.count < length out.old }
         ensures { (result.count ≡ put_count self.count self.last (Gap len)) × (result.last ≡ put_last self.last (Gap len))
             × (out.new ≡ put_out out.old self.count self.last (Gap len)) × (result.long ≡ self.long) }
     {
         if let Some(sum) = self.grown(len) {
             out[self.count - 1] = Node::Jump(sum).into();
             return Self {
+                count: self.count,
                 last: Some(sum),
-                ..self
+                long: self.long,
             };
         }
         out[self.count] = Node::Jump(len).into();
         Self {
             count: self.count + 1,
             last: Some(len),
-            ..self
+            long: self.long,
         }
     }
 
     // One addend more.
     #[tactic(auto, unfolding(crate::specs::Items::put_count, crate::specs::Items::put_last, crate::specs::Items::put_out))]
     fn add(self, out: &mut [NodeWord], addend: Addend) -> Self
-        requires { (self.count < length out.old) × Behind self.count self.last }
+        requires { self.count < length out.old }
         ensures { (result.count ≡ put_count self.count self.last addend) × (result.last ≡ put_last self.last addend)
             × (out.new ≡ put_out out.old self.count self.last addend) × (result.long ≡ self.long) }
     {
@@ -143,7 +147,7 @@ impl Written {
                 Self {
                     count: self.count + 1,
                     last: None,
-                    ..self
+                    long: self.long,
                 }
             }
             Addend::Gap(len) => self.add_jump(out, len),
@@ -154,7 +158,7 @@ impl Written {
     #[tactic(auto, using(crate::proofs::AltLaws::size_least))]
     fn add_token(self, tokens: &[u32], at: usize, backwards: bool, out: &mut [NodeWord]) -> Self
         requires { Stands tokens.now at × (length tokens.now ≤ token_pool)
-            × (4 * self.count + size_at tokens.now at ≤ 4 * length out.old) × Behind self.count self.last }
+            × (4 * self.count + size_at tokens.now at ≤ 4 * length out.old) }
         ensures { (result.count ≡ item_count self.count self.last (token_at backwards tokens.now at))
             × (result.last ≡ item_last self.last (token_at backwards tokens.now at))
             × (result.long ≡ (self.long || not (short_of (token_at backwards tokens.now at))))

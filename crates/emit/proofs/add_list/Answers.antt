@@ -10,11 +10,6 @@ loop-k-init c =
     let (n, last, long) = c.nothing-written.ensures in
     (omega arith, refl, rw (n, last) (law.added_none (list_item c.args.backwards c.args.entries.now) c.args.out.now))
 
-pub add-written-requires : goal.add-written-requires
-add-written-requires c =
-    let l = c.loop-k in
-    (omega (arith, c.requires), hold.holds_behind _ c.args.out.now l.out l.written.count l.written.last l.invariant.2)
-
 pub loop-k-preserved : goal.loop-k-preserved
 loop-k-preserved c =
     let l = c.loop-k in

@@ -2,7 +2,6 @@
 use Rattle.std.proofs.Common.{ℕ, ap, ◌∙◌, get_or, arith}
 use Rattle.emit.proofs.TokensLaws as law
 use Rattle.emit.proofs.LinkLaws as link
-use Rattle.emit.proofs.HoldLaws as hold
 use Rattle.emit.proofs.add_tokens.Goals as goal
 
 pub loop-k-init : goal.loop-k-init
@@ -23,7 +22,6 @@ add_token-written-requires c =
             (c.from-at.ensures ∙ ap (λ (i : ℕ). get_or c.args.starts.now i 0) c.place.ensures.0),
         c.requires.2,
       ),
-      hold.holds_behind _ c.args.out.now l.out w.count w.last l.invariant.held,
     )
 
 pub loop-k-preserved : goal.loop-k-preserved

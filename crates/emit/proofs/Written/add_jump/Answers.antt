@@ -6,7 +6,12 @@ use Rattle.emit.proofs.Written.add_jump.Goals as goal
 pub overflow_sub-out : goal.overflow_sub-out
 overflow_sub-out c =
     let w = c.args.self in
-    law.grown_behind w.count w.last c.args.len c.in-Some.sum (sym c.in-Some.is ∙ c.grown.ensures) c.requires.1
+    law.grown_behind w.count w.last c.args.len c.in-Some.sum (sym c.in-Some.is ∙ c.grown.ensures) w.behind
+
+pub invariant_of-result : goal.invariant_of-result
+invariant_of-result c =
+    let w = c.args.self in
+    record { behind = law.grown_behind w.count w.last c.args.len c.in-Some.sum (sym c.in-Some.is ∙ c.grown.ensures) w.behind }
 
 pub returns-in-Some : goal.returns-in-Some
 returns-in-Some c =
