@@ -3,6 +3,7 @@
 #![tactic(auto)]
 
 ghost use Rattle.std.specs.Prelude.{◌≡◌, ◌≤◌, length, take};
+ghost use Rattle.std.specs.Io.{ReadsAtMost};
 ghost use Rattle.lister.specs.Listings.{listing_of, listing_limit};
 ghost use Rattle.console.specs.Inputs.{Within};
 
@@ -21,8 +22,10 @@ const USAGE: &str =
 
 // Reads until the buffer is full or the input ends, and answers how many bytes stand before that. A reader gives as many at a time as it likes, so a
 // loop counts them. (Read::read_exact takes an input that ends before the buffer is full for an error.)
-fn fill<R: Read>(from: &mut R, buf: &mut [u8]) -> io::Result<usize>
-    ensures { Within result (length buf.old) }
+pub fn fill<R: Read>(from: &mut R, buf: &mut [u8]) -> io::Result<usize>
+    ensures fits { Within result (length buf.old) }
+    ensures within { ReadsAtMost result buf.new }
+    ensures kept { length buf.new ≡ length buf.old }
 {
     let mut done = 0;
     while done < buf.len() {

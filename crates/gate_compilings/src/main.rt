@@ -1,16 +1,15 @@
 // Compiles texts from standard input, one on each line, and writes what the compiling door answers and leaves.
 #![tactic(auto)]
 
-use gatekit::Style;
 use nodes::NodeWord;
 use std::io;
 
 // A pool: how many words are used, what is left of it, and no more than sixteen of the used words.
-fn left<P: Print>(rt: &P, name: &[u8], pool: &[NodeWord], used: usize) -> io::Result<()> {
-    gatekit::tell(rt, name, used as u64)?;
+fn left<P: Print>(rt: &P, name: &str, pool: &[NodeWord], used: usize) -> io::Result<()> {
+    print!(rt; "{name}{used}")?;
     gatekit::left(rt, pool, used, 512)?;
-    gatekit::words(rt, pool, used.min(16), Style::Decimal)?;
-    rt.write_all(b"\n")
+    gatekit::words(rt, pool, used.min(16))?;
+    print!(rt; "\n")
 }
 
 // Compiles a text into pools, and tells what is left in them.
@@ -22,13 +21,13 @@ fn line<P: Print>(
 ) -> io::Result<()> {
     match compiledoor::compile(text, forward, reverse) {
         Ok(made) => {
-            left(rt, b"forward ", forward, made.forward)?;
-            left(rt, b"reverse ", reverse, made.reverse)
+            left(rt, "forward ", forward, made.forward)?;
+            left(rt, "reverse ", reverse, made.reverse)
         }
         Err(refused) => {
-            gatekit::refused(rt, refused.why, refused.place)?;
-            left(rt, b" forward ", forward, 0)?;
-            left(rt, b" reverse ", reverse, 0)
+            gatekit::refused(rt, refused)?;
+            left(rt, " forward ", forward, 0)?;
+            left(rt, " reverse ", reverse, 0)
         }
     }
 }
@@ -40,10 +39,8 @@ const SHORT: [NodeWord; 511] = [gatekit::OLD; 511];
 
 fn main(rt: HostRuntime) -> io::Result<()> {
     let mut input = [0u8; 32768];
-    let n = gatekit::read_full(&mut rt.reader(), &mut input)?;
-    for text in input[..n].split_inclusive(|c| *c == b'\n') {
-        line(&rt, gatekit::without_end(text), &mut LONG, &mut LONG)?;
-    }
+    let n = console::fill(&mut rt.reader(), &mut input)?;
+    gatekit::each_line(&input[..n], |text| line(&rt, text, &mut LONG, &mut LONG))?;
     line(&rt, b"{ AB }", &mut LONG, &mut SHORT)?;
     line(&rt, b"{ AG }", &mut SHORT, &mut LONG)
 }

@@ -42,7 +42,7 @@ fn try_outputs(rt: &HostRuntime, said: &Said) -> io::Result<()> {
 fn tell(rt: &HostRuntime, path: &str) -> io::Result<()> {
     let mut lines = [0u8; 4096];
     let mut file = fs::open(rt, path)?;
-    let n = gatekit::read_full(&mut file, &mut lines)?;
+    let n = console::fill(&mut file, &mut lines)?;
     rt.write_all(&lines[..n])
 }
 

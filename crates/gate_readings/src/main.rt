@@ -3,28 +3,34 @@
 
 ghost use Rattle.std.specs.Prelude.{◌<◌, ◌≤◌, length, IfSome};
 
-use gatekit::Style;
 use std::io;
 
 fn left<P: Print>(rt: &P, pool: &[u32], used: usize) -> io::Result<()> {
-    gatekit::tokens_left(rt, pool, used, 4096)?;
-    rt.write_all(b"\n")
+    gatekit::left(rt, pool, used, 4096)?;
+    print!(rt; "\n")
+}
+
+// The first entries of a pool, which have four words each.
+fn entries<P: Print>(rt: &P, pool: &[u32], count: usize) -> io::Result<()> {
+    let (entries, _) = pool.as_chunks::<4>();
+    for [a, b, c, d] in entries.iter().take(count) {
+        print!(rt; "{a} {b} {c} {d}\n")?;
+    }
+    Ok(())
 }
 
 fn one<P: Print>(rt: &P, text: &[u8], pool: &mut [u32]) -> io::Result<()> {
-    let r = readdoor::read(text, pool);
-    match r {
+    match readdoor::read(text, pool) {
         Ok(read) => {
-            gatekit::tell(rt, b"read ", read.end as u64)?;
-            gatekit::tell(rt, b" words ", read.words as u64)?;
+            print!(rt; "read {} words {}", read.end, read.words)?;
             left(rt, pool, read.words)?;
             if read.words <= 64 {
-                gatekit::tokens(rt, pool, read.words, Style::Entries)?;
+                entries(rt, pool, read.words / 4)?;
             }
             Ok(())
         }
         Err(refused) => {
-            gatekit::refused(rt, refused.why, refused.place)?;
+            gatekit::refused(rt, refused)?;
             left(rt, pool, 0)
         }
     }
@@ -61,7 +67,7 @@ fn run<P: Print>(rt: &P, input: &[u8]) -> io::Result<()> {
 
 fn main(rt: HostRuntime) -> io::Result<()> {
     let mut input = [0u8; 65536];
-    let n = gatekit::read_full(&mut rt.reader(), &mut input)?;
+    let n = console::fill(&mut rt.reader(), &mut input)?;
     run(&rt, &input[..n])?;
     // A word less than a call wants.
     into::<4095, _>(&rt, b"{ AB }")?;

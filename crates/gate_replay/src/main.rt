@@ -6,18 +6,11 @@ use std::io;
 fn line<R: Print + Eprint>(rt: &R, text: &[u8]) -> io::Result<()> {
     gatekit::show(rt, text)?;
     console::show(text, &mut io::writer(rt), rt);
-    rt.write_all(b"\n")
-}
-
-fn lines<R: Print + Eprint>(rt: &R, texts: &[u8]) -> io::Result<()> {
-    for l in texts.split_inclusive(|c| *c == b'\n') {
-        line(rt, gatekit::without_end(l))?;
-    }
-    Ok(())
+    print!(rt; "\n")
 }
 
 fn main(rt: HostRuntime) -> io::Result<()> {
     let mut texts = [0u8; 65536];
     let n = gatekit::load(&rt, b"texts", &mut texts)?;
-    lines(&rt, &texts[..n])
+    gatekit::each_line(&texts[..n], |text| line(&rt, text))
 }

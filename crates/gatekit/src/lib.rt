@@ -6,154 +6,78 @@ ghost use Rattle.std.specs.Prelude.{◌≡◌, ◌≢◌, ℕ, ◌<◌, ◌≤�
 ghost use Rattle.std.specs.Io.{ReadsAtMost};
 ghost use Rattle.std.specs.Io.BufRead.{strip_last};
 
-use base::Refusal;
+use base::{Refusal, Refused};
 use nodes::NodeWord;
-use std::io::Read;
+use std::fmt::Display;
 use std::rt::Files;
 use std::{fs, io};
 
 // The words of a pool hold this before a call, so that what stays shows.
 pub const OLD: NodeWord = 7;
 
-// The same in a pool for tokens, and how many words such a pool has at most.
+// The same in a pool for tokens, which has narrower words.
 pub const OLD_TOKEN: u32 = 7;
 
-pub const TOKENS: usize = 4100;
-
-// How words are laid out: with a blank before each, or a token's entry to a line.
-#[derive(Clone, Copy)]
-pub enum Style {
-    Decimal,
-    Hex,
-    Entries,
-}
-
-// The smaller of two.
-pub fn least(n: usize, most: usize) -> usize
-    ensures { result ≤ most }
-{
-    if n < most { n } else { most }
-}
-
-// A text, and a number after it.
-pub fn tell<P: Print>(rt: &P, text: &[u8], n: u64) -> io::Result<()> {
-    rt.write_all(text)?;
-    rt.print(n)
-}
-
-pub fn refused<P: Print>(rt: &P, why: Refusal, place: usize) -> io::Result<()> {
-    tell(rt, b"refused ", why.number() as u64)?;
-    tell(rt, b" at ", place as u64)
+pub fn refused<P: Print>(rt: &P, r: Refused) -> io::Result<()> {
+    print!(rt; "refused {} at {}", r.why.number(), r.place)
 }
 
 // What a check answers, after a blank.
 pub fn found<P: Print>(rt: &P, r: Result<Option<usize>, Refusal>) -> io::Result<()> {
     match r {
-        Ok(Some(n)) => tell(rt, b" ", n as u64),
-        Ok(None) => rt.write_all(b" no"),
-        Err(why) => tell(rt, b" refused ", why.number() as u64),
+        Ok(Some(n)) => print!(rt; " {n}"),
+        Ok(None) => print!(rt; " no"),
+        Err(why) => print!(rt; " refused {}", why.number()),
     }
 }
 
-// An entry has four words.
-fn entry_word<P: Print>(rt: &P, w: u64, i: usize) -> io::Result<()> {
-    let after = if i % 4 == 3 { "\n" } else { " " };
-    print!(rt; "{w}{after}")
-}
-
-// Word number i.
-fn word<P: Print>(rt: &P, w: NodeWord, i: usize, style: Style) -> io::Result<()> {
-    match style {
-        Style::Decimal => tell(rt, b" ", w),
-        Style::Hex => print!(rt; " {w:x}"),
-        Style::Entries => entry_word(rt, w, i),
-    }
-}
-
-// The first n words of a pool.
-pub fn words<P: Print>(rt: &P, pool: &[NodeWord], n: usize, style: Style) -> io::Result<()> {
-    for (i, w) in pool.iter().take(n).enumerate() {
-        word(rt, *w, i, style)?;
+// The first n words of a pool, a blank before each.
+pub fn words<P: Print, T: Display>(rt: &P, pool: &[T], n: usize) -> io::Result<()> {
+    for w in pool.iter().take(n) {
+        print!(rt; " {w}")?;
     }
     Ok(())
 }
 
-fn one_if(v: NodeWord, w: NodeWord) -> usize
-    ensures { result ≤ 1 }
-{
-    if v == w { 1 } else { 0 }
-}
-
-// How many words from `from` up to `to` hold `v`.
-fn holding(pool: &[NodeWord], from: usize, to: usize, v: NodeWord) -> usize {
-    let mut found = 0;
-    let mut i = from;
-    while i < to {
-        if pool.len() <= i {
-            return found;
-        }
-        found += one_if(pool[i], v);
-        i += 1;
-    }
-    found
+// How many of the words hold `v`.
+fn holding<T: Copy + Into<u64>>(words: &[T], v: u64) -> usize {
+    words.iter().filter(|w| v == (**w).into()).count()
 }
 
 // What a call left in a pool of which it may write `size` words: how many of them are 0 after the used ones, and how many beyond are as before.
-pub fn left<P: Print>(rt: &P, pool: &[NodeWord], used: usize, size: usize) -> io::Result<()> {
-    tell(rt, b" zeros ", holding(pool, used, size, 0) as u64)?;
-    tell(rt, b" old ", holding(pool, size, pool.len(), OLD) as u64)
-}
-
-fn wide(w: u32) -> NodeWord {
-    w as NodeWord
-}
-
-// Tokens, which have narrower words: widened, they are told as the words of a program are.
-fn widen(tokens: &[u32], out: &mut [NodeWord]) {
-    for (word, token) in out.iter_mut().zip(tokens) {
-        *word = wide(*token);
-    }
-}
-
-pub fn tokens<P: Print>(rt: &P, pool: &[u32], n: usize, style: Style) -> io::Result<()> {
-    let mut wide: [NodeWord; TOKENS] = [0; TOKENS];
-    widen(pool, &mut wide);
-    words(rt, &wide, n, style)
-}
-
-pub fn tokens_left<P: Print>(rt: &P, pool: &[u32], used: usize, size: usize) -> io::Result<()> {
-    let mut wide: [NodeWord; TOKENS] = [0; TOKENS];
-    widen(pool, &mut wide);
-    let n = least(pool.len(), TOKENS);
-    left(rt, &wide[0..n], used, size)
-}
-
-fn digit(v: u8) -> u8
-    requires { v ≤ 15 }
-{
-    if v < 10 { 48 + v } else { 55 + v }
-}
-
-// A byte as two digits.
-fn pair<P: Print>(rt: &P, b: u8) -> io::Result<()> {
-    let two = [digit(b / 16), digit(b % 16)];
-    rt.write_all(&two)
+pub fn left<P: Print, T: Copy + Into<u64>>(
+    rt: &P,
+    pool: &[T],
+    used: usize,
+    size: usize,
+) -> io::Result<()> {
+    let (lent, beyond) = pool.split_at(size.min(pool.len()));
+    let unused = &lent[used.min(lent.len())..];
+    print!(rt;
+        " zeros {} old {}",
+        holding(unused, 0),
+        holding(beyond, OLD)
+    )
 }
 
 // A blank, and bytes in hex.
 pub fn hex<P: Print>(rt: &P, bytes: &[u8]) -> io::Result<()> {
-    rt.write_all(b" ")?;
+    print!(rt; " ")?;
     for b in bytes {
-        pair(rt, *b)?;
+        print!(rt; "{b:02X}")?;
     }
     Ok(())
 }
 
-// The value of a hex digit.
-pub fn value(c: u8) -> u8
+// The value of a hex digit, and 0 of any other byte.
+fn value(c: u8) -> u8
     ensures { result ≤ 15 }
 {
-    digits::hex_digit(c).map_or(0, |v| v.min(15))
+    match char::from(c).to_digit(16) {
+        // `as`: a digit's value is below 16, and no From makes a number narrower.
+        Some(v) => v as u8,
+        None => 0,
+    }
 }
 
 // The bytes that are spelt in hex, as far as there is room; how many they are.
@@ -161,42 +85,44 @@ pub fn unhex(hex: &[u8], out: &mut [u8]) -> usize
     ensures in_bounds { result ≤ length out.new }
     ensures prefix { result ≡ length (take result out.new) }
 {
-    for n in 0..out.len() {
-        if hex.len() / 2 <= n {
-            return n;
-        }
-        out[n] = 16 * value(digits::peek(hex, 2 * n)) + value(digits::peek(hex, 2 * n + 1));
+    let (pairs, _) = hex.as_chunks::<2>();
+    for (place, [high, low]) in out.iter_mut().zip(pairs) {
+        *place = 16 * value(*high) + value(*low);
     }
-    out.len()
+    out.len().min(pairs.len())
 }
 
 // The first bytes of a line.
 pub fn show<P: Print>(rt: &P, line: &[u8]) -> io::Result<()> {
-    let n = least(64, line.len());
-    rt.write_all(&line[0..n])?;
-    rt.write_all(b"\n")
+    rt.write_all(&line[..line.len().min(64)])?;
+    print!(rt; "\n")
 }
 
 // Writes a heading as it is. Whether the line is one.
 pub fn heading<P: Print>(rt: &P, line: &[u8]) -> io::Result<bool> {
-    if digits::peek(line, 0) != b'#' {
+    if !line.starts_with(b"#") {
         return Ok(false);
     }
     rt.write_all(line)?;
-    rt.write_all(b"\n")?;
+    print!(rt; "\n")?;
     Ok(true)
+}
+
+// Each line of a text, without its end.
+pub fn each_line<F: FnMut(&[u8]) -> io::Result<()>>(text: &[u8], mut line: F) -> io::Result<()>
+    requires { F.IsAlwaysCallable line }
+{
+    for l in text.split_inclusive(|c| *c == b'\n') {
+        line(without_end(l))?;
+    }
+    Ok(())
 }
 
 // A line of a text that was split behind each end of a line, without that end.
 pub fn without_end(line: &[u8]) -> &[u8]
     ensures { result.now ≡ strip_last 10 line.now }
 {
-    let n = line.len();
-    if n > 0 && line[n - 1] == b'\n' {
-        &line[..n - 1]
-    } else {
-        line
-    }
+    line.strip_suffix(b"\n").unwrap_or(line)
 }
 
 // Where a line's first blank stands, or the line's length.
@@ -205,26 +131,7 @@ pub fn blank(line: &[u8]) -> usize
     ensures before { (i : ℕ) → i < result → slice_index line.now i ≢ 32 }
     ensures there { result < length line.now → slice_index line.now result ≡ 32 }
 {
-    match line.iter().position(|c| *c == b' ') {
-        Some(at) => at,
-        None => line.len(),
-    }
-}
-
-// The bytes of an input, as far as there is room; how many they are.
-pub fn read_full<R: Read>(from: &mut R, out: &mut [u8]) -> io::Result<usize>
-    ensures within { ReadsAtMost result out.new }
-    ensures kept { length out.new ≡ length out.old }
-{
-    let mut done = 0;
-    while done < out.len() {
-        let more = from.read(&mut out[done..])?;
-        if more == 0 {
-            break;
-        }
-        done += more;
-    }
-    Ok(done)
+    line.iter().position(|c| *c == b' ').unwrap_or(line.len())
 }
 
 // The bytes of a file, as far as there is room; how many they are. Where it cannot be opened it says so.
@@ -247,7 +154,7 @@ fn load_named<R: Files + Eprint>(rt: &R, path: &str, out: &mut [u8]) -> io::Resu
     ensures kept { length out.new ≡ length out.old }
 {
     match fs::open(rt, path) {
-        Ok(mut file) => read_full(&mut file, out),
+        Ok(mut file) => console::fill(&mut file, out),
         Err(why) => {
             eprintln!(rt; "{path}: {why}")?;
             Ok(0)
