@@ -23,11 +23,12 @@ fn shortest_in(ws: &[u32]) -> usize
 }
 
 // A higher rank, then a longer shortest literal.
-fn wins(new: &[u32], n: u32, old: &[u32], m: u32) -> bool
-    requires { Measured (tokens_in new.now) × Measured (tokens_in old.now) }
-    ensures { result ≡ beats n (tokens_in new.now) m (tokens_in old.now) }
+fn wins(ws: &[u32], new: Pick, old: Pick) -> bool
+    requires { Kept ws.now (Some new) × Kept ws.now (Some old) }
+    ensures { result ≡ beats new.rank (tokens_in (take (new.to - new.from) (drop new.from ws.now))) old.rank (tokens_in (take (old.to - old.from) (drop old.from ws.now))) }
 {
-    m < n || (m == n && shortest_in(old) < shortest_in(new))
+    old.rank < new.rank
+        || (old.rank == new.rank && shortest_in(old.words(ws)) < shortest_in(new.words(ws)))
 }
 
 // Between two runs: the one that beats the other, else the earlier.
@@ -38,16 +39,7 @@ fn better(ws: &[u32], top: Option<Pick>, new: Pick) -> Pick
     let Some(old) = top else {
         return new;
     };
-    if wins(
-        &ws[new.from..new.to],
-        new.rank,
-        &ws[old.from..old.to],
-        old.rank,
-    ) {
-        new
-    } else {
-        old
-    }
+    if wins(ws, new, old) { new } else { old }
 }
 
 // What wins in a run of n words from `from` on, as words of all. It is cut to the run, past whose end there is nothing to choose.

@@ -44,7 +44,7 @@ fn write_winner(
             rank: 0,
         });
     };
-    let count = generator::write_all(&ws[taken.from..taken.to], bytes, lengths)?;
+    let count = generator::write_all(taken.words(ws), bytes, lengths)?;
     Ok(Picked {
         reached,
         count,

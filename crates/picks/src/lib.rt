@@ -2,7 +2,7 @@
 // What wins so far, and one more slice against it.
 #![tactic(auto)]
 
-ghost use Rattle.std.specs.Prelude.{◌≡◌, true, List, ℕ, ◌-◌, take, drop, Some};
+ghost use Rattle.std.specs.Prelude.{◌≡◌, true, List, ℕ, ◌-◌, ◌≤◌, length, take, drop, Some};
 ghost use Rattle.base.specs.declared.Refusal.TheVariants.{TooManyLiterals};
 ghost use Rattle.def_picking.specs.Runs.{Slice};
 ghost use Rattle.def_picking.specs.Candidates.{ranked, widened, against};
@@ -37,6 +37,16 @@ pub type Winner = Result<Option<Pick>, TooMany>;
 
 // A slice's rank, if it is not skipped, or too many literals.
 pub type Rank = Result<Option<u32>, TooMany>;
+
+impl Pick {
+    // The words that are taken of a run.
+    pub fn words(self, run: &[u32]) -> &[u32]
+        requires { (self.from ≤ self.to) × (self.to ≤ length run.now) }
+        ensures { result.now ≡ take (self.to - self.from) (drop self.from run.now) }
+    {
+        &run[self.from..self.to]
+    }
+}
 
 // No rank up to this one changes what is chosen.
 pub fn beaten(best: Winner, rank: u32) -> bool

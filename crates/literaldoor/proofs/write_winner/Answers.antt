@@ -11,9 +11,9 @@ returns-in_default c = rw c.in_default.is (law.nothing_chosen c.args.reached c.a
 pub returns-in_err-count : goal.returns-in_err-count
 returns-in_err-count c =
     let said = law.raised c.from_residual.result c.in_err-count.field-0.0 0 c.from_residual.ensures.1 in
-    let h = law.none_written c.args.reached (literalsOf (tokens_in (take (c.in-Some.taken.to - c.in-Some.taken.from) (drop c.in-Some.taken.from c.args.ws.now)))) c.in-Some.taken.rank c.write_all.result c.args.bytes.now c.args.lengths.now c.write_all.new.bytes c.write_all.new.lengths c.write_all.ensures c.in_err-count.field-0.0 c.in_err-count.was in
+    let h = law.none_written c.args.reached (literalsOf (tokens_in (take (c.in-Some.taken.to - c.in-Some.taken.from) (drop c.in-Some.taken.from c.args.ws.now)))) c.in-Some.taken.rank c.write_all.result c.args.bytes.now c.args.lengths.now c.write_all.new.bytes c.write_all.new.lengths (rw c.words.ensures at c.write_all.ensures) c.in_err-count.field-0.0 c.in_err-count.was in
     rw c.in-Some.is (law.words_chosen c.args.reached c.args.ws.now c.in-Some.taken c.args.bytes.now c.args.lengths.now _ _ _ (said ∙ h.0, h.1, h.2))
 
 pub returns : goal.returns
 returns c =
-    rw c.in-Some.is (law.words_chosen c.args.reached c.args.ws.now c.in-Some.taken c.args.bytes.now c.args.lengths.now _ _ _ (law.all_written c.args.reached (literalsOf (tokens_in (take (c.in-Some.taken.to - c.in-Some.taken.from) (drop c.in-Some.taken.from c.args.ws.now)))) c.in-Some.taken.rank c.write_all.result c.args.bytes.now c.args.lengths.now c.write_all.new.bytes c.write_all.new.lengths c.write_all.ensures c.in_ok-count.count c.in_ok-count.was))
+    rw c.in-Some.is (law.words_chosen c.args.reached c.args.ws.now c.in-Some.taken c.args.bytes.now c.args.lengths.now _ _ _ (law.all_written c.args.reached (literalsOf (tokens_in (take (c.in-Some.taken.to - c.in-Some.taken.from) (drop c.in-Some.taken.from c.args.ws.now)))) c.in-Some.taken.rank c.write_all.result c.args.bytes.now c.args.lengths.now c.write_all.new.bytes c.write_all.new.lengths (rw c.words.ensures at c.write_all.ensures) c.in_ok-count.count c.in_ok-count.was))
