@@ -1,6 +1,5 @@
 -- The runs of a pattern, one after another, and the first segment last. Assumes nothing.
-use Rattle.std.proofs.Common.{◌≡◌, refl, sym, ap, ap₂, ◌∙◌, subst, List, [], ◌∷◌, ◌++◌, ℕ, ◌+◌, ◌-◌, ◌≤◌, ◌<◌, arith, length, take, drop, length-drop, Option, None}
-use lib.Seq.{drop-drop}
+use Rattle.std.proofs.Common.{◌≡◌, refl, sym, ap, ap₂, ◌∙◌, subst, List, [], ◌∷◌, ◌++◌, ℕ, ◌+◌, ◌-◌, ◌≤◌, ◌<◌, arith, length, take, drop, length-drop, Option, None, drop-drop}
 use Rattle.def_meaning.specs.Limits.{token_pool}
 use Rattle.def_meaning.specs.Tokens.{Tokens, nothing, ◌then◌}
 use Rattle.def_meaning.proofs.PartLaws.{to_end}

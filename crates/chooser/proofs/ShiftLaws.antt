@@ -1,7 +1,6 @@
 -- A winner in a run, as one in all words; and the winner of two. Assumes nothing.
-use Rattle.std.proofs.Common.{◌≡◌, refl, sym, ap, ap₂, ◌∙◌, List, [], ◌∷◌, ℕ, zero, suc, ◌+◌, ◌-◌, ◌≤◌, ◌<◌, min, arith, ltb, eqb, length, take, drop, Option, Some}
-use lib.Seq.{drop-drop, take-nil}
-use borrow.Author.Tests.{lt-ltb, le-ltb, ne_eqb, eq-eqb}
+use Rattle.std.proofs.Common.{◌≡◌, refl, sym, ap, ap₂, ◌∙◌, List, [], ◌∷◌, ℕ, zero, suc, ◌+◌, ◌-◌, ◌≤◌, ◌<◌, min, arith, ltb, eqb, length, take, drop, Option, Some, drop-drop, lt-ltb, le-ltb, ne_eqb, eq-eqb}
+use Rattle.std.proofs.Math.Seq.{take-nil}
 use Rattle.def_meaning.specs.Tokens.{Tokens}
 use Rattle.def_picking.specs.Literals.{literals}
 use Rattle.def_picking.specs.Candidates.{least, beats, chosen}

@@ -1,6 +1,6 @@
 -- What a caller knows in each arm of a match on the answer. Assumes nothing.
-use Rattle.std.proofs.Common.{◌≡◌, refl, sym, ap, ◌∙◌, Bool, true, false, cond, List, ℕ, length, Result, Ok, Err}
-use mathlib.Core.List.{map, flatten}
+use Rattle.std.proofs.Common.{◌≡◌, refl, sym, ap, ◌∙◌, Bool, true, false, cond, List, ℕ, length, Result, Ok, Err, map}
+use mathlib.Core.List.{flatten}
 use Rattle.base.specs.declared.Refusal.{Refusal}
 use Rattle.base.specs.declared.Refusal.TheVariants.{NoRoom}
 use Rattle.generator.specs.Output.{over, fits, answered, bytes_left, lengths_left, Generated}

@@ -1,10 +1,10 @@
 -- Literals written one after another, over entries. Assumes nothing.
-use Rattle.std.proofs.Common.{◌≡◌, sym, ap, ap₂, ◌∙◌, subst, true, false, ◌⊎◌, inl, inr, List, [], ◌∷◌, ◌++◌, ℕ, ◌+◌, ◌-◌, ◌≤◌, ◌<◌, min, arith, add-one, leb, length, take, drop, length-append, drop_of_length-le, drop-cons, Ok, Err}
+use Rattle.std.proofs.Common.{◌≡◌, sym, ap, ap₂, ◌∙◌, subst, true, false, ◌⊎◌, inl, inr, List, [], ◌∷◌, ◌++◌, ℕ, ◌+◌, ◌-◌, ◌≤◌, ◌<◌, min, arith, add-one, leb, length, take, drop, length-append, drop_of_length-le, drop-cons, Ok, Err, map, le-leb}
+use Rattle.std.proofs.Math.Bool.{and-false}
+use mathlib.Core.List.{flatten}
+use borrow.Author.Tests.{lt-leb}
 use Rattle.std.proofs.Math.ListN.{set}
-use mathlib.Core.Bool.{and-false}
 use Rattle.std.proofs.lemmas.List.{length-map}
-use mathlib.Core.List.{map, flatten}
-use borrow.Author.Tests.{le-leb, lt-leb}
 use borrow.Rule.Slice.PartMut.{put_mid}
 use Rattle.tallies.specs.Tallies.{count_top}
 use Rattle.def_meaning.specs.Limits.{literal_limit}

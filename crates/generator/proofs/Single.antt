@@ -1,7 +1,7 @@
 -- A call has one outcome, and it is 01's: all literals and their lengths where both fit, and nothing where one does not. Assumes nothing.
-use Rattle.std.proofs.Common.{◌≡◌, refl, sym, ap, ◌∙◌, ◌⊎◌, List, ◌++◌, ℕ, ◌≤◌, ◌<◌, length, drop, Result, Ok, Err}
+use Rattle.std.proofs.Common.{◌≡◌, refl, sym, ap, ◌∙◌, ◌⊎◌, List, ◌++◌, ℕ, ◌≤◌, ◌<◌, length, drop, Result, Ok, Err, map}
+use mathlib.Core.List.{flatten}
 use Rattle.std.proofs.lemmas.List.{length-map}
-use mathlib.Core.List.{map, flatten}
 use Rattle.base.specs.declared.Refusal.{Refusal}
 use Rattle.base.specs.declared.Refusal.TheVariants.{NoRoom}
 use Rattle.generator.specs.Output.{over, Generated}

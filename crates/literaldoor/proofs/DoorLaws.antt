@@ -1,9 +1,8 @@
 -- From what was read and chosen to what the door says. Assumes nothing.
-use Rattle.std.proofs.Common.{◌≡◌, refl, sym, ap, ap₂, ◌∙◌, subst, Bool, true, false, cond, ◌&&◌, List, ℕ, ◌-◌, ◌≤◌, arith, leb, length, take, drop, Some, Result, Ok, Err}
+use Rattle.std.proofs.Common.{◌≡◌, refl, sym, ap, ap₂, ◌∙◌, subst, Bool, true, false, cond, ◌&&◌, List, ℕ, ◌-◌, ◌≤◌, arith, leb, length, take, drop, Some, Result, Ok, Err, le-leb}
 use mathlib.Core.List.{flatten}
 use Rattle.std.specs.Result.{IsErrAnd}
 use Rattle.std.proofs.lemmas.Result.{err_from_is_err_and}
-use borrow.Author.Tests.{le-leb}
 use Rattle.base.specs.declared.Refused.{Refused}
 use Rattle.literaldoor.specs.declared.Picked.{Picked as Answer}
 use Rattle.base.specs.declared.Refusal.{Refusal}

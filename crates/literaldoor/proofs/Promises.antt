@@ -1,8 +1,7 @@
 -- What picking a text's literals promises: its refusals exactly in their cases, the literals, that every match holds one of them, and a single
 -- outcome. Assumes nothing.
-use Rattle.std.proofs.Common.{◌≡◌, refl, sym, ap, ap₂, ◌∙◌, Bool, true, false, cond, ◌⊎◌, inl, inr, ◌↔◌, List, [], ℕ, ◌≤◌, arith, length, Result, Ok, Err}
-use mathlib.Core.Logic.{⊎_elim}
-use mathlib.Core.List.{Memᴰ, map, flatten}
+use Rattle.std.proofs.Common.{◌≡◌, refl, sym, ap, ap₂, ◌∙◌, Bool, true, false, cond, ◌⊎◌, inl, inr, ◌↔◌, List, [], ℕ, ◌≤◌, arith, length, Result, Ok, Err, ⊎_elim, map}
+use mathlib.Core.List.{Memᴰ, flatten}
 use Rattle.base.specs.declared.Refusal.{Refusal}
 use Rattle.base.specs.declared.Refusal.TheVariants.{TooManyLiterals, NotPlain}
 use Rattle.base.specs.Refusals.{number_of}

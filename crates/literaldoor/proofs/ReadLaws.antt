@@ -1,11 +1,7 @@
 -- In the tokens of every accepted text no list of alternatives is empty, and there are at most 512; so its literals have 1 to 512 bytes.
 -- Assumes nothing.
-use mathlib.Core.Path.{◌≡◌}
-use mathlib.Core.Bool.{Bool, true, false}
-use mathlib.Core.List.{List, Memᴰ}
-use Prim.Native.Nat.{ℕ, ◌≤◌, min}
-use native.Mathlib.Omega.{arith}
-use lib.ListN.{length}
+use Rattle.std.proofs.Common.{◌≡◌, Bool, true, false, List, ℕ, ◌≤◌, min, arith, length}
+use mathlib.Core.List.{Memᴰ}
 use Rattle.def_meaning.specs.Limits.{token_limit}
 use Rattle.def_meaning.specs.Values.{Filled}
 use Rattle.def_meaning.specs.Tokens.{Token, Tokens, Lists, Byte, NotByte, MaskedByte, NotMaskedByte, Jump, Alternatives, nothing, ◌then◌, neither, ◌or◌, total}

@@ -1,9 +1,5 @@
 -- What the chooser asks of the words of an accepted text. Assumes nothing.
-use mathlib.Core.Path.{◌≡◌, sym, ap, ◌∙◌, subst}
-use mathlib.Core.Bool.{true}
-use mathlib.Core.List.{List, [], ◌∷◌}
-use Prim.Native.Nat.{ℕ, ◌≤◌}
-use lib.ListN.{length}
+use Rattle.std.proofs.Common.{◌≡◌, sym, ap, ◌∙◌, subst, true, List, [], ◌∷◌, ℕ, ◌≤◌, length}
 use Rattle.def_meaning.specs.Limits.{token_pool}
 use Rattle.def_meaning.specs.Tokens.{Tokens}
 use Rattle.def_meaning.specs.Entries.{entries}

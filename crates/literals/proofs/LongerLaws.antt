@@ -72,7 +72,7 @@ module _ (run : List ℕ) (prior at to len : ℕ) (c : Candidate) (top : Option 
 
   pub slice_few : length (take (to - at) (drop at run)) ≤ token_pool
   slice_few =
-      let a = lib.ListN.length-take (to - at) (drop at run) in
+      let a = length-take (to - at) (drop at run) in
       let b = length-drop at run in
       let d = p.few in
       omega arith
@@ -131,7 +131,7 @@ module _ (run : List ℕ) (prior at to len : ℕ) (c : Candidate) (top : Option 
       let ow : words run at e ≡ words run at to ⊕ tokens_in (take (part_end (drop to run)) (drop to run)) =
       ap (λ (y : ℕ). words run at y) e-is ∙ grown_words run prior at to p.behind at_le p.before_whole g.own_whole n ∙ ap (λ (y : ℕ). words run at to ⊕ tokens_in (take y (drop to run))) f in
       let le : len + m ≡ len + length_in (tokens_in (take (part_end (drop to run)) (drop to run))) = ap (λ (y : ℕ). len + y) (m-is ∙ ap (λ (y : List ℕ). length_in (tokens_in y)) tk) in
-      let tl = lib.ListN.length-take (e - to) (drop to run) in
+      let tl = length-take (e - to) (drop to run) in
       let dl = length-drop to run in
       let few = p.few in
       record {

@@ -1,9 +1,9 @@
 -- All slices of a run, and the literal part that wins alone. Assumes nothing.
-use Rattle.std.proofs.Common.{◌≡◌, refl, sym, ap, ap₂, ◌∙◌, subst, Bool, true, false, cond, ◌&&◌, List, [], ◌∷◌, ◌++◌, ℕ, ◌+◌, ◌-◌, ◌*◌, ◌≤◌, ◌<◌, arith, eqb, leb, length, get_or, take, drop, length-drop}
+use Rattle.std.proofs.Common.{length-take, get_or-drop, add-zero, ◌≡◌, refl, sym, ap, ap₂, ◌∙◌, subst, Bool, true, false, cond, ◌&&◌, List, [], ◌∷◌, ◌++◌, ℕ, ◌+◌, ◌-◌, ◌*◌, ◌≤◌, ◌<◌, arith, eqb, leb, length, get_or, take, drop, length-drop, one-mul, eq-eqb, ne_eqb, le-leb}
+use borrow.Author.Tests.{lt-leb}
+use Rattle.std.proofs.Math.Nat.{mod-one}
 use Rattle.std.proofs.Common as Std
 use Rattle.std.proofs.Math.Option.{Option, none, some}
-use native.Mathlib.Nat.{one-mul, mod-one}
-use borrow.Author.Tests.{eq-eqb, ne_eqb, le-leb, lt-leb}
 use Rattle.def_meaning.specs.Limits.{literal_limit, token_pool}
 use Rattle.def_meaning.specs.Tokens.{Tokens, Byte, NotByte, MaskedByte, NotMaskedByte, Jump, Alternatives, nothing, ◌then◌}
 use Rattle.atoms.specs.Score.{literal_score}
@@ -95,7 +95,7 @@ module _ (run : List ℕ) (few : length run ≤ token_pool) where
         let f : n ≡ part_end (drop at run) = n-is ∙ ap part_end (to_end at run) in
         let q = part_there run at g.rest_whole h in
         let ins = here_inside h n n-is in
-        let k : get_or (drop at run) 0 0 ≡ get_or run at 0 = lib.Seq.get_or-drop at run 0 0 ∙ ap (λ (x : ℕ). get_or run x 0) (native.Mathlib.Nat.add-zero at) in
+        let k : get_or (drop at run) 0 0 ≡ get_or run at 0 = get_or-drop at run 0 0 ∙ ap (λ (x : ℕ). get_or run x 0) (add-zero at) in
         let x : e - at ≡ n = omega arith in
         let own : tokens_in (take (part_end (drop at run)) (drop at run)) ≡ words run at e = ap (λ (y : ℕ). tokens_in (take y (drop at run))) (sym (x ∙ f)) in
         let dr : drop (part_end (drop at run)) (drop at run) ≡ drop e run = ap (λ (y : ℕ). drop y (drop at run)) (sym f) ∙ later_words run at n ∙ ap (λ (y : ℕ). drop y run) (sym e-is) in
@@ -216,7 +216,7 @@ module _ (run : List ℕ) (few : length run ≤ token_pool) where
       kind_at : is_literal (words run at (at + n)) ≡ eqb (get_or run at 0) 0
       kind_at =
           ap is_literal (sym own_is) ∙ (part_there run at g.rest_whole h).kind_is
-          ∙ ap (λ (y : ℕ). eqb y 0) (lib.Seq.get_or-drop at run 0 0 ∙ ap (λ (x : ℕ). get_or run x 0) (native.Mathlib.Nat.add-zero at))
+          ∙ ap (λ (y : ℕ). eqb y 0) (get_or-drop at run 0 0 ∙ ap (λ (x : ℕ). get_or run x 0) (add-zero at))
 
       strong_step : strong (parts (tokens_in (drop at run)))
           ≡ cond (is_literal (words run at (at + n)) && leb 80 (literal_score (bytes_of (words run at (at + n))))) (some (words run at (at + n))) (strong (parts (tokens_in (drop (at + n) run))))
@@ -230,7 +230,7 @@ module _ (run : List ℕ) (few : length run ≤ token_pool) where
       front_bytes k = subst AllBytes own_is (literal_bytes (tokens_in (drop at run)) _ _ (part_there run at g.rest_whole h).part_is (ap is_literal own_is ∙ kind_at ∙ eq-eqb (get_or run at 0) 0 k))
 
       pub front_few : length (take ((at + n) - at) (drop at run)) ≤ token_pool
-      front_few = let a = lib.ListN.length-take ((at + n) - at) (drop at run) in let b = length-drop at run in omega arith
+      front_few = let a = length-take ((at + n) - at) (drop at run) in let b = length-drop at run in omega arith
 
       pub front_count : get_or run at 0 ≡ 0 → (0 < count (words run at (at + n))) × (count (words run at (at + n)) ≤ literal_limit)
       front_count k = let e = bytes_count (words run at (at + n)) (front_bytes k) in (omega arith, omega arith)

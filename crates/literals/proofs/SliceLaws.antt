@@ -1,13 +1,6 @@
 -- Slices of a run as words from one place to another. Assumes nothing.
-use mathlib.Core.Path.{◌≡◌, refl, sym, ap, ◌∙◌, subst}
-use mathlib.Core.Bool.{Bool, true, false, cond}
-use mathlib.Core.List.{List, [], ◌∷◌, ◌++◌}
-use Prim.Native.Nat.{ℕ, ◌+◌, ◌-◌, ◌≤◌, ◌<◌}
-use native.Mathlib.Omega.{arith}
-use lib.Dec.{eqb, leb, ltb}
-use lib.ListN.{length, get_or, take, drop}
-use lib.Seq.{drop-drop, take-add}
-use borrow.Author.Tests.{eqb-true, eqb-false, le-leb, lt-leb, ltb-true, ltb-false}
+use Rattle.std.proofs.Common.{◌≡◌, refl, sym, ap, ◌∙◌, subst, Bool, true, false, cond, List, [], ◌∷◌, ◌++◌, ℕ, ◌+◌, ◌-◌, ◌≤◌, ◌<◌, arith, eqb, leb, ltb, length, get_or, take, drop, drop-drop, take-add, eqb-true, le-leb, ltb-true, ltb-false}
+use borrow.Author.Tests.{eqb-false, lt-leb}
 use Rattle.def_meaning.specs.Tokens.{Tokens, nothing, ◌⊕◌}
 use Rattle.def_picking.specs.Literals.{length_in}
 use Rattle.def_picking.specs.Runs.{is_literal, parts, Slice, slice, literal_only, longer}

@@ -1,7 +1,6 @@
 -- A slice against the best so far. Assumes nothing.
-use Rattle.std.proofs.Common.{◌≡◌, refl, ap, ◌∙◌, List, ℕ, ◌-◌, ◌≤◌, ◌<◌, take, drop, Option, Some, Result, Ok, Err}
+use Rattle.std.proofs.Common.{◌≡◌, refl, ap, ◌∙◌, List, ℕ, ◌-◌, ◌≤◌, ◌<◌, take, drop, Option, Some, Result, Ok, Err, lt-ltb, le-ltb}
 use Rattle.std.specs.Result.{IsErr}
-use borrow.Author.Tests.{lt-ltb, le-ltb}
 use Rattle.def_picking.specs.Runs.{Slice}
 use Rattle.def_picking.specs.Candidates.{Ranked, ranked, skipped, Candidate, chosen, unranked, too_many_literals, widened, against}
 use Rattle.entries.specs.Words.{tokens_in}

@@ -1,15 +1,9 @@
 -- Ranks of entries. Assumes nothing.
-use mathlib.Core.Path.{◌≡◌, refl, sym, ap, ap₂, ◌∙◌}
-use mathlib.Core.List.{List, [], ◌∷◌, ◌++◌, append-nil}
-use Prim.Native.Nat.{ℕ, ◌+◌, ◌-◌, ◌≤◌, ◌<◌, min}
-use native.Mathlib.Omega.{arith}
-use native.Mathlib.Numerals.{add-one}
-use lib.ListN.{length, get_or, take, drop, length-append, drop_of_length-le}
-use lib.Seq.{drop-cons, take_at}
+use Rattle.std.proofs.Common.{◌≡◌, refl, sym, ap, ap₂, ◌∙◌, List, [], ◌∷◌, ◌++◌, append-nil, ℕ, ◌+◌, ◌-◌, ◌≤◌, ◌<◌, min, arith, add-one, length, get_or, take, drop, length-append, drop_of_length-le, drop-cons, take_at, lt-ltb, le-ltb, le-leb}
+use borrow.Author.Tests.{lt-leb}
 use Rattle.def_meaning.specs.Limits.{literal_limit, combination_limit}
 use Rattle.tallies.specs.Tallies.{count_top}
 use Rattle.spelling.specs.Writing.{Written}
-use borrow.Author.Tests.{lt-ltb, le-ltb, le-leb, lt-leb}
 use Rattle.def_meaning.specs.Tokens.{Tokens}
 use Rattle.atoms.specs.Score.{literal_score}
 use Rattle.def_picking.specs.Literals.{literals, combinations}

@@ -1,15 +1,7 @@
 -- The entries of tokens are whole, and are taken for those tokens as far as picking asks: of a jump only that it closes a run.
 -- Assumes nothing.
-use mathlib.Core.Path.{◌≡◌, refl, sym, ap, ap₂, ◌∙◌, subst}
-use mathlib.Core.Bool.{Bool, true, ◌&&◌}
-use mathlib.Core.Option.{Option, none as nowhere, some}
-use mathlib.Core.List.{List, [], ◌∷◌, ◌++◌}
-use Prim.Native.Nat.{ℕ, ◌+◌, ◌-◌, ◌*◌, ◌/◌, ◌<◌}
-use native.Mathlib.Omega.{arith}
-use native.Mathlib.Nat.{mod-eq_of_lt}
-use lib.ListN.{length, take, drop, length-append}
-use lib.Seq.{take_at, drop_at, drop-drop}
-use borrow.Author.Tests.{ne_eqb}
+use Rattle.std.proofs.Common.{◌≡◌, refl, sym, ap, ap₂, ◌∙◌, subst, Bool, true, ◌&&◌, List, [], ◌∷◌, ◌++◌, ℕ, ◌+◌, ◌-◌, ◌*◌, ◌/◌, ◌<◌, arith, mod-eq_of_lt, length, take, drop, length-append, take_at, drop_at, drop-drop, ne_eqb}
+use Rattle.std.proofs.Math.Option.{Option, none as nowhere, some}
 use Rattle.def_meaning.specs.Tokens.{Mask, left, right, all, Token, Tokens, Lists, Byte, NotByte, MaskedByte, NotMaskedByte, Jump, Alternatives, nothing, ◌then◌, neither, ◌or◌}
 use Rattle.def_meaning.specs.Values.{Spelled, SpelledMore}
 use Rattle.def_meaning.specs.Entries.{mask_number, token_count, list_count, entries, list_entries}

@@ -1,17 +1,9 @@
 -- The parts of whole words. Assumes nothing.
-use mathlib.Core.Path.{◌≡◌, refl, sym, ap, ap₂, ◌∙◌, subst}
-use mathlib.Core.Bool.{Bool, true, false, cond, ◌&&◌}
-use mathlib.Core.Option.{none as nowhere}
-use mathlib.Core.List.{List, [], ◌∷◌, ◌++◌}
-use Prim.Native.Nat.{ℕ, zero, suc, ◌+◌, ◌*◌, ◌/◌, ◌≤◌, ◌<◌, ◌%◌}
-use native.Mathlib.Omega.{arith}
-use native.Mathlib.Nat.{le_refl}
-use lib.Dec.{eqb, ltb}
-use lib.ListN.{length, get_or, take, drop, length-drop}
-use lib.Seq.{drop-drop, take-add, get_or-take}
+use Rattle.std.proofs.Common.{◌≡◌, refl, sym, ap, ap₂, ◌∙◌, subst, Bool, true, false, cond, ◌&&◌, List, [], ◌∷◌, ◌++◌, ℕ, zero, suc, ◌+◌, ◌*◌, ◌/◌, ◌≤◌, ◌<◌, ◌%◌, arith, le_refl, eqb, ltb, length, get_or, take, drop, length-drop, drop-drop, take-add, get_or-take, eqb-true, eq-eqb, ne_eqb, ltb-true, ltb-false}
+use Rattle.std.proofs.Math.Option.{none as nowhere}
+use borrow.Author.Tests.{eqb-false}
 use Rattle.std.specs.Simd.{first_chunks}
 use Rattle.std.specs.List.{prefix_len}
-use borrow.Author.Tests.{eqb-true, eqb-false, eq-eqb, ne_eqb, ltb-true, ltb-false}
 use Rattle.def_meaning.specs.Tokens.{Token, Tokens, NotByte, MaskedByte, NotMaskedByte, Jump, nothing, ◌then◌, ◌⊕◌}
 use Rattle.def_picking.specs.Literals.{is_byte}
 use Rattle.def_picking.specs.Runs.{is_literal, joins_part, part_before, parts}

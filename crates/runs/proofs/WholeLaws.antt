@@ -1,13 +1,8 @@
 -- Whole entries: they are taken for their tokens wherever they stand. Assumes nothing.
-use mathlib.Core.Path.{◌≡◌, refl, sym, ap, ap₂, ◌∙◌, subst}
-use mathlib.Core.Bool.{Bool, true, false, cond}
-use mathlib.Core.List.{List, [], ◌++◌}
-use Prim.Native.Nat.{ℕ, ◌+◌, ◌-◌, ◌*◌, ◌≤◌, ◌<◌, min}
-use native.Mathlib.Omega.{arith}
-use lib.Dec.{eqb}
-use lib.ListN.{length, get_or, take, drop, length-append, length-drop, take-append-drop, get_or-append, drop_of_length-le}
-use lib.Seq.{take-append-le, drop-append-le, length-take-le, get_or-take}
-use borrow.Author.Tests.{eqb-true, eqb-false}
+use Rattle.std.proofs.Common.{◌≡◌, refl, sym, ap, ap₂, ◌∙◌, subst, Bool, true, false, cond, List, [], ◌++◌, ℕ, ◌+◌, ◌-◌, ◌*◌, ◌≤◌, ◌<◌, min, arith, eqb, length, get_or, take, drop, length-append, length-drop, take-append-drop, drop_of_length-le, length-take-le, get_or-take, eqb-true}
+use Rattle.std.proofs.Math.ListN.{get_or-append}
+use Rattle.std.proofs.Math.Seq.{take-append-le, drop-append-le}
+use borrow.Author.Tests.{eqb-false}
 use Rattle.def_meaning.specs.Tokens.{Token, Tokens, Alternatives, nothing, ◌then◌, ◌⊕◌}
 use Rattle.classes.specs.Entry.{entry_token}
 use Rattle.entries.specs.Words.{first_entry, ends, inside, lists_in, token_in, width, tokens_in}

@@ -1,7 +1,6 @@
 -- `literaldoor::literals` meets its contract. Assumes nothing.
-use Rattle.std.proofs.Common.{◌≡◌, length, length-take, arith}
+use Rattle.std.proofs.Common.{◌≡◌, length, length-take, arith, le_refl}
 use Rattle.std.proofs.lemmas.Result.{err_from_is_err_and}
-use native.Mathlib.Nat.{le_refl}
 use Rattle.def_meaning.specs.Limits.{token_pool}
 use Rattle.literaldoor.proofs.DoorLaws as law
 use Rattle.literaldoor.proofs.ToldLaws as told

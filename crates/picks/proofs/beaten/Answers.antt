@@ -1,6 +1,5 @@
 -- `picks::beaten` meets its contract. Assumes nothing.
-use Rattle.std.proofs.Common.{sym, ◌∙◌, arith, ◌≤◌}
-use borrow.Author.Tests.{leb-true}
+use Rattle.std.proofs.Common.{sym, ◌∙◌, arith, ◌≤◌, leb-true}
 use Rattle.def_picking.specs.Candidates.{against}
 use Rattle.picks.proofs.WinnerLaws as winner
 use Rattle.picks.proofs.beaten.Goals as goal

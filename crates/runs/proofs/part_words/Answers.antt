@@ -1,6 +1,6 @@
 -- `runs::part_words` meets its contract. Assumes nothing.
 use Rattle.runs.proofs.PartLaws as parts
-use mathlib.Core.Path.{◌∙◌}
+use Rattle.std.proofs.Common.{◌∙◌}
 use Rattle.runs.proofs.part_words.Goals as goal
 
 pub returns-then-ws-eq0 : goal.returns-then-ws-eq0

@@ -1,14 +1,9 @@
 -- `runs::run_words` meets its contract. Assumes nothing.
-use native.Mathlib.Nat.{add_assoc}
+use Rattle.std.proofs.Common.{add_assoc, drop, sym, ap, ap₂, ◌∙◌, List, ℕ, ◌+◌, arith}
 use Rattle.runs.specs.Whole.{run_end}
-use lib.ListN.{drop}
 use Rattle.entries.proofs.StepLaws as step
 use Rattle.entries.proofs.PartLaws as part
 use Rattle.runs.proofs.SegmentLaws as law
-use mathlib.Core.Path.{sym, ap, ap₂, ◌∙◌}
-use mathlib.Core.List.{List}
-use Prim.Native.Nat.{ℕ, ◌+◌}
-use native.Mathlib.Omega.{arith}
 use Rattle.def_meaning.proofs.PartLaws.{length_from, to_end}
 use Rattle.runs.proofs.run_words.Goals as goal
 

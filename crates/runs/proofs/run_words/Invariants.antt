@@ -1,8 +1,6 @@
 -- `runs::run_words` meets its contract. Assumes nothing.
 use Rattle.runs.specs.Whole.{run_end}
-use lib.ListN.{length}
-use mathlib.Core.Path.{◌≡◌}
-use Prim.Native.Nat.{◌+◌, ◌≤◌}
+use Rattle.std.proofs.Common.{length, ◌≡◌, ◌+◌, ◌≤◌}
 use Rattle.runs.proofs.run_words.Given as goal
 
 abbrev pub invariant-loop-rest : goal.invariant-loop-rest
