@@ -1,5 +1,5 @@
 -- Literals written one after another, over entries. Assumes nothing.
-use Rattle.std.proofs.Common.{◌≡◌, sym, ap, ap₂, ◌∙◌, subst, true, false, ◌⊎◌, inl, inr, List, [], ◌∷◌, ◌++◌, ℕ, ◌+◌, ◌-◌, ◌≤◌, ◌<◌, min, arith, add-one, leb, length, take, drop, length-append, drop_of_length-le, drop-cons, Ok, Err, map, le-leb}
+use Rattle.std.proofs.Common.{zero, suc, sum, ◌*◌, ◌≡◌, sym, ap, ap₂, ◌∙◌, subst, true, false, ◌⊎◌, inl, inr, List, [], ◌∷◌, ◌++◌, ℕ, ◌+◌, ◌-◌, ◌≤◌, ◌<◌, min, arith, add-one, leb, length, take, drop, length-append, drop_of_length-le, drop-cons, Ok, Err, map, le-leb}
 use Rattle.std.proofs.Math.Bool.{and-false}
 use mathlib.Core.List.{flatten}
 use borrow.Author.Tests.{lt-leb}
@@ -7,7 +7,9 @@ use Rattle.std.proofs.Math.ListN.{set}
 use Rattle.std.proofs.lemmas.List.{length-map}
 use borrow.Rule.Slice.PartMut.{put_mid}
 use Rattle.tallies.specs.Tallies.{count_top}
-use Rattle.def_meaning.specs.Limits.{literal_limit}
+use Rattle.std.specs.List.{range_with_len}
+use Rattle.std.proofs.lemmas.List.Sums.{sum_by-cons}
+use Rattle.def_meaning.specs.Limits.{literal_limit, entry_limit}
 use Rattle.def_meaning.specs.Tokens.{Tokens}
 use Rattle.def_picking.specs.Literals.{literals}
 use Rattle.def_picking.specs.Numbers.{count, literal_at}
@@ -51,15 +53,28 @@ module _ (ts : Tokens) (n : ℕ) (n-is : n ≡ count ts) where
 
   -- ---- the bytes added up
 
-  pub total_more : (k total w : ℕ) → k < n → w ≡ length (literal_at ts k) → total + length (flatten (drop k (literals ts))) ≡ length (flatten (literals ts))
-      → (total + w) + length (flatten (drop (k + 1) (literals ts))) ≡ length (flatten (literals ts))
-  total_more k total w h e f =
-      let a = ap length (flatten_next k h) in
+  abbrev length_of : ℕ → ℕ
+  length_of j = length (literal_at ts j)
+
+  one_added : (k m : ℕ) → sum (map length_of (range_with_len k (suc m))) ≡ length_of k + sum (map length_of (range_with_len (k + 1) m))
+  one_added k m = sum_by-cons (λ (x : ℕ). x) (length_of k) (map length_of (range_with_len (k + 1) m))
+
+  pub lengths_added : (k m : ℕ) → k + m ≡ n → sum (map (λ (j : ℕ). length (literal_at ts j)) (range_with_len k m)) ≡ length (flatten (drop k (literals ts)))
+  lengths_added k zero e = sym (ap length (flatten_end k (omega arith)))
+  lengths_added k (suc m) e =
+      let s = one_added k m in
+      let r = lengths_added (k + 1) m (omega arith) in
+      let a = ap length (flatten_next k (omega arith)) in
       let b = length-append (literal_at ts k) (flatten (drop (k + 1) (literals ts))) in
       omega arith
 
-  pub total_all : (k total : ℕ) → n ≤ k → total + length (flatten (drop k (literals ts))) ≡ length (flatten (literals ts)) → total ≡ length (flatten (literals ts))
-  total_all k total h e = let a = ap length (flatten_end k h) in omega arith
+  pub lengths_few : (k m : ℕ) → k + m ≡ n → ((j : ℕ) → j < n → length (literal_at ts j) ≤ entry_limit) → sum (map (λ (j : ℕ). length (literal_at ts j)) (range_with_len k m)) ≤ entry_limit * m
+  lengths_few k zero e h = omega arith
+  lengths_few k (suc m) e h =
+      let s = one_added k m in
+      let r = lengths_few (k + 1) m (omega arith) h in
+      let a = h k (omega arith) in
+      omega arith
 
   -- ---- the bytes and the lengths written
 

@@ -4,7 +4,7 @@
 
 ghost use Rattle.std.specs.Prelude.{◌≡◌, ◌≤◌, ◌<◌, length};
 ghost use mathlib.Core.List.{map, flatten};
-ghost use Rattle.def_meaning.specs.Limits.{literal_limit, token_pool, entry_limit};
+ghost use Rattle.def_meaning.specs.Limits.{literal_limit, token_pool};
 ghost use Rattle.def_picking.specs.Literals.{literals};
 ghost use Rattle.def_picking.specs.Numbers.{count, literal_at};
 ghost use Rattle.entries.specs.Words.{tokens_in};
@@ -12,10 +12,9 @@ ghost use Rattle.generator.specs.Output.{over, Generated};
 
 use base::Refusal;
 
-// It is no more than the entries there are.
 fn length_at(ws: &[u32], k: usize) -> usize
     requires { (length ws.now ≤ token_pool) × (k < count (tokens_in ws.now)) × (count (tokens_in ws.now) ≤ literal_limit) }
-    ensures { (result ≡ length (literal_at (tokens_in ws.now) k)) × (result ≤ entry_limit) }
+    ensures { result ≡ length (literal_at (tokens_in ws.now) k) }
 {
     spelling::with_literal(ws, k, |literal| literal.len())
 }
@@ -25,11 +24,7 @@ fn total_of(ws: &[u32], n: usize) -> usize
     requires { (length ws.now ≤ token_pool) × (n ≡ count (tokens_in ws.now)) × (n ≤ literal_limit) }
     ensures { result ≡ length (flatten (literals (tokens_in ws.now))) }
 {
-    let mut total = 0;
-    for k in 0..n {
-        total += length_at(ws, k);
-    }
-    total
+    (0..n).map(|k| length_at(ws, k)).sum()
 }
 
 // Writes all n literals, each into what the ones before it left of the buffer.
