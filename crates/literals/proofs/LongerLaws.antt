@@ -1,5 +1,5 @@
 -- The loop over the slices with one first part. Assumes nothing.
-use Rattle.std.proofs.Common.{◌≡◌, sym, ap, ap₂, ◌∙◌, subst, List, ◌∷◌, ℕ, ◌+◌, ◌-◌, ◌≤◌, ◌<◌, arith, eqb, length, get_or, take, drop, length-drop, Option, Result, Ok, Err}
+use Rattle.std.proofs.Common.{length-take, ◌≡◌, sym, ap, ap₂, ◌∙◌, subst, List, ◌∷◌, ℕ, ◌+◌, ◌-◌, ◌≤◌, ◌<◌, arith, eqb, length, get_or, take, drop, length-drop, Option, Result, Ok, Err}
 use Rattle.def_meaning.specs.Limits.{token_pool}
 use Rattle.def_meaning.specs.Tokens.{Tokens, ◌⊕◌}
 use Rattle.def_meaning.proofs.PartLaws.{to_end, length_from}
