@@ -1,13 +1,13 @@
 -- The segments of whole words. Assumes nothing.
-use Rattle.std.proofs.Common.{◌≡◌, refl, sym, ap, ap₂, ◌∙◌, subst, Bool, true, false, cond, not, ◌||◌, List, [], ◌∷◌, ◌++◌, ℕ, ◌+◌, ◌≤◌, ◌<◌, arith, length, get_or, take, drop, length-drop, drop-drop, take-add}
-use Rattle.def_meaning.specs.Tokens.{Tokens, ◌then◌, ◌⊕◌}
+use Rattle.std.proofs.Common.{◌≡◌, refl, sym, ap, ap₂, ◌∙◌, subst, Bool, true, false, cond, not, ◌||◌, List, [], ◌∷◌, ◌++◌, ℕ, ◌+◌, ◌≤◌, ◌<◌, arith, length, take, drop, length-drop, drop-drop, take-add}
+use Rattle.def_meaning.specs.Tokens.{Tokens, Lists, MaskedByte, NotMaskedByte, Alternatives, ◌then◌, ◌⊕◌}
 use Rattle.def_picking.specs.Literals.{is_plain}
 use Rattle.def_picking.specs.Runs.{closes, is_alternatives, segmented, at_front, segments}
-use Rattle.classes.specs.Entry.{entry_token}
+use Rattle.classes.specs.declared.Entry.{Entry}
+use Rattle.classes.specs.Entry.{token_of}
 use Rattle.entries.specs.Words.{token_in, width, tokens_in}
 use Rattle.entries.proofs.StepLaws.{tokens_end, tokens_step, width_le, width_long, walk_end, walk_step}
-use Rattle.entries.proofs.PlainLaws.{token_alternatives, token_entry}
-use Rattle.classes.proofs.KindLaws.{entry_cases, value_plain}
+use Rattle.classes.proofs.EntryLaws.{one_cases}
 use Rattle.runs.specs.Whole.{Entire, Whole, none, more, run_end, afterward}
 use Rattle.runs.proofs.WholeLaws.{split, both_whole, front_whole, front_token}
 
@@ -80,24 +80,15 @@ first_segment ws (more us e w) = go (closes (token_in us)) refl (first_segment (
 
 -- ---- in the words of the code
 
-entry_open : (k v m : ℕ) → closes (entry_token k v m) ≡ not (is_plain (entry_token k v m))
-unfolding is_alternatives is_plain
-entry_open = entry_cases (λ t. closes t ≡ not (is_plain t)) (λ v. refl) (λ v. refl) (λ v m. go_half v m) (λ v m. go_other v m) refl
-  where
-    or-false : (b : Bool) → not (b || false) ≡ not b
-    or-false true = refl
-    or-false false = refl
-
-    go_half : (v : ℕ) (m : Rattle.def_meaning.specs.Tokens.Mask) → closes (Rattle.def_meaning.specs.Tokens.MaskedByte v m) ≡ not (is_plain (Rattle.def_meaning.specs.Tokens.MaskedByte v m))
-    go_half v m = or-false (is_plain (Rattle.def_meaning.specs.Tokens.MaskedByte v m))
-
-    go_other : (v : ℕ) (m : Rattle.def_meaning.specs.Tokens.Mask) → closes (Rattle.def_meaning.specs.Tokens.NotMaskedByte v m) ≡ not (is_plain (Rattle.def_meaning.specs.Tokens.NotMaskedByte v m))
-    go_other v m = or-false (is_plain (Rattle.def_meaning.specs.Tokens.NotMaskedByte v m))
-
-pub inside_open : (ws : List ℕ) → get_or ws 0 0 ≡ 5 → false ≡ closes (token_in ws)
+pub alternatives_open : (ls : Lists) → false ≡ closes (Alternatives ls)
 unfolding is_plain is_alternatives
-inside_open ws e = sym (ap closes (token_alternatives ws e))
+alternatives_open ls = refl
 
-pub entry_closes : (ws : List ℕ) → (get_or ws 0 0 ≡ 5 → ⊥) → (b : Bool) → b ≡ is_plain (entry_token (get_or ws 0 0) 0 (get_or ws 2 0)) → not b ≡ closes (token_in ws)
-entry_closes ws f b e =
-    ap not (e ∙ value_plain (get_or ws 0 0) 0 (get_or ws 1 0) (get_or ws 2 0)) ∙ sym (ap closes (token_entry ws f) ∙ entry_open (get_or ws 0 0) (get_or ws 1 0) (get_or ws 2 0))
+or-false : (b : Bool) → not b ≡ not (b || false)
+or-false true = refl
+or-false false = refl
+
+pub one_closes : (e : Entry) → not (is_plain (token_of e)) ≡ closes (token_of e)
+unfolding is_plain is_alternatives
+one_closes =
+    one_cases (λ t. not (is_plain t) ≡ closes t) (λ v. refl) (λ v. refl) (λ v m. or-false (is_plain (MaskedByte v m))) (λ v m. or-false (is_plain (NotMaskedByte v m))) refl

@@ -4,8 +4,10 @@
 
 ghost use Rattle.std.specs.Prelude.{◌≡◌, cond, eqb, ◌≤◌, length};
 ghost use Rattle.def_picking.specs.Runs.{closes};
-ghost use Rattle.entries.specs.Words.{token_in};
+ghost use Rattle.entries.specs.Walks.{meant};
 ghost use Rattle.runs.specs.Whole.{byte_end, part_end, run_end};
+
+use entries::{Token, Tokens};
 
 // The words of the bytes at the front.
 pub fn byte_words(ws: &[u32]) -> usize
@@ -34,30 +36,27 @@ pub fn literal_start(kind: u32, at: usize, e: usize) -> usize
     if kind == 0 { at } else { e }
 }
 
-// The token at the front closes a run.
-fn closes_run(ws: &[u32]) -> bool
-    requires { 4 ≤ length ws.now }
-    ensures { result ≡ closes (token_in ws.now) }
+// `??` and jumps close a run.
+fn closes(token: Token) -> bool
+    ensures { result ≡ closes (meant token.entry) }
 {
-    if ws[0] == 5 {
-        return false;
+    match token {
+        Token::One(entry) => !entry.is_plain(),
+        Token::Alternatives(_) => false,
     }
-    !classes::plain_entry(ws[0], ws[2])
 }
 
 // The words before the first token that closes a run.
 pub fn run_words(ws: &[u32]) -> usize
     ensures { (result ≡ run_end ws.now) × (result ≤ length ws.now) }
 {
-    let mut rest = ws;
-    let mut n = 0;
-    while 4 <= rest.len() {
-        if closes_run(rest) {
-            return n;
+    let mut tokens = Tokens { words: ws };
+    let mut left = ws.len();
+    while let Some(token) = tokens.next() {
+        if closes(token) {
+            break;
         }
-        let e = entries::width_of(rest);
-        n += e;
-        rest = &rest[e..];
+        left = tokens.words.len();
     }
-    n
+    ws.len() - left
 }

@@ -1,45 +1,32 @@
 -- `runs::run_words` meets its contract. Assumes nothing.
-use Rattle.std.proofs.Common.{add_assoc, drop, sym, ap, ap₂, ◌∙◌, List, ℕ, ◌+◌, arith}
+use Rattle.std.proofs.Common.{◌≡◌, refl, sym, ap, ◌∙◌, true, false, arith}
+use Rattle.def_picking.specs.Runs.{closes}
+use Rattle.entries.specs.Words.{token_in}
+use Rattle.entries.proofs.WalkLaws.{token_words}
 use Rattle.runs.specs.Whole.{run_end}
-use Rattle.entries.proofs.StepLaws as step
-use Rattle.entries.proofs.PartLaws as part
 use Rattle.runs.proofs.SegmentLaws as law
-use Rattle.def_meaning.proofs.PartLaws.{length_from, to_end}
 use Rattle.runs.proofs.run_words.Goals as goal
+use Rattle.runs.proofs.run_words.Goals.{in-Some+then-closes, in_default}
 
-pub returns-then-closes_run : goal.returns-then-closes_run
-returns-then-closes_run c =
-    (omega (arith, c.loop-rest.invariant.1, law.run_end_closed c.loop-rest.rest.now c.loop-rest-test.true (sym c.closes_run.ensures ∙ c.if-closes_run.true)), omega (arith, c.loop-rest.invariant.0))
-
-pub overflow_add-n : goal.overflow_add-n
-overflow_add-n c =
-    omega (arith, c.loop-rest.invariant.0, c.width_of-e.ensures, (step.width_le c.loop-rest.rest.now c.loop-rest-test.true))
-
-pub offset_bounds-rest-e : goal.offset_bounds-rest-e
-offset_bounds-rest-e c =
-    omega (arith, c.width_of-e.ensures, (step.width_le c.loop-rest.rest.now c.loop-rest-test.true), c.loop-rest.invariant.0)
-
-pub slice_bounds-rest-count : goal.slice_bounds-rest-count
-slice_bounds-rest-count c =
-    omega (arith, c.width_of-e.ensures, (step.width_le c.loop-rest.rest.now c.loop-rest-test.true))
-
-pub slice_bounds-rest-start : goal.slice_bounds-rest-start
-slice_bounds-rest-start c =
-    omega (arith, c.width_of-e.ensures, (step.width_le c.loop-rest.rest.now c.loop-rest-test.true))
-
-pub loop-rest-smaller : goal.loop-rest-smaller
-loop-rest-smaller c =
-    part.part_less _ c.loop-rest.rest.now (omega (arith, c.width_of-e.ensures, (step.width_long c.loop-rest.rest.now c.loop-rest-test.true))) c.loop-rest-test.true
-
-pub loop-rest-preserved : goal.loop-rest-preserved
-loop-rest-preserved c = (
-  omega (arith, c.loop-rest.invariant.0, length_from c.width_of-e.result c.loop-rest.rest.now, c.width_of-e.ensures, (step.width_le c.loop-rest.rest.now c.loop-rest-test.true)),
-  c.loop-rest.invariant.1
-      ∙ ap (λ (x : ℕ). c.loop-rest.n + x) (law.run_end_open c.loop-rest.rest.now c.loop-rest-test.true (sym c.closes_run.ensures ∙ c.if-closes_run.false)) ∙ sym (add_assoc c.loop-rest.n _ _)
-      ∙ ap₂ (λ (x : ℕ) (l : List ℕ). c.loop-rest.n + x + run_end l) (sym c.width_of-e.ensures)
-      (ap (λ (x : ℕ). drop x c.loop-rest.rest.now) (sym c.width_of-e.ensures) ∙ sym (to_end c.width_of-e.result c.loop-rest.rest.now)),
-)
+pub loop-token-preserved : goal.loop-token-preserved
+loop-token-preserved c =
+    let ws = c.loop-token.tokens.words.now in
+    let i = c.loop-token.invariant in
+    let f = c.in-Some.ensures.steps in
+    let on : closes (token_in ws) ≡ false = ap closes (sym f.is) ∙ sym c.closes.ensures ∙ c.if-closes.false in
+    let r = law.run_end_open ws f.long on in
+    let w = token_words _ _ _ f in
+    let l = ap run_end f.left in
+    (refl, omega (arith, i.0, i.1, w), omega (arith, i.0, i.1, i.2, r, w, l, f.wide))
 
 pub returns : goal.returns
 returns c =
-    (omega (arith, c.loop-rest.invariant.1, law.run_end_none c.loop-rest.rest.now (omega (arith, c.loop-rest-test.false))), omega (arith, c.loop-rest.invariant.0))
+    let ws = c.loop-token.tokens.words.now in
+    let i = c.loop-token.invariant in
+    elim c.match-next.branch [
+      | in-Some+then-closes w ↦
+          (let f = w.in-Some.ensures.steps in
+          let shut : closes (token_in ws) ≡ true = ap closes (sym f.is) ∙ sym w.closes.ensures ∙ w.if-closes.true in
+          (omega (arith, i.2, law.run_end_closed ws f.long shut), omega arith))
+      | in_default w ↦ (omega (arith, i.2, law.run_end_none ws w.in_default.ensures.steps.0), omega arith)
+    ]
