@@ -192,12 +192,11 @@ pub fn add_list(entries: &[u32], backwards: bool, out: &mut [NodeWord]) -> usize
     ensures { (result ≡ nodes (list_program backwards entries.now))
         × (out.new ≡ words_of (list_program backwards entries.now) ++ drop result out.old) }
 {
-    let count = entries.len() / 4;
+    let (chunks, _) = entries.as_chunks::<4>();
     let mut written = Written::nothing();
-    for k in 0..count {
-        let at = 4 * place(backwards, count, k);
-        let addend = entry_addend(entries[at], entries[at + 1], entries[at + 2]);
-        written = written.add(out, addend);
+    for k in 0..chunks.len() {
+        let [kind, a, b, _] = chunks[place(backwards, chunks.len(), k)];
+        written = written.add(out, entry_addend(kind, a, b));
     }
     written.count
 }
