@@ -1,5 +1,6 @@
 // Translated from boreal's boreal/src/matcher/validator/simple.rs (MIT OR Apache-2.0), commit 7010b5e967; see NOTICE.
-// The doors of the two checks: any words, any haystack and any window numbers are answered.
+// The doors of the two checks: any words, any haystack and any window numbers are answered. A window is its two numbers, as 01 and the C
+// interface hand them over: a struct around them would be made at each call and taken apart in it.
 #![tactic(auto)]
 
 ghost use Rattle.std.specs.Prelude.{◌≡◌};

@@ -1,6 +1,7 @@
 // Translated from boreal's boreal/src/matcher/validator/simple.rs (MIT OR Apache-2.0), commit 7010b5e967; see NOTICE.
 // The search of both checks: the first choice that fits, over the way in which a window is read. The original has it twice.
-// Nodes of fixed length are a loop; only jump lengths and tails after a branch recurse.
+// Nodes of fixed length are a loop; only jump lengths and tails after a branch recurse. 01 names the let-else that takes the next node, so the
+// loops over nodes and over branches are a `loop` (docs/RULES.md, form-let-else).
 #![tactic(auto)]
 
 ghost use Rattle.std.specs.Prelude.{◌≡◌, true, ◌⊎◌, ◌∷◌, ◌≤◌, length, drop, MatchOption};

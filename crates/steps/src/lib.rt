@@ -41,7 +41,7 @@ pub fn word_passes(w: NodeWord, c: u8) -> bool
     match k {
         MASK => (c & b) == a,
         NEGATED_MASK => (c & b) != a,
-        DOT => c != 10,
+        DOT => c != b'\n',
         _ => false,
     }
 }
