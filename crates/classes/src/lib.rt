@@ -5,7 +5,7 @@
 ghost use Rattle.std.specs.Prelude.{◌≡◌, ◌≤◌, ◌<◌, length, get_or};
 ghost use Rattle.bitmap.specs.Bitmap.{Holds};
 ghost use Rattle.def_picking.specs.Literals.{taken, is_plain};
-ghost use Rattle.classes.specs.Entry.{entry_at, entry_token, token_of};
+ghost use Rattle.classes.specs.Entry.{entry_at, token_of};
 ghost use Rattle.classes.specs.Classes.{passes, gapped};
 
 use bitmap::Bitmap;
@@ -92,12 +92,6 @@ impl Entry {
     {
         !matches!(self, Entry::Any(_) | Entry::NotAny(_) | Entry::Other)
     }
-}
-
-pub fn plain_entry(kind: u32, mask: u32) -> bool
-    ensures { result ≡ is_plain (entry_token kind 0 mask) }
-{
-    Entry::from([kind, 0, mask, 0]).is_plain()
 }
 
 // Number j of the numbers from 0 on without `gap` of them, from `from` on.

@@ -27,7 +27,8 @@ fn total_of(ws: &[u32], n: usize) -> usize
     (0..n).map(|k| length_at(ws, k)).sum()
 }
 
-// Writes all n literals, each into what the ones before it left of the buffer.
+// Writes all n literals, each into what the ones before it left of the buffer. A literal and its length have one number, so one count is plainer
+// than a zip of both.
 fn write_each(ws: &[u32], n: usize, bytes: &mut [u8], lengths: &mut [u16])
     requires { (length ws.now ≤ token_pool) × (n ≡ count (tokens_in ws.now)) × (n ≤ literal_limit) × (n ≤ length lengths.old) × (length (flatten (literals (tokens_in ws.now))) ≤ length bytes.old) }
     ensures { (bytes.new ≡ over (flatten (literals (tokens_in ws.now))) bytes.old) × (lengths.new ≡ over (map length (literals (tokens_in ws.now))) lengths.old) }

@@ -69,7 +69,7 @@ fn pick_tokens(
     write_winner(ws, reached, winner, bytes, lengths)
 }
 
-// Picks the literals of a text. The tokens are read into words of the stack.
+// Picks the literals of a text. The tokens are read into words of the stack. Bytes and lengths are lent apart, as the C interface has them.
 pub fn literals(text: &[u8], bytes: &mut [u8], lengths: &mut [u16]) -> Result<Picked, Refused>
     ensures { (literals_said result ≡ literals_says text.now bytes.old lengths.old)
         × (bytes.new ≡ bytes_left text.now bytes.old lengths.old)

@@ -64,7 +64,7 @@ fn strong_part(run: &[u32]) -> Option<Pick>
     let mut at = 0;
     while 4 <= run.len() - at {
         let to = at + runs::part_words(&run[at..]);
-        if run[at] == 0 {
+        if run[at] == runs::BYTE {
             let rank = ranking::score_at(&run[at..to], 0);
             if 80 <= rank {
                 return Some(Pick { from: at, to, rank });

@@ -14,6 +14,8 @@ ghost use Rattle.picks.specs.Ranks.{Settles};
 use base::{COMBINATION_LIMIT, LITERAL_LIMIT};
 use picks::{Rank, TooMany, Winner};
 
+// The score of literal number k. That words are few is asked by each function: they hand on parts of their words, which a type that holds the bound
+// would have to cut by methods of its own.
 pub fn score_at(ws: &[u32], k: usize) -> u32
     requires { (length ws.now ≤ token_pool) × (k < count (tokens_in ws.now)) × (count (tokens_in ws.now) ≤ literal_limit) }
     ensures { result ≡ literal_score (literal_at (tokens_in ws.now) k) }

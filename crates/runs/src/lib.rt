@@ -7,14 +7,17 @@ ghost use Rattle.def_picking.specs.Runs.{closes};
 ghost use Rattle.entries.specs.Walks.{meant};
 ghost use Rattle.runs.specs.Whole.{byte_end, part_end, run_end};
 
-use entries::{Token, Tokens};
+use entries::{ENTRY, Token, Tokens};
+
+// The kind of the entries of bytes.
+pub const BYTE: u32 = 0;
 
 // The words of the bytes at the front.
 pub fn byte_words(ws: &[u32]) -> usize
     ensures { (result ≡ byte_end ws.now) × (result ≤ length ws.now) }
 {
-    let (entries, _) = ws.as_chunks::<4>();
-    4 * entries.iter().take_while(|e| e[0] == 0).count()
+    let (entries, _) = ws.as_chunks::<ENTRY>();
+    ENTRY * entries.iter().take_while(|e| e[0] == BYTE).count()
 }
 
 // The words of the part at the front: successive bytes, or one token.
@@ -22,7 +25,7 @@ pub fn part_words(ws: &[u32]) -> usize
     requires { 4 ≤ length ws.now }
     ensures { result ≡ part_end ws.now }
 {
-    if ws[0] == 0 {
+    if ws[0] == BYTE {
         byte_words(ws)
     } else {
         entries::width_of(ws)
@@ -33,7 +36,7 @@ pub fn part_words(ws: &[u32]) -> usize
 pub fn literal_start(kind: u32, at: usize, e: usize) -> usize
     ensures { result ≡ cond (eqb kind 0) at e }
 {
-    if kind == 0 { at } else { e }
+    if kind == BYTE { at } else { e }
 }
 
 // `??` and jumps close a run.
