@@ -50,6 +50,7 @@ fn first_text(input: &[u8]) -> Option<(&[u8], &[u8])>
 {
     let size = digits::number(input, 0).ok()??;
     let (_, lines) = input.get(size.stop..)?.split_first()?;
+    // `as`: the library has no From<u32> for usize.
     let (text, end) = lines.split_at_checked(size.value as usize)?;
     let rest = end.get(1..).unwrap_or(&[]);
     Some((text, rest))

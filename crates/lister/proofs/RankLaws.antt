@@ -1,14 +1,7 @@
 -- No rank is above 80. Assumes nothing.
-use mathlib.Core.Path.{◌≡◌, subst}
-use mathlib.Core.Bool.{Bool, true, false, cond}
+use Rattle.std.proofs.Common.{◌≡◌, subst, Bool, true, false, cond, ⊎_elim, List, [], ◌∷◌, ℕ, ◌≤◌, min, arith, ltb, length}
 use mathlib.Core.Option.{Option, none, some}
-use mathlib.Core.Logic.{⊎_elim}
-use mathlib.Core.List.{List, [], ◌∷◌}
-use Prim.Native.Nat.{ℕ, ◌≤◌, min}
-use native.Mathlib.Omega.{arith}
 use native.Mathlib.Nat.{min-le_left}
-use lib.Dec.{ltb}
-use lib.ListN.{length}
 use Rattle.def_meaning.specs.Limits.{literal_limit, combination_limit}
 use Rattle.def_meaning.specs.Tokens.{Tokens, nothing}
 use Rattle.atoms.specs.Score.{literal_score}

@@ -1,5 +1,5 @@
 -- 01's example, from the text to the listing, and a refusal of each kind. Assumes nothing: these are claims that compute.
-use mathlib.Core.Path.{◌≡◌, refl}
+use Rattle.std.proofs.Common.{◌≡◌, refl}
 use mathlib.Core.List.{flatten, flat_map}
 use Rattle.def_meaning.specs.Tokens
 use Rattle.def_meaning.specs.Entries

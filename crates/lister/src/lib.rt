@@ -21,6 +21,7 @@ fn put_picked(w: &mut Writer<'_>, text: &[u8])
 {
     let mut bytes = [0u8; LENT_BYTES];
     let mut lens = [0u16; LENT_LENGTHS];
+    // `as`: the library has no From<u32> for usize, here and below.
     match literaldoor::literals(text, &mut bytes, &mut lens) {
         Ok(picked) => lines::put_literals(w, picked.rank as usize, &lens[..picked.count], &bytes),
         Err(refused) => lines::put_literals_refused(w, refused.why.number() as usize),

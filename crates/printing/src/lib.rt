@@ -94,6 +94,7 @@ impl<'a> Writer<'a> {
         if n >= 10 {
             self.put_decimal(n / 10);
         }
+        // `as`: the remainder is below 10, and no From makes a number narrower.
         self.put_byte(digit_of((n % 10) as u8));
     }
 }
