@@ -140,8 +140,9 @@ fn jumps<W: Way>(rest: &[NodeWord], mem: &[u8], from: Field, to: Field) -> Optio
 }
 
 // Alternatives, a range and the rest: the first branch and then the first length for which the rest fits. The loop over lengths leaves that
-// over branches by its label, which 01 names, and so is not the one in jumps.
+// over branches by its label, which 01 names, and so is not the one in jumps. Inlined it would double the stack that check takes for a range.
 #[cycle(branches_check_choices_jumps)]
+#[inline(never)]
 fn branches<W: Way>(
     alts: &[NodeWord],
     rest: &[NodeWord],
