@@ -2,7 +2,7 @@
 use mathlib.Core.Path.{◌≡◌, refl, sym, ap, ◌∙◌}
 use mathlib.Core.Bool.{Bool, true, false, cond}
 use mathlib.Core.List.{List, [], ◌∷◌}
-use Prim.Native.Nat.{ℕ, zero, suc, ◌+◌, ◌%◌, ◌≤◌, ◌<◌}
+use Prim.Native.Nat.{ℕ, zero, suc, ◌+◌, ◌≤◌, ◌<◌}
 use native.Mathlib.Omega.{arith}
 use lib.ListN.{length}
 use Rattle.def_meaning.specs.Tokens.{left, right, all, Token, Byte, NotByte, MaskedByte, NotMaskedByte, Jump, Alternatives}
@@ -11,7 +11,6 @@ use Rattle.bitmap.specs.Bitmap.{has, Holds, size, rising, members_from, members}
 use Rattle.bitmap.proofs.Tally.{tally_not}
 use Rattle.bitmap.proofs.Members.{members_size}
 use Rattle.def_picking.specs.Literals.{kept, passing, bytes_that, taken}
-use Rattle.classes.specs.Entry.{entry_token}
 use Rattle.classes.specs.Classes.{passes}
 
 -- ---- the members in order
@@ -53,11 +52,6 @@ held_members m t n h = kept_same (has m) (passes t) 0 256 (omega arith) h ∙ cl
 pub held_size : (m : Bitmap) (t : Token) → ((v : ℕ) → t ≡ Byte v → ⊥) → Holds m (passes t) → size m ≡ length (taken t)
 unfolding members
 held_size m t n h = sym (members_size m) ∙ ap length (held_members m t n h)
-
--- kind 0 takes its one byte
-pub byte_taken : (kind v mask : ℕ) → kind ≡ 0 → taken (entry_token kind v mask) ≡ v % 256 ∷ []
-unfolding entry_token taken
-byte_taken kind v mask e = rw e
 
 pub size_le : (m : Bitmap) → size m ≤ 256
 unfolding size

@@ -223,8 +223,5 @@ module _ (ws : List ℕ) (t : Token) (rest : List ℕ) (f : IsFront ws t rest) (
         numbered = λ p k. g.numbered p k ∙ byte_numbered p k;
       }
 
-pub past_none : (ws : List ℕ) → Past ws ws
-past_none ws = record { short = omega arith; counted = refl; numbered = λ p k. refl }
-
 pub past_numerable : (ws rest : List ℕ) → Past ws rest → (p : ℕ) → Numerable p (count (tokens_in ws)) → Numerable p (count (tokens_in rest))
 past_numerable ws rest g p = subst (λ (n : ℕ). Numerable p n) g.counted

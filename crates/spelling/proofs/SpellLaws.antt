@@ -1,13 +1,12 @@
 -- The pieces of literal number k, from the entries. Assumes nothing.
 use mathlib.Core.Path.{◌≡◌, refl, sym, ap, ap₂, ◌∙◌, subst}
 use mathlib.Core.List.{List, [], ◌∷◌, ◌++◌}
-use Prim.Native.Nat.{ℕ, ◌+◌, ◌-◌, ◌*◌, ◌/◌, ◌%◌, ◌≤◌, ◌<◌, min}
+use Prim.Native.Nat.{ℕ, ◌+◌, ◌-◌, ◌*◌, ◌/◌, ◌%◌, ◌≤◌, ◌<◌}
 use native.Mathlib.Omega.{arith}
-use native.Mathlib.Nat.{one-mul, mul_comm, div-one, div-div-eq-div-mul, mul-div_cancel_left, mod-lt, mod-one}
+use native.Mathlib.Nat.{mul_comm, div-one, div-div-eq-div-mul, mul-div_cancel_left, mod-lt, mod-one}
 use lib.ListN.{length, get_or, drop, length-drop}
 use borrow.Author.Tests.{lt-ltb, le-ltb}
 use Rattle.def_meaning.specs.Limits.{literal_limit}
-use Rattle.tallies.specs.Tallies.{count_top}
 use Rattle.def_meaning.specs.Tokens.{Tokens}
 use Rattle.def_picking.specs.Literals.{taken}
 use Rattle.def_picking.specs.Numbers.{count_of, count, count_in, prefix_of, prefixed, ending_of, ending, ending_in, literal_at}
@@ -22,7 +21,6 @@ use Rattle.entries.proofs.WalkLaws.{list_next, token_next, chunk_long, chunk_ent
 use Rattle.std.specs.Simd.{first_chunks}
 use Rattle.def_meaning.specs.Tokens as meaning
 use Rattle.entries.proofs.StepLaws.{branch_end, branch_step, lists_end, tokens_end, by_entries}
-use Rattle.prefixes.specs.Numbers.{Numerable}
 use Rattle.classes.proofs.EntryLaws.{one_cases}
 use Rattle.classes.proofs.KindLaws.{entry_cases}
 use Rattle.tallies.proofs.TallyLaws.{entry_count, one_count}
@@ -131,11 +129,6 @@ pub ending_step : (ws : List ℕ) (t : Token) (rest : List ℕ) → IsFront ws t
 unfolding ending
 ending_step ws t rest f p k = rw (token_next ws t rest f)
 
--- ---- numbers
-
-pub cap_exact : (r c : ℕ) → r ≡ min count_top c → c ≤ literal_limit → r ≡ c
-cap_exact r c e l = omega arith
-
 -- ---- in the words of the code
 
 -- one byte of a list: c bytes are taken by the first entry, n literals are left
@@ -208,12 +201,6 @@ next_piece ws t rest f p k q n e g =
     ending_step ws t rest f p k
     ∙ ap (λ (x : ℕ). ending_of (meant t) p (prefixed (tokens_in rest) (p * x) k) ++ ending (tokens_in rest) (p * x) k) (sym e)
     ∙ ap (λ (l : List ℕ). l ++ ending (tokens_in rest) (p * n) k) (sym g)
-
-pub one_below : (n k : ℕ) → k < n → k < 1 * n
-one_below n k h = let e : 1 * n ≡ n = one-mul n in omega arith
-
-pub one_numerable : (n k : ℕ) → k < n → n ≤ literal_limit → Numerable 1 n
-one_numerable n k h l = let e : 1 * n ≡ n = one-mul n in record { some = (omega arith); few = (omega arith) }
 
 -- a token of one entry: its ending is one byte
 pub one_some : (e : Entry) (n : ℕ) → n ≡ length (taken (token_of e)) → 0 < count_of (token_of e) → 0 < n
