@@ -82,7 +82,7 @@ fn simple_at(ws: &[u32], at: usize) -> bool
     }
 }
 
-// 12: whether the tokens are simple. A token says how many words it has, so the place moves on by so many: no `for` steps so.
+// 12: whether the tokens are simple. The place moves on by as many words as a token says: an iterator for it would be no plainer than this `while`.
 #[tactic(auto, using(emit::proofs::AltLaws::size_least, crate::proofs::WalkLaws::walk_fits))]
 pub fn simple_tokens(ws: &[u32]) -> bool
     requires { Entered ws.now }
@@ -98,7 +98,7 @@ pub fn simple_tokens(ws: &[u32]) -> bool
     true
 }
 
-// Where the tokens start, and how many they are, by the same steps.
+// Where the tokens start, and how many they are, by the same steps as above.
 #[tactic(auto, using(emit::proofs::AltLaws::size_least, crate::proofs::WalkLaws::marked_fits))]
 pub fn find_starts(ws: &[u32], starts: &mut [u16]) -> usize
     requires { Entered ws.now × (length ws.now ≤ 4 * length starts.old) }
