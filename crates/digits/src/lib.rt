@@ -197,6 +197,7 @@ pub fn number(text: &[u8], at: usize) -> Result<Option<Read<u32>>, TooBig>
     ensures { numbered at result ≡ number_at text.now at }
 {
     let mut value: u64 = 0;
+    // Counted beside the loop: its end is wanted also where the text ends with a digit, and `enumerate` gives none there.
     let mut stop = at;
     for c in rest(text, at) {
         if !c.is_ascii_digit() {

@@ -1,11 +1,6 @@
 -- Tokens and lists read so far, with one more at their end. Assumes nothing.
-use Prim.Native.Nat.{ℕ, suc}
-use mathlib.Core.Path.{◌≡◌, refl, sym, ap, ◌∙◌}
-use mathlib.Core.Bool.{Bool, true, false, ◌||◌, ◌&&◌}
-use mathlib.Core.List.{List, ◌++◌, append_assoc, append-nil}
-use native.Mathlib.Omega.{arith}
-use borrow.Author.Tests.{le-leb}
-use lib.Dec.{leb, eqb-suc-zero}
+use Rattle.std.proofs.Common.{ℕ, suc, ◌≡◌, refl, sym, ap, ◌∙◌, Bool, true, false, ◌||◌, ◌&&◌, List, ◌++◌, append_assoc, append-nil, arith, le-leb, leb}
+use lib.Dec.{eqb-suc-zero}
 use Rattle.base.specs.declared.Refusal.{Refusal}
 use Rattle.def_meaning.specs.Tokens.{Token, Tokens, Lists, nothing, ◌then◌, neither, ◌or◌}
 use Rattle.def_meaning.specs.Entries.{entry, entries_in, entries_of, entries, list_entries, token_count, list_count}
