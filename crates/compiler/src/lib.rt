@@ -22,7 +22,7 @@ pub struct Sizes {
     pub reverse: usize,
 }
 
-// Whether a jump has an upper bound, within the limit.
+// Whether a jump has an upper bound, within the limit; the last word of an entry says whether it has one, by 0 or 1.
 #[tactic(auto, unfolding(def_compiling::specs::Compile::simple_token, crate::specs::Walks::to_of))]
 fn jump_near(b: u32, c: u32) -> bool
     ensures { result ≡ simple_token (Jump 0 (to_of b c)) }
@@ -52,7 +52,7 @@ fn flat_entries(ws: &[u32]) -> bool
         .all(|&[kind, a, b, c]| flat_entry(kind, a, b, c))
 }
 
-// The words of the token at a place.
+// The words of the token at a place. (`as`: std has no From<u32> for usize, and below none to a narrower number; a place in a text's tokens fits u16.)
 #[tactic(auto, unfolding(emit::specs::Lists::size_at))]
 fn token_size(ws: &[u32], at: usize) -> usize
     requires { at + 4 ≤ length ws.now }
@@ -115,7 +115,8 @@ pub fn find_starts(ws: &[u32], starts: &mut [u16]) -> usize
     n
 }
 
-// Both programs of tokens, each at the front of its buffer; or 12, then 14, then 13.
+// Both programs of tokens, each at the front of its buffer; or 12, then 14, then 13. That the words are some tokens' (Entered) is asked by four
+// functions and held by no type: the door hands on words that it has just read, and a type for them would be made there and taken apart here.
 fn make(
     tokens: &[u32],
     first: &mut [NodeWord; ENTRY_LIMIT],

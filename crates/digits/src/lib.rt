@@ -212,6 +212,7 @@ pub fn number(text: &[u8], at: usize) -> Result<Option<Read<u32>>, TooBig>
     if stop == at {
         return Ok(None);
     }
+    // `as`: the value is within NUMBER_LIMIT, and no From makes a number narrower.
     Ok(Some(up_to(text, value as u32, stop)))
 }
 

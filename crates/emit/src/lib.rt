@@ -43,7 +43,8 @@ pub struct Written {
     ghost behind: { Behind count last } by { Prim.hlevel props },
 }
 
-// The value and the mask of `?X` and `X?`; `??` has none. The values that a text can spell are below 16: the remainder spares a requirement.
+// The value and the mask of `?X` and `X?`; `??` has none. The values that a text can spell are below 16: the remainder spares a requirement. (Here and
+// below `as` stands where std has no From: from u32 to usize, and to a narrower number, of which a remainder, or the pool's length, loses nothing.)
 #[tactic(auto, unfolding(crate::specs::Items::half_of))]
 fn half(a: u32, b: u32) -> Option<(Field, Field)>
     ensures { result ≡ half_of a b }
@@ -208,7 +209,8 @@ pub struct Branched {
     pub long: bool,
 }
 
-// Lists behind their marks: each is a branch, with its own mark before its nodes.
+// Lists behind their marks: each is a branch, with its own mark before its nodes. That the words have room in `out` is asked of both slices together,
+// here and in what calls it, so no type of one of them could hold it.
 pub fn add_lists(entries: &[u32], lists: usize, backwards: bool, out: &mut [NodeWord]) -> Branched
     requires { FlatLists lists entries.now × (length entries.now ≤ token_pool) × (length entries.now ≤ 4 * length out.old) }
     ensures { (result.count ≡ length (words_in (branches_at backwards lists entries.now)))

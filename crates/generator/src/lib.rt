@@ -19,7 +19,7 @@ fn length_at(ws: &[u32], k: usize) -> usize
     spelling::with_literal(ws, k, |literal| literal.len())
 }
 
-// The bytes of all n literals. Known before the first is written, for a refusal leaves the buffers as they were.
+// The bytes of all n literals; n is handed on, since to count them is a walk over all words. Known before the first is written, for a refusal leaves the buffers as they were.
 fn total_of(ws: &[u32], n: usize) -> usize
     requires { (length ws.now ≤ token_pool) × (n ≡ count (tokens_in ws.now)) × (n ≤ literal_limit) }
     ensures { result ≡ length (flatten (literals (tokens_in ws.now))) }
@@ -36,6 +36,7 @@ fn write_each(ws: &[u32], n: usize, bytes: &mut [u8], lengths: &mut [u16])
     let mut at = 0;
     for k in 0..n {
         let w = spelling::write_literal(ws, k, &mut bytes[at..]);
+        // `as`: a literal has at most ENTRY_LIMIT bytes, and no From makes a number narrower.
         lengths[k] = w as u16;
         at += w;
     }

@@ -39,6 +39,7 @@ fn longer_slices(
     }
 }
 
+// (Whole is asked of words that are cut out of others, as the bound on their number is: ranking says why no type holds it.)
 // The first highest slice of a run, with the literal parts on either side. Parts are walked by width, as above.
 fn best_slice(run: &[u32]) -> Result<Option<Pick>, TooMany>
     requires { (length run.now ≤ token_pool) × Whole run.now }

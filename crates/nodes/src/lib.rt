@@ -45,7 +45,8 @@ const WORDS: NodeWord = SECOND * FIELDS;
 // How many values a byte has: the values and masks of a sound program are bytes.
 const BYTES: Field = 256;
 
-// The first word past those of branches that may stand in a sound program.
+// The first word past those of branches that may stand in a sound program. (Here and below `as` stands where std has no From: to and from usize, and to
+// narrower numbers, of which a remainder loses nothing.)
 const BRANCHES: NodeWord = KINDS * (BRANCH_LIMIT as NodeWord + 1);
 
 // What is asked of one byte. Values and masks are fields here, since every word of a kind that 01 has says a node.

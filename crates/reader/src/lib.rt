@@ -50,9 +50,11 @@ fn put_head(pool: &mut [u32], n: usize, kind: u32, count: usize, end: usize)
     ensures { pool.new ≡ written pool.old n (kind ∷ count ∷ ((end - (n + 4)) / 4) ∷ 0 ∷ []) }
 {
     let inner = (end - (n + 4)) / 4;
+    // `as`: both are below the words of the pool, and std has no From<usize> for u32.
     put(pool, n, [kind, count as u32, inner as u32, 0]);
 }
 
+// The words of a token's entry. Kinds are numbers here, and 5 and 6 below, since the pool for them is lent over the C interface.
 fn entry(tok: Leaf) -> [u32; 4]
     ensures { result ≡ entries_of (token_of tok) }
 {
@@ -108,7 +110,7 @@ fn unexpected(place: usize) -> Refused
     }
 }
 
-// One token, if there is one.
+// One token, if there is one. What Room asks is of the text, the pool and a point together, so no type of one of them could hold it.
 #[cycle(read_alternatives_read_list_read_token)]
 pub fn read_token(
     text: &[u8],
@@ -168,7 +170,7 @@ pub fn read_list(
     list_end(from.at, to, k, first, last)
 }
 
-// Alternatives. Their entry, and each list's mark, are written once what follows them is known.
+// Alternatives. Their entry, and each list's mark, are written once what follows them is known. A `loop`, since all three ways out are within a turn.
 #[cycle(read_alternatives_read_list_read_token)]
 pub fn read_alternatives(
     text: &[u8],

@@ -1,7 +1,8 @@
 // Translated from boreal's boreal/src/matcher/validator/simple.rs (MIT OR Apache-2.0), commit 7010b5e967; see NOTICE.
 // The search of both checks: the first choice that fits, over the way in which a window is read. The original has it twice.
 // Nodes of fixed length are a loop; only jump lengths and tails after a branch recurse. 01 names the let-else that takes the next node, so the
-// loops over nodes and over branches are a `loop` (docs/RULES.md, form-let-else).
+// loops over nodes and over branches are a `loop` (docs/RULES.md, form-let-else). Sound is asked by three functions and held by no type: a search hands on
+// parts of its words, and a part would be made a value of such a type again at every hand.
 #![tactic(auto)]
 
 ghost use Rattle.std.specs.Prelude.{◌≡◌, true, ◌⊎◌, ◌∷◌, ◌≤◌, length, drop, MatchOption};
