@@ -29,6 +29,7 @@ impl From<[u32; 4]> for Entry {
     ghost from_gives = { λ ws e. token_of e ≡ entry_at ws };
 
     fn from([kind, value, mask, _]: [u32; 4]) -> Self {
+        // A remainder fits: try_from would have an error to answer.
         let x = (value % 256) as u8;
         match (kind, mask) {
             (0, _) => Entry::Byte(x),
@@ -65,11 +66,13 @@ impl Entry {
     {
         match self {
             Entry::Byte(_) => 1,
+            // usize has no From of a u32.
             _ => self.class().count() as usize,
         }
     }
 
-    // Byte number j of those that the entry takes, told without a walk through them: each literal asks it of each of its classes.
+    // Byte number j of those that the entry takes, told without a walk through them: each literal asks it of each of its classes. As one of them it fits,
+    // so that casts lose nothing, and try_from would have an error to answer.
     pub fn at(self, j: usize) -> u8
         requires { j < length (taken (token_of self)) }
         ensures { result ≡ get_or (taken (token_of self)) j 0 }

@@ -19,6 +19,7 @@ pub fn end_of(ws: &[u32]) -> usize
     requires { 4 ≤ length ws.now }
     ensures { (result ≡ ends ws.now) × (4 ≤ result) × (result ≤ length ws.now) }
 {
+    // usize has no From of a u32.
     (ENTRY + ENTRY * (ws[2] as usize)).min(ws.len())
 }
 

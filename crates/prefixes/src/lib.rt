@@ -47,6 +47,7 @@ fn prefixed_by(mut tokens: Tokens, p: usize, k: usize) -> usize
     requires { Numerable p (count (tokens_in tokens.words.now)) }
     ensures { result ≡ prefixed (tokens_in tokens.entry.words.now) p k }
 {
+    // Not a `for`: what is left of the tokens is handed on.
     while let Some(token) = tokens.next() {
         if let Token::One(Entry::Byte(_)) = token {
             continue;

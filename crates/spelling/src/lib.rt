@@ -73,6 +73,7 @@ pub fn write_literal(ws: &[u32], k: usize, dst: &mut [u8]) -> usize
     let mut tokens = Tokens { words: ws };
     let mut p = 1;
     let mut i = 0;
+    // Not a `for`: what is left of the tokens is handed on.
     while let Some(token) = tokens.next() {
         let t = tallies::tally_token(token);
         let q = prefixes::number_of(tokens, p, t.literals, k);
