@@ -1,18 +1,8 @@
 -- Laws of the score.
-use mathlib.Core.Path.{◌≡◌, refl, sym, ap, ap₂, ◌∙◌}
-use mathlib.Core.Bool.{Bool, true, false, cond}
-use mathlib.Core.Logic.{◌⊎◌, inl, inr, ⊎_elim}
-use mathlib.Core.List.{List, [], ◌∷◌}
-use Prim.Native.Nat.{ℕ, zero, suc, ◌+◌, ◌-◌, ◌*◌, ◌≤◌, ◌<◌, max}
-use native.Mathlib.Omega.{arith}
-use native.Mathlib.Nat.{le-max_left, le-max_right, max-eq_left, max-eq_right, zero-add, add_assoc, eq-or-lt_of_le}
-use lib.Dec.{eqb, leb}
-use lib.ListN.{length, take, drop, length-take, length-drop}
-use lib.Seq.{take_all, drop-drop}
+use native.Mathlib.Nat.{le-max_left, le-max_right, max-eq_left, max-eq_right}
 use Rattle.std.specs.List.{fold}
-use Rattle.std.proofs.Common.{map}
+use Rattle.std.proofs.Common.{map, ◌≡◌, refl, sym, ap, ap₂, ◌∙◌, Bool, true, false, cond, ◌⊎◌, inl, inr, ⊎_elim, List, [], ◌∷◌, ℕ, zero, suc, ◌+◌, ◌-◌, ◌*◌, ◌≤◌, ◌<◌, max, arith, zero-add, add_assoc, eq-or-lt_of_le, eqb, leb, length, take, drop, length-take, length-drop, take_all, drop-drop, eq-eqb, ne_eqb, leb-true, leb-false}
 use types.Run.{OneOf}
-use borrow.Author.Tests.{eq-eqb, ne_eqb, leb-true, leb-false}
 use Rattle.atoms.specs.Score.{among, common, byte_score, atom_score, atom_at, highest, literal_score, IsAtom, IsScore}
 
 -- ---- a byte

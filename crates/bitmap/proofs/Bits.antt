@@ -1,14 +1,10 @@
 -- The bits of a number, over any width.
-use mathlib.Core.Path.{◌≡◌, refl, sym, ap, ◌∙◌}
-use mathlib.Core.Bool.{false, not, ◌||◌}
-use Prim.Native.Nat.{ℕ, zero, suc, ◌-◌, ◌*◌, ◌/◌, ◌%◌, ◌^◌, ◌≤◌, ◌<◌, max}
-use native.Mathlib.Omega.{arith}
-use native.Mathlib.Nat.{zero-div, div-one, pow-suc, max-le, zero-max, mod-eq_of_lt}
-use native.Mathlib.Numerals.{one-add}
+use Rattle.std.proofs.Common.{◌≡◌, refl, sym, ap, ◌∙◌, false, not, ◌||◌, ℕ, zero, suc, ◌-◌, ◌*◌, ◌/◌, ◌%◌, ◌^◌, ◌≤◌, ◌<◌, max, arith, div-one, pow-suc, mod-eq_of_lt, one-add, bit_or, eqb, shr-shr}
+use native.Mathlib.Nat.{zero-div, max-le, zero-max}
 use lib.Arith.{digits_mod}
-use lib.Bits.{bit_or, or_step, or_shr}
-use lib.Dec.{eqb, eqb-zero-suc, eqb-suc-zero, eqb-suc-suc}
-use lib.Pow.{shr-shr, pow-lt}
+use lib.Bits.{or_step, or_shr}
+use lib.Dec.{eqb-zero-suc, eqb-suc-zero, eqb-suc-suc}
+use lib.Pow.{pow-lt}
 use Rattle.bitmap.specs.Bitmap.{bit}
 
 pub bit_zero : (j : ℕ) → bit 0 j ≡ false

@@ -1,13 +1,7 @@
 -- The words of the half masks.
-use mathlib.Core.Path.{◌≡◌, refl, sym, ap, ◌∙◌}
-use mathlib.Core.Bool.{Bool, true, false, beq}
-use mathlib.Core.List.{[], ◌∷◌}
-use Prim.Native.Nat.{ℕ, ◌*◌, ◌/◌, ◌%◌, ◌^◌, ◌<◌}
-use native.Mathlib.Omega.{arith}
-use lib.Dec.{eqb}
-use lib.ListN.{get_or, set}
-use lib.Seq.{get_or-set_same, get_or-set_other}
-use borrow.Author.Tests.{eqb-true, eqb-false, ne_eqb}
+use Rattle.std.proofs.Common.{◌≡◌, refl, sym, ap, ◌∙◌, Bool, true, false, [], ◌∷◌, ℕ, ◌*◌, ◌/◌, ◌%◌, ◌^◌, ◌<◌, arith, eqb, get_or, set, get_or-set_same, get_or-set_other, eqb-true, ne_eqb}
+use mathlib.Core.Bool.{beq}
+use borrow.Author.Tests.{eqb-false}
 use Rattle.bitmap.specs.Bitmap.{bit}
 use Rattle.bitmap.proofs.Bits.{bit_zero}
 use Rattle.bitmap.proofs.Table.{all_below, all_below_lem, same, eqb_iff}

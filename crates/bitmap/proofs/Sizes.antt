@@ -1,10 +1,5 @@
 -- The sizes of the classes.
-use mathlib.Core.Path.{◌≡◌, refl, ap, ◌∙◌}
-use mathlib.Core.Bool.{Bool, true, not}
-use Prim.Native.Nat.{ℕ, ◌+◌, ◌/◌, ◌%◌, ◌<◌}
-use native.Mathlib.Omega.{arith}
-use lib.Dec.{eqb}
-use borrow.Author.Tests.{eqb-true}
+use Rattle.std.proofs.Common.{◌≡◌, refl, ap, ◌∙◌, Bool, true, not, ℕ, ◌+◌, ◌/◌, ◌%◌, ◌<◌, arith, eqb, eqb-true}
 use Rattle.bitmap.specs.declared.Bitmap.{Bitmap}
 use Rattle.bitmap.specs.Bitmap.{has, Holds, tally, size}
 use Rattle.bitmap.proofs.Table.{all_below, all_below_lem}

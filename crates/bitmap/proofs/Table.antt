@@ -1,12 +1,7 @@
 -- Tests on numbers. A rule of a whole table is one test that is computed.
-use mathlib.Core.Path.{◌≡◌, refl, sym, ap, ◌∙◌}
-use mathlib.Core.Bool.{Bool, true, false, cond, beq, false≢true}
-use mathlib.Core.Logic.{⊎_elim}
-use Prim.Native.Nat.{ℕ, zero, suc, ◌≤◌, ◌<◌}
-use native.Mathlib.Omega.{arith}
-use native.Mathlib.Nat.{eq-or-lt_of_le}
-use lib.Dec.{eqb}
-use borrow.Author.Tests.{eqb-true, eqb-false, eq-eqb, ne_eqb}
+use Rattle.std.proofs.Common.{◌≡◌, refl, sym, ap, ◌∙◌, Bool, true, false, cond, ⊎_elim, ℕ, zero, suc, ◌≤◌, ◌<◌, arith, eq-or-lt_of_le, eqb, eqb-true, eq-eqb, ne_eqb}
+use mathlib.Core.Bool.{beq, false≢true}
+use borrow.Author.Tests.{eqb-false}
 
 -- the test holds for each number below n
 unfoldable pub all_below : ℕ → (ℕ → Bool) → Bool

@@ -1,14 +1,6 @@
 -- Counts of the numbers that pass a test.
-use mathlib.Core.Path.{◌≡◌, refl, sym, ap, ap₂, ◌∙◌}
-use mathlib.Core.Bool.{Bool, true, false, cond, not}
-use mathlib.Core.Logic.{⊎_elim}
-use Prim.Native.Nat.{ℕ, zero, suc, ◌+◌, ◌*◌, ◌/◌, ◌%◌, ◌^◌, ◌≤◌, ◌<◌}
-use native.Mathlib.Omega.{arith}
-use native.Mathlib.Nat.{add-zero, add-suc, add_assoc, zero-add, pow-suc, eq-or-lt_of_le}
-use native.Mathlib.Numerals.{one-add}
+use Rattle.std.proofs.Common.{◌≡◌, refl, sym, ap, ap₂, ◌∙◌, Bool, true, false, cond, not, ⊎_elim, ℕ, zero, suc, ◌+◌, ◌*◌, ◌/◌, ◌%◌, ◌^◌, ◌≤◌, ◌<◌, arith, add-zero, add-suc, add_assoc, zero-add, pow-suc, eq-or-lt_of_le, one-add, eqb, eq-eqb, ne_eqb}
 use lib.Count.{ones, ones_step, ones-le}
-use lib.Dec.{eqb}
-use borrow.Author.Tests.{eq-eqb, ne_eqb}
 use Rattle.bitmap.specs.Bitmap.{bit, tally}
 use Rattle.bitmap.proofs.Bits.{bit_low, bit_next}
 

@@ -1,17 +1,8 @@
 -- A bitmap's members by its four words.
-use mathlib.Core.Path.{◌≡◌, refl, sym, ap, ap₂, ◌∙◌}
-use mathlib.Core.Bool.{Bool, true, false, ◌||◌, or_comm}
-use mathlib.Core.List.{List, [], ◌∷◌}
-use Prim.Native.Nat.{ℕ, zero, suc, ◌+◌, ◌*◌, ◌/◌, ◌%◌, ◌^◌, ◌<◌}
-use native.Mathlib.Omega.{arith}
-use native.Mathlib.Nat.{mul-suc, zero-add}
+use mathlib.Core.Bool.{or_comm}
 use Rattle.std.specs.List.{fold}
-use Rattle.std.proofs.Common.{map}
-use lib.Bits.{bit_or}
-use lib.Dec.{eqb}
-use lib.ListN.{length, get_or, set}
-use lib.Seq.{get_or-set_same, get_or-set_other}
-use borrow.Author.Tests.{eqb-true, eqb-false, ne_eqb}
+use Rattle.std.proofs.Common.{map, ◌≡◌, refl, sym, ap, ap₂, ◌∙◌, Bool, true, false, ◌||◌, List, [], ◌∷◌, ℕ, zero, suc, ◌+◌, ◌*◌, ◌/◌, ◌%◌, ◌^◌, ◌<◌, arith, mul-suc, zero-add, bit_or, eqb, length, get_or, set, get_or-set_same, get_or-set_other, eqb-true, ne_eqb}
+use borrow.Author.Tests.{eqb-false}
 use Rattle.bitmap.specs.declared.Bitmap.{Bitmap}
 use Rattle.bitmap.specs.Bitmap.{bit, has, tally, size}
 use Rattle.bitmap.proofs.Bits.{bit_or_lem, bit_pow, shifted}

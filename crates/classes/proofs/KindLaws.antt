@@ -1,9 +1,6 @@
 -- Token entries by their kind, and which of them are plain. Assumes nothing.
-use mathlib.Core.Path.{◌≡◌, refl}
-use mathlib.Core.Bool.{Bool, true, false, cond}
+use Rattle.std.proofs.Common.{◌≡◌, refl, Bool, true, false, cond, ℕ, ◌%◌, eqb}
 use mathlib.Core.Option.{none}
-use Prim.Native.Nat.{ℕ, ◌%◌}
-use lib.Dec.{eqb}
 use Rattle.def_meaning.specs.Tokens.{Token, Byte, NotByte, MaskedByte, NotMaskedByte, Jump, Mask}
 use Rattle.def_picking.specs.Runs.{plain_inside}
 use Rattle.classes.specs.Entry.{mask_in, entry_token}

@@ -1,13 +1,5 @@
 -- Entries, one at a time. Assumes nothing.
-use mathlib.Core.Path.{◌≡◌, refl, sym, ap, ◌∙◌}
-use mathlib.Core.Bool.{Bool, true, false, cond}
-use mathlib.Core.List.{List}
-use Prim.Native.Nat.{ℕ, zero, suc, ◌-◌, ◌≤◌, ◌<◌}
-use native.Mathlib.Omega.{arith}
-use native.Mathlib.Nat.{le_refl}
-use lib.Dec.{eqb, ltb}
-use lib.ListN.{length, drop, get_or, length-drop}
-use borrow.Author.Tests.{lt-ltb, le-ltb}
+use Rattle.std.proofs.Common.{◌≡◌, refl, sym, ap, ◌∙◌, Bool, true, false, cond, List, ℕ, zero, suc, ◌-◌, ◌≤◌, ◌<◌, arith, le_refl, eqb, ltb, length, drop, get_or, length-drop, lt-ltb, le-ltb}
 use Rattle.def_meaning.specs.Tokens.{nothing, ◌then◌, neither, ◌or◌}
 use Rattle.entries.specs.Words.{first_entry, walk, branch_in, ends, inside, lists_in, token_in, width, tokens_in}
 

@@ -1,11 +1,7 @@
 -- Prefixes, from the entries. Assumes nothing.
-use mathlib.Core.Path.{◌≡◌, refl, sym, ap, ◌∙◌, subst}
-use mathlib.Core.List.{List, [], ◌∷◌}
-use Prim.Native.Nat.{ℕ, zero, suc, ◌+◌, ◌-◌, ◌*◌, ◌/◌, ◌%◌, ◌≤◌, ◌<◌, min}
-use native.Mathlib.Omega.{arith}
-use native.Mathlib.Nat.{mul-zero, mul-one, one-mul, mul_comm, mul_assoc, le-mul_of_pos_right, div-one, div-zero, mod-one}
-use lib.ListN.{length, get_or, replicate, length-replicate}
-use borrow.Author.Tests.{lt-ltb, le-ltb}
+use Rattle.std.proofs.Common.{◌≡◌, refl, sym, ap, ◌∙◌, subst, List, [], ◌∷◌, ℕ, zero, suc, ◌+◌, ◌-◌, ◌*◌, ◌/◌, ◌%◌, ◌≤◌, ◌<◌, min, arith, mul-zero, mul-one, one-mul, mul_comm, mul_assoc, le-mul_of_pos_right, div-one, length, get_or, replicate, lt-ltb, le-ltb}
+use native.Mathlib.Nat.{div-zero, mod-one}
+use lib.ListN.{length-replicate}
 use Rattle.def_meaning.specs.Limits.{literal_limit}
 use Rattle.tallies.specs.Tallies.{count_top}
 use Rattle.def_meaning.specs.Tokens as meaning

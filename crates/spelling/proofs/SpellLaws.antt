@@ -1,11 +1,6 @@
 -- The pieces of literal number k, from the entries. Assumes nothing.
-use mathlib.Core.Path.{◌≡◌, refl, sym, ap, ap₂, ◌∙◌, subst}
-use mathlib.Core.List.{List, [], ◌∷◌, ◌++◌}
-use Prim.Native.Nat.{ℕ, ◌+◌, ◌-◌, ◌*◌, ◌/◌, ◌%◌, ◌≤◌, ◌<◌}
-use native.Mathlib.Omega.{arith}
-use native.Mathlib.Nat.{mul_comm, div-one, div-div-eq-div-mul, mul-div_cancel_left, mod-lt, mod-one}
-use lib.ListN.{length, get_or, drop, length-drop}
-use borrow.Author.Tests.{lt-ltb, le-ltb}
+use Rattle.std.proofs.Common.{◌≡◌, refl, sym, ap, ap₂, ◌∙◌, subst, List, [], ◌∷◌, ◌++◌, ℕ, ◌+◌, ◌-◌, ◌*◌, ◌/◌, ◌%◌, ◌≤◌, ◌<◌, arith, mul_comm, div-one, mod-lt, length, get_or, drop, length-drop, lt-ltb, le-ltb}
+use native.Mathlib.Nat.{div-div-eq-div-mul, mul-div_cancel_left, mod-one}
 use Rattle.def_meaning.specs.Limits.{literal_limit}
 use Rattle.def_meaning.specs.Tokens.{Tokens}
 use Rattle.def_picking.specs.Literals.{taken}

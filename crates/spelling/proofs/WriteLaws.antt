@@ -1,10 +1,6 @@
 -- A literal that is written piece by piece. Assumes nothing.
-use mathlib.Core.Path.{◌≡◌, refl, sym, ap, ap₂, ◌∙◌, subst}
-use mathlib.Core.List.{List, [], ◌∷◌, ◌++◌, append_assoc}
-use Prim.Native.Nat.{ℕ, suc, ◌+◌, ◌-◌, ◌≤◌, ◌<◌}
-use native.Mathlib.Omega.{arith}
-use lib.ListN.{length, take, drop, set, take-append-drop, length-drop, length-append}
-use lib.Seq.{length-take-le, take_all, take_at, drop_at, set_at, drop-cons}
+use Rattle.std.proofs.Common.{◌≡◌, refl, sym, ap, ap₂, ◌∙◌, subst, List, [], ◌∷◌, ◌++◌, append_assoc, ℕ, suc, ◌+◌, ◌-◌, ◌≤◌, ◌<◌, arith, length, take, drop, set, take-append-drop, length-drop, length-append, length-take-le, take_all, take_at, drop_at, drop-cons}
+use lib.Seq.{set_at}
 use borrow.Rule.Slice.PartMut.{put_mid}
 use Rattle.base.proofs.LentLaws.{lent_rest}
 use Rattle.spelling.specs.Writing.{Written}

@@ -1,13 +1,5 @@
 -- Counts, combinations and lengths of entries. What exceeds 256 is counted as 257. Assumes nothing.
-use mathlib.Core.Path.{◌≡◌, refl, sym, ap, ap₂, ◌∙◌}
-use mathlib.Core.Bool.{Bool, true, false}
-use mathlib.Core.Logic.{◌⊎◌, inl, inr, ⊎_elim}
-use mathlib.Core.List.{List, []}
-use Prim.Native.Nat.{ℕ, zero, suc, ◌+◌, ◌-◌, ◌*◌, ◌/◌, ◌≤◌, ◌<◌, min}
-use native.Mathlib.Omega.{arith}
-use native.Mathlib.Nat.{mul-zero, mul-one, mul_comm, mul_assoc, le-mul_of_pos_right}
-use lib.Dec.{ltb}
-use lib.ListN.{length, get_or, drop, length-take, length-drop}
+use Rattle.std.proofs.Common.{◌≡◌, refl, sym, ap, ap₂, ◌∙◌, Bool, true, false, ◌⊎◌, inl, inr, ⊎_elim, List, [], ℕ, zero, suc, ◌+◌, ◌-◌, ◌*◌, ◌/◌, ◌≤◌, ◌<◌, min, arith, mul-zero, mul-one, mul_comm, mul_assoc, le-mul_of_pos_right, ltb, length, get_or, drop, length-take, length-drop}
 use Rattle.tallies.specs.Tallies.{count_top}
 use Rattle.def_picking.specs.Literals.{taken, combinations_of, combinations, combinations_in, length_of, length_in, shortest, shorter}
 use Rattle.def_picking.specs.Numbers.{count_of, count, count_in}

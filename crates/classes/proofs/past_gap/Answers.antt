@@ -1,7 +1,6 @@
 -- `classes::past_gap` meets its contract. Assumes nothing.
+use Rattle.std.proofs.Common.{sym, arith}
 use Rattle.classes.proofs.MemberLaws as law
-use mathlib.Core.Path.{sym}
-use native.Mathlib.Omega.{arith}
 use Rattle.classes.proofs.past_gap.Goals as goal
 
 pub returns-then-j-from : goal.returns-then-j-from

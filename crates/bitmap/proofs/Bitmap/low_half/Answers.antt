@@ -1,10 +1,8 @@
 -- `bitmap::Bitmap::low_half` meets its contract. Assumes nothing.
-use mathlib.Core.Path.{◌∙◌}
-use Prim.Native.Nat.{◌*◌, ◌%◌, ◌^◌}
+use Rattle.std.proofs.Common.{◌∙◌, ◌*◌, ◌%◌, ◌^◌, arith}
 use Rattle.bitmap.specs.Bitmap.{has}
 use Rattle.bitmap.proofs.Words.{four}
 use Rattle.bitmap.proofs.Halves.{low_bits}
-use native.Mathlib.Omega.{arith}
 use Rattle.bitmap.proofs.Bitmap.low_half.Goals as goal
 
 pub returns : goal.returns

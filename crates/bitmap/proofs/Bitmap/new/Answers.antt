@@ -1,5 +1,5 @@
 -- `bitmap::Bitmap::new` meets its contract. Assumes nothing.
-use mathlib.Core.Path.{◌∙◌}
+use Rattle.std.proofs.Common.{◌∙◌}
 use Rattle.bitmap.specs.Bitmap.{has}
 use Rattle.bitmap.proofs.Bits.{bit_zero}
 use Rattle.bitmap.proofs.Words.{four}
