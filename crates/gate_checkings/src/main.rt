@@ -54,23 +54,48 @@ fn answers<P: Print>(
     print!(rt; "\n")
 }
 
+// The word that is spelt in hex, by its last sixteen digits.
+fn word(hex: &[u8]) -> NodeWord {
+    hex.iter().fold(0, |w: NodeWord, c| {
+        w.wrapping_mul(16).wrapping_add(gatekit::value(*c).into())
+    })
+}
+
+// The words that are spelt in hex, a byte before each, as far as there is room; how many they are.
+fn unhex_words(text: &[u8], pool: &mut [NodeWord]) -> usize {
+    let mut rest = text;
+    for (n, place) in pool.iter_mut().enumerate() {
+        let Some((_, spelt)) = rest.split_first() else {
+            return n;
+        };
+        let (hex, after) = spelt.split_at(gatekit::blank(spelt));
+        *place = word(hex);
+        rest = after;
+    }
+    pool.len()
+}
+
 // A haystack in hex, the window's bounds, and the words in hex.
-fn case<P: Print>(rt: &P, line: &str) -> io::Result<()> {
-    let mut fields = line.split(' ');
-    let spelt = fields.next().unwrap_or("");
-    let (Some(Ok(start)), Some(Ok(end))) = (
-        fields.next().map(|n| n.parse::<usize>()),
-        fields.next().map(|n| n.parse::<usize>()),
-    ) else {
+fn case<P: Print>(rt: &P, line: &[u8]) -> io::Result<()> {
+    let (spelt, rest) = line.split_at(gatekit::blank(line));
+    let Some((_, window)) = rest.split_first() else {
+        return Ok(());
+    };
+    let Ok(Some(start)) = digits::number(window, 0) else {
+        return Ok(());
+    };
+    let Ok(Some(end)) = digits::number(window, start.end) else {
+        return Ok(());
+    };
+    let Some(words) = window.get(end.stop..) else {
         return Ok(());
     };
     let mut hay = [0u8; 512];
-    let n = gatekit::unhex(spelt.as_bytes(), &mut hay);
+    let n = gatekit::unhex(spelt, &mut hay);
     let mut pool: [NodeWord; 600] = [0; 600];
-    let count = line.split(' ').skip(3).count().min(600);
-    for (place, word) in pool.iter_mut().zip(fields) {
-        *place = NodeWord::from_str_radix(word, 16).unwrap_or(0);
-    }
+    let count = unhex_words(words, &mut pool).min(600);
+    // `as`: the library has no From<u32> for usize.
+    let (start, end) = (start.value as usize, end.value as usize);
     answers(rt, &pool[..count], &hay[..n], start, end)
 }
 
@@ -80,10 +105,7 @@ fn line<P: Print>(rt: &P, l: &[u8]) -> io::Result<()> {
         return Ok(());
     }
     gatekit::show(rt, l)?;
-    match str::from_utf8(l) {
-        Ok(text) => case(rt, text),
-        Err(_) => Ok(()),
-    }
+    case(rt, l)
 }
 
 fn main(rt: HostRuntime) -> io::Result<()> {

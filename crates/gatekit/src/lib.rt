@@ -70,7 +70,7 @@ pub fn hex<P: Print>(rt: &P, bytes: &[u8]) -> io::Result<()> {
 }
 
 // The value of a hex digit, and 0 of any other byte.
-fn value(c: u8) -> u8
+pub fn value(c: u8) -> u8
     ensures { result ≤ 15 }
 {
     match char::from(c).to_digit(16) {
