@@ -46,7 +46,8 @@ pub fn forward(
     Ok(Some(after))
 }
 
-// The reverse check of the window from start to end: the start of the first choice that fits at its end, or None where none fits.
+// The reverse check of the window from start to end: the start of the first choice that fits at its end, or None where none fits. (One function over the
+// way would need the offset besides, and be no plainer than the two doors.)
 pub fn reverse(
     words: &[NodeWord],
     hay: &[u8],

@@ -1,7 +1,7 @@
 -- From what was read to what the door says. Assumes nothing.
 use Rattle.std.proofs.Common.{◌≡◌, refl, sym, ap, ◌∙◌, false, Result, Ok, Err, IsErrAnd, List, [], ◌++◌, append-nil, append_assoc, ℕ, ◌-◌, ◌≤◌, ◌<◌, arith, leb, length, take, drop, replicate}
 use Rattle.std.proofs.Math.Bool.{and-false}
-use Rattle.std.proofs.Math.ListN.{length-take, length-replicate, take-append-drop}
+use Rattle.std.proofs.Math.ListN.{length-take, length-replicate}
 use Rattle.std.proofs.lemmas.Bool.{le-leb, lt-leb}
 use Rattle.std.proofs.lemmas.List.{drop_all}
 use Rattle.base.specs.declared.Refusal.{Refusal}
@@ -128,10 +128,8 @@ module _ (t p q : List ℕ) where
   pub small_forward : length p < node_pool → Door t (refuses 18 0) p p q q
   small_forward h = door_small (rw (lt-leb node_pool (length p) h))
 
-  pub small_reverse : (lent : List ℕ) → lent ≡ take node_pool p → length q < node_pool → Door t (refuses 18 0) p (lent ++ drop node_pool p) q q
-  small_reverse lent e h =
-      let d = door_small (rw (lt-leb node_pool (length q) h) (and-false (leb node_pool (length p)))) in
-      (d.0, ap (λ (x : List ℕ). x ++ drop node_pool p) e ∙ take-append-drop node_pool p ∙ d.1, d.2)
+  pub small_reverse : length q < node_pool → Door t (refuses 18 0) p p q q
+  small_reverse h = door_small (rw (lt-leb node_pool (length q) h) (and-false (leb node_pool (length p))))
 
   pub both_fit : node_pool ≤ length p → node_pool ≤ length q → (s : CompileSaid) (p₀ p' q₀ q' : List ℕ) → p₀ ≡ take node_pool p → q₀ ≡ take node_pool q → TextFills (reading t) s p₀ p' q₀ q' → Door t s p (p' ++ drop node_pool p) q (q' ++ drop node_pool q)
   unfolding compile_says forward_leaves reverse_leaves

@@ -49,11 +49,13 @@ pub fn compile(
         × (forward.new ≡ forward_leaves text.now forward.old reverse.old)
         × (reverse.new ≡ reverse_leaves text.now forward.old reverse.old) }
 {
-    let Some(forward) = forward.first_chunk_mut() else {
+    if forward.len() < NODE_POOL {
         return Err(Refusal::NoRoom.into());
-    };
-    let Some(reverse) = reverse.first_chunk_mut() else {
+    }
+    if reverse.len() < NODE_POOL {
         return Err(Refusal::NoRoom.into());
-    };
+    }
+    let forward = forward.first_chunk_mut().unwrap();
+    let reverse = reverse.first_chunk_mut().unwrap();
     compile_text(text, forward, reverse)
 }

@@ -108,6 +108,7 @@ fn line<P: Print>(rt: &P, l: &[u8]) -> io::Result<()> {
     case(rt, l)
 }
 
+// The three lines are those of other programs, with a file and a case of this one's.
 fn main(rt: HostRuntime) -> io::Result<()> {
     let mut text = [0u8; 65536];
     let n = gatekit::load(&rt, b"programs", &mut text)?;

@@ -9,6 +9,7 @@ fn line<R: Print + Eprint>(rt: &R, text: &[u8]) -> io::Result<()> {
     print!(rt; "\n")
 }
 
+// The three lines are those of other programs, with a file and a case of this one's.
 fn main(rt: HostRuntime) -> io::Result<()> {
     let mut texts = [0u8; 65536];
     let n = gatekit::load(&rt, b"texts", &mut texts)?;

@@ -13,7 +13,8 @@ ghost use Rattle.prefixes.specs.Numbers.{Numerable};
 use classes::Entry;
 use entries::{Lists, Token, Tokens};
 
-// With which of p prefixes literal number q of some lists begins.
+// With which of p prefixes literal number q of some lists begins. (spelling::write_branch walks to the same list: a finder for both would hand out three
+// values that each takes apart again, which is no plainer.)
 fn prefix_in(ls: &[u32], p: usize, q: usize) -> usize
     requires { (p ≤ literal_limit) × (count_in (lists_in ls.now) ≤ literal_limit) }
     ensures { result ≡ prefix_in (lists_in ls.now) p q }
