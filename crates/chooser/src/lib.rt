@@ -71,7 +71,8 @@ fn with_run(ws: &[u32], from: usize, to: usize, top: Option<Pick>) -> Result<Opt
     Ok(Some(better(ws, top, new)))
 }
 
-// What is chosen among the runs after the first segment, which ends at `first`. Segments differ in width, so no iterator of the library walks them.
+// What is chosen among the runs after the first segment, which ends at `first`. Segments are walked here alone,
+// and by their places, which an iterator over their words would have to give besides.
 fn later_runs(ws: &[u32], first: usize) -> Result<Option<Pick>, TooMany>
     requires { (length ws.now ≤ token_pool) × (first ≤ length ws.now) × Whole (drop first ws.now) × AllTold (afterward (tokens_in (drop first ws.now))) }
     ensures { (winner_says ws.now result ≡ among_runs unranked (later_runs (drop first ws.now))) × IfOk result (Kept ws.now) }

@@ -29,7 +29,7 @@ impl From<[u32; 4]> for Entry {
     ghost from_gives = { λ ws e. token_of e ≡ entry_at ws };
 
     fn from([kind, value, mask, _]: [u32; 4]) -> Self {
-        // A remainder fits: try_from would have an error to answer.
+        // A remainder fits: try_from would have an error to answer. Kinds and masks are numbers in the words of a lent pool, and cases from here on.
         let x = (value % 256) as u8;
         match (kind, mask) {
             (0, _) => Entry::Byte(x),

@@ -1,5 +1,6 @@
 // Translated from boreal's boreal-parser/src/hex_string.rs (MIT OR Apache-2.0), commit 7010b5e967; see NOTICE.
-// The small readers. Each one answers where it stopped, and where the blanks after that end.
+// The small readers. Each one answers where it stopped, and where the blanks after that end. A text and an offset are a reader's cursor; they are no struct,
+// since a reader looks at several offsets and the clauses speak of both, so each would take it apart again.
 #![tactic(auto)]
 
 ghost use Rattle.std.specs.Prelude.{◌≡◌, ℕ, drop, get_or};

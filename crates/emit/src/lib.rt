@@ -106,7 +106,8 @@ impl Written {
         }
     }
 
-    // The length of the last node with so much more, if that is a jump and the sum is within the limit, which is the most that a field holds.
+    // The length of the last node with so much more, if that is a jump and the sum is within JUMP_LIMIT, which is the most that a
+    // field holds: a sum above it has no field.
     fn grown(self, len: Field) -> Option<Field>
         ensures { result ≡ grown_of self.last len }
     {

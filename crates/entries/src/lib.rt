@@ -14,7 +14,8 @@ use classes::Entry;
 // The words of an entry.
 pub const ENTRY: usize = 4;
 
-// Where the words within an entry of alternatives or a list mark end.
+// Where the words within an entry of alternatives or a list mark end. That four words are there is asked here and of two more, which are handed words from
+// any place on: to hand them the four apart would be no plainer.
 pub fn end_of(ws: &[u32]) -> usize
     requires { 4 ≤ length ws.now }
     ensures { (result ≡ ends ws.now) × (4 ≤ result) × (result ≤ length ws.now) }
@@ -35,7 +36,7 @@ pub fn width_of(ws: &[u32]) -> usize
     }
 }
 
-// The kind of the entries that begin alternatives.
+// The kind of the entries that begin alternatives: a number, since the words are a lent pool's.
 const ALTERNATIVES: u32 = 5;
 
 // A token: an entry that has no words within, or the words of the lists that alternatives have, each after its mark.

@@ -32,7 +32,7 @@ fn line<P: Print>(
     }
 }
 
-// A pool of the words that a call may write and four beyond, which must stay; and one of a word less than a call wants.
+// A pool of the words that a call may write and four beyond, which must stay; and one of a word less than a call wants. Each use is a pool of its own.
 const LONG: [NodeWord; 516] = [gatekit::OLD; 516];
 
 const SHORT: [NodeWord; 511] = [gatekit::OLD; 511];

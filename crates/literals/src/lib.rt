@@ -13,7 +13,8 @@ ghost use Rattle.runs.specs.Whole.{Placed, Whole};
 
 use picks::{Pick, TooMany};
 
-// A slice and the longer ones with the same first part, which begins at `at`. Parts differ in width, so no iterator of the library walks them.
+// A slice and the longer ones with the same first part, which begins at `at`. Parts are walked by
+// their places, which the winner keeps: an iterator over their words would have to give them besides, and be no plainer.
 fn longer_slices(
     run: &[u32],
     prior: usize,

@@ -10,6 +10,7 @@ use nodes::NodeWord;
 use sound::{branch_inside, is_sound, item_inside};
 
 // By copy_from_slice and reverse, whose calls the loops around have to save their registers for, a mirror of 512 bytes takes 4.1 us, and not 3.2.
+// (That both slices have one length is asked of the two together, here and below, so no type of one could hold it.)
 fn reverse_into(src: &[NodeWord], dst: &mut [NodeWord])
     requires { length dst.old ≡ length src.now }
     ensures { dst.new ≡ reverse src.now }

@@ -32,7 +32,8 @@ pub struct Pick {
     pub rank: u32,
 }
 
-// What wins so far: a pick, if there is one yet, or too many literals somewhere.
+// What wins so far: a pick, if there is one yet, or too many literals somewhere. The functions below take the whole of it, since what may not change is
+// that they answer for every winner.
 pub type Winner = Result<Option<Pick>, TooMany>;
 
 // A slice's rank, if it is not skipped, or too many literals.

@@ -14,7 +14,7 @@ use classes::Entry;
 use entries::{Lists, Token, Tokens};
 
 // With which of p prefixes literal number q of some lists begins. (spelling::write_branch walks to the same list: a finder for both would hand out three
-// values that each takes apart again, which is no plainer.)
+// values that each takes apart again, which is no plainer. The bound on p, a count, is asked by three functions: a number with it would be unwrapped there.)
 fn prefix_in(ls: &[u32], p: usize, q: usize) -> usize
     requires { (p ≤ literal_limit) × (count_in (lists_in ls.now) ≤ literal_limit) }
     ensures { result ≡ prefix_in (lists_in ls.now) p q }

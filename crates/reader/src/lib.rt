@@ -110,7 +110,8 @@ fn unexpected(place: usize) -> Refused
     }
 }
 
-// One token, if there is one. What Room asks is of the text, the pool and a point together, so no type of one of them could hold it.
+// One token, if there is one. What Room asks is of the text, the pool and a point together, so no type of one of them could hold it; and
+// the text is lent to be read and the pool to be written, so a struct of both would be split at each call.
 #[cycle(read_alternatives_read_list_read_token)]
 pub fn read_token(
     text: &[u8],

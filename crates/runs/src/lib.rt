@@ -9,7 +9,7 @@ ghost use Rattle.runs.specs.Whole.{byte_end, part_end, run_end};
 
 use entries::{ENTRY, Token, Tokens};
 
-// The kind of the entries of bytes.
+// The kind of the entries of bytes: a number, here and below, since a part is told by the first word at a place of the lent pool.
 pub const BYTE: u32 = 0;
 
 // The words of the bytes at the front.

@@ -65,7 +65,8 @@ fn write_token(token: Token, p: usize, q: usize, dst: &mut [u8]) -> usize
     }
 }
 
-// Writes literal number k of tokens.
+// Writes literal number k of tokens. That there is such a literal, and that there are few, is asked of words and a number together, so no type of one of
+// them could hold it.
 pub fn write_literal(ws: &[u32], k: usize, dst: &mut [u8]) -> usize
     requires { (k < count (tokens_in ws.now)) × (count (tokens_in ws.now) ≤ literal_limit) × (length (literal_at (tokens_in ws.now) k) ≤ length dst.old) }
     ensures { Written result (literal_at (tokens_in ws.now) k) dst.old dst.new }
