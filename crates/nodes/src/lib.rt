@@ -6,7 +6,7 @@
 ghost use Rattle.std.specs.Prelude.{◌≡◌, ◌&&◌, ◌%◌, ◌≤◌, ◌<◌, leb, ltb, length};
 ghost use Rattle.def_meaning.specs.NodeWords.{word};
 ghost use Rattle.def_meaning.specs.Words.{byte_size, field_size, kind_of, first_of, second_of, count_of, word_size, shape, proper_by, proper};
-ghost use Rattle.nodes.specs.Nodes.{shape_said, test_word, word_of, mask_in, most_in};
+ghost use Rattle.nodes.specs.Nodes.{shape_said, word_said, test_word, word_of, mask_in, most_in};
 
 use base::BRANCH_LIMIT;
 
@@ -159,6 +159,16 @@ impl From<Node> for NodeWord {
             Node::Alternation(a) => made(ALTERNATION, a, 0),
             Node::AltBranch(a) => made(ALT_BRANCH, a, 0),
         }
+    }
+}
+
+// The word again that `node_of` read: of none a word of a kind that 01 does not have.
+pub fn node_word(n: Option<Node>) -> NodeWord
+    ensures { result ≡ word_said n }
+{
+    match n {
+        Some(node) => node.into(),
+        None => made(8, 0, 0),
     }
 }
 
