@@ -1,7 +1,7 @@
 -- A bitmap's members by its four words.
 use mathlib.Core.Bool.{or_comm}
 use Rattle.std.specs.List.{fold}
-use Rattle.std.proofs.Common.{map, ◌≡◌, refl, sym, ap, ap₂, ◌∙◌, Bool, true, false, ◌||◌, List, [], ◌∷◌, ℕ, zero, suc, ◌+◌, ◌*◌, ◌/◌, ◌%◌, ◌^◌, ◌<◌, arith, mul-suc, zero-add, bit_or, eqb, length, get_or, set, get_or-set_same, get_or-set_other, eqb-true, ne_eqb}
+use Rattle.std.proofs.Common.{map, ◌≡◌, refl, sym, ap, ap₂, ◌∙◌, Bool, true, false, ◌||◌, List, [], ◌∷◌, ℕ, zero, suc, ◌+◌, ◌*◌, ◌/◌, ◌%◌, ◌^◌, ◌≤◌, ◌<◌, ⊎_elim, eq-or-lt_of_le, arith, mul-suc, zero-add, bit_or, eqb, length, get_or, set, get_or-set_same, get_or-set_other, eqb-true, ne_eqb}
 use borrow.Author.Tests.{eqb-false}
 use Rattle.bitmap.specs.declared.Bitmap.{Bitmap}
 use Rattle.bitmap.specs.Bitmap.{bit, has, tally, size}
@@ -73,11 +73,18 @@ pub size_words : (m : Bitmap) (a b c d : ℕ) → a ≡ tally (bit (get_or m.wor
 unfolding size in_words
 size_words m a b c d ha hb hc hd = rw (ha, hb, hc, hd) (sym (words_tally m 4 ∙ omega arith))
 
--- the sum of the words' counts
-pub words_sum : (ws : List ℕ) → length ws ≡ 4 → fold (λ (a x : ℕ). a + x) 0 (map (λ w. tally (bit w) 64) ws) ≡ size (record { words = ws })
-words_sum [] e = absurd (omega arith)
-words_sum (a ∷ []) e = absurd (omega arith)
-words_sum (a ∷ b ∷ []) e = absurd (omega arith)
-words_sum (a ∷ b ∷ c ∷ []) e = absurd (omega arith)
-words_sum (a ∷ b ∷ c ∷ d ∷ []) e = rw zero-add (size_words (record { words = a ∷ b ∷ c ∷ d ∷ [] }) _ _ _ _ refl refl refl refl)
-words_sum (a ∷ b ∷ c ∷ d ∷ f ∷ ws) e = absurd (omega arith)
+-- the sum of the words' counts: of all four words, each once
+pub words_sum : (xs ws : List ℕ) → length xs ≡ 4 → get_or xs 0 0 ≡ get_or ws 0 0 → get_or xs 1 0 ≡ get_or ws 1 0 → get_or xs 2 0 ≡ get_or ws 2 0 → get_or xs 3 0 ≡ get_or ws 3 0
+    → fold (λ (a x : ℕ). a + x) 0 (map (λ w. tally (bit w) 64) xs) ≡ size (record { words = ws })
+words_sum [] ws l e f g h = absurd (omega arith)
+words_sum (a ∷ []) ws l e f g h = absurd (omega arith)
+words_sum (a ∷ b ∷ []) ws l e f g h = absurd (omega arith)
+words_sum (a ∷ b ∷ c ∷ []) ws l e f g h = absurd (omega arith)
+words_sum (a ∷ b ∷ c ∷ d ∷ []) ws l e f g h =
+    let t : ℕ → ℕ = λ w. tally (bit w) 64 in
+    rw zero-add (size_words (record { words = ws }) _ _ _ _ (ap t e) (ap t f) (ap t g) (ap t h))
+words_sum (a ∷ b ∷ c ∷ d ∷ x ∷ xs) ws l e f g h = absurd (omega arith)
+
+pub passed : (m : Bitmap) (v b : ℕ) → ((u : ℕ) → v ≤ u → u < b → has m u ≡ false) → has m b ≡ false
+    → (u : ℕ) → v ≤ u → u < b + 1 → has m u ≡ false
+passed m v b h e u l g = ⊎_elim (λ (k : u ≡ b). ap (has m) k ∙ e) (λ (k : u < b). h u l k) (eq-or-lt_of_le (let r : u ≤ b = omega arith in r))

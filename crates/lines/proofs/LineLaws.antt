@@ -1,8 +1,10 @@
 -- Laws of the lines: how long a node's line can be, and the literals taken one by one. Assumes nothing.
-use Rattle.std.proofs.Common.{◌≡◌, refl, sym, ap, ◌∙◌, Bool, true, false, cond, List, [], ◌∷◌, ◌++◌, ℕ, suc, ◌+◌, ◌*◌, ◌^◌, ◌≤◌, ◌<◌, min, arith, add-one, eqb, leb, leb-true, leb-false, length, take, drop, get_or, length-append, drop_of_length-le, drop-cons, take_all}
+use Rattle.std.proofs.Common.{◌≡◌, refl, sym, ap, ◌∙◌, Bool, true, false, cond, List, [], ◌∷◌, ◌++◌, ℕ, suc, ◌+◌, ◌*◌, ◌^◌, ◌≤◌, ◌<◌, min, arith, add-one, eqb, leb, leb-true, leb-false, length, take, drop, get_or, length-append, drop_of_length-le, drop-cons, take_all, Option}
 use mathlib.Core.List.{flat_map}
 use Rattle.def_meaning.specs.Words.{field_size, kind_of, first_of, second_of, Shape, shape_by, shape}
 use Rattle.base.specs.Text.{ascii}
+use Rattle.nodes.specs.declared.Node.{Node}
+use Rattle.nodes.specs.Nodes.{shape_said}
 use Rattle.printing.specs.Numbers.{hex_of, decimal_of}
 use Rattle.lines.specs.Listed.{line_limit}
 use Rattle.lines.specs.Lines.{blank, line_end, number_line, numbers_line, byte_line, mask_line, shape_line, node_line, literal_line, literal_lines, cut}
@@ -44,6 +46,11 @@ shape_length k a b ha hb =
 pub length_node : (w : ℕ) → length (node_line w) ≤ line_limit
 unfolding node_line shape
 length_node w = shape_length (kind_of w) (first_of w) (second_of w) (omega arith) (omega arith)
+
+-- the line of the node that was read from a word, or of a word that says none
+pub node_line_lem : (w : ℕ) (n m : Option Node) → shape_said n ≡ shape w → n ≡ m → shape_line (shape_said m) ≡ node_line w
+unfolding node_line
+node_line_lem w n m e g = ap (λ (x : Option Node). shape_line (shape_said x)) (sym g) ∙ ap shape_line e
 
 pub length_literal : (s : List ℕ) → length (literal_line s) ≡ 2 * length s + 1
 unfolding literal_line

@@ -110,6 +110,12 @@ held w k ws h i = ⊎_elim opened single (item_kind w k i)
       words = mirror_item w ws e ∙ ap (λ (x : List ℕ). mirror_words ws ++ (w ∷ x)) (sym mirror_none);
     })
 
+-- of a sound program, what an item at its front holds are branches
+pub item_inside_lem : (ns rest : List ℕ) (w k : ℕ) → Sound ns → ns ≡ w ∷ rest → item_inside w ≡ Some k → SoundBranches (take (1 + k - 1) (drop 1 ns))
+item_inside_lem ns rest w k h e i =
+    let q : k ≡ 1 + k - 1 = omega arith in
+    rw e (subst (λ (j : ℕ). SoundBranches (take j rest)) q (held w k rest (subst Sound e h) i).inside)
+
 module _ {words out ns rest : List ℕ} {w : ℕ} (b : ItemsLeft words out ns) (e : ns ≡ w ∷ rest) where
   pub item_some : IsSome (item_inside w)
   item_some = some (item_inside w) (λ u. false_true (turn_unfit item_steps ns w rest e u ∙ b.sound))

@@ -1,7 +1,8 @@
 -- The lengths of a range, one by one. Assumes nothing.
 -- N is what the code hands on of the window M: the bytes after the length that is tried.
-use Rattle.std.proofs.Common.{◌≡◌, refl, sym, ap, ◌∙◌, Bool, true, false, List, ℕ, zero, suc, ◌+◌, ◌-◌, ◌≤◌, ◌<◌, min, arith, leb, leb-true, leb-false, length, drop, Some, None}
+use Rattle.std.proofs.Common.{◌≡◌, refl, sym, ap, ◌∙◌, Bool, true, false, List, ℕ, zero, suc, ◌+◌, ◌-◌, ◌≤◌, ◌<◌, min, arith, leb, leb-true, leb-false, length, drop, reverse, Some, None}
 use Rattle.std.proofs.Math.Option.{Option, none}
+use Rattle.std.proofs.Math.ListN.{length-reverse}
 use Rattle.def_meaning.specs.Programs.{Prog, Branches, range, alt, ◌▹◌}
 use Rattle.def_meaning.specs.Choices.{Order, short, long}
 use Rattle.def_meaning.specs.Rows.{Row, or_else, found, ◌⊗◌, rising, lengths, rows, rows_in, run}
@@ -64,6 +65,11 @@ module _ (p : Prog) (M : List ℕ) (a : ℕ) where
           let m : b ≡ length M + (b - length M) = omega arith in
           let o : length M ≡ min b (length M) = omega arith in
           range_below p M a b ∙ ap (λ (n : ℕ). below a (n + 1) p M) m ∙ below_room (b - length M) ∙ ap (λ (n : ℕ). below a (n + 1) p M) o
+
+pub range_back : (p : Prog) (M : List ℕ) (a b n : ℕ) → n ≡ min b (length M) → run long (range a b ▹ p) (reverse M) ≡ below a (n + 1) p (reverse M)
+range_back p M a b n e =
+    let l : min b (length (reverse M)) ≡ n = ap (min b) (length-reverse M) ∙ sym e in
+    range_within p (reverse M) a b ∙ ap (λ (k : ℕ). below a (k + 1) p (reverse M)) l
 
 -- of the lengths from a up to n, not including it, the longest
 module _ (p : Prog) (M : List ℕ) (a n : ℕ) (h : a < n) where

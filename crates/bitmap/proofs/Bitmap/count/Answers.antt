@@ -13,5 +13,5 @@ sum-requires-clause-fits c =
 pub returns : goal.returns
 returns c =
     total_from_yields_List (λ (a x : ℕ). a + x) 0 c.sum.result c.sum.ensures.ran
-    (YieldsList-from_map _ (λ w. tally (bit w) 64) (YieldsList-from_slice c.args.self.words cc) c.map.ensures.closure (λ x r q k. search (rules, tests)))
-    ∙ words_sum c.args.self.words (search rules)
+    (YieldsList-from_map _ (λ w. tally (bit w) 64) (YieldsList-from_slice c.map.result.iter.rest.now refl) c.map.ensures.closure (λ x r q k. search (rules, tests)))
+    ∙ words_sum c.map.result.iter.rest.now c.args.self.words (search rules) (search rules) (search rules) (search rules) (search rules)
