@@ -44,12 +44,15 @@ fn write_winner(
             rank: 0,
         });
     };
-    let count = generator::write_all(taken.words(ws), bytes, lengths)?;
-    Ok(Picked {
-        reached,
-        count,
-        rank: taken.rank,
-    })
+    // Where there is no room, nothing is written, and the answer says no count: a match, since both answers are told here.
+    match generator::write_all(taken.words(ws), bytes, lengths) {
+        Ok(count) => Ok(Picked {
+            reached,
+            count,
+            rank: taken.rank,
+        }),
+        Err(why) => Err(Refused { why, place: 0 }),
+    }
 }
 
 // 19, then 17, then 18.

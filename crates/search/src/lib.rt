@@ -166,7 +166,8 @@ fn branches<W: Way>(
             let most = usize::from(to).min(tail.len());
             for n in least..most + 1 {
                 let m = W::without(tail, W::length(least, most, n));
-                if let Some(end) = check::<W>(rest, m) {
+                // All of the rest is asked: must-fail/rest_not_asked.edit asks none of it.
+                if let Some(end) = check::<W>(&rest[0..], m) {
                     break 'branches Some(end);
                 }
             }

@@ -1,6 +1,6 @@
 -- The cycle of calls {branches, check, choices, jumps} meets its contracts. Every loop keeps: the answer for the whole is the
 -- answer for what is left. Each call is at fewer words, or at as many on the way from check to choices to jumps or branches. Assumes nothing.
-use Rattle.std.proofs.Common.{◌≡◌, List, refl, sym, ap, subst, ◌∙◌, ℕ, ◌-◌, min, arith, Some, length, drop, length-take-le}
+use Rattle.std.proofs.Common.{◌≡◌, List, refl, sym, ap, subst, ◌∙◌, ℕ, ◌-◌, min, arith, Some, length, take, drop, take_all, length-take-le}
 use Rattle.def_meaning.specs.Programs.{range, ◌▹◌}
 use Rattle.def_meaning.specs.Rows.{run}
 use Rattle.def_meaning.specs.Words.{prog, Sound}
@@ -16,6 +16,10 @@ use Rattle.steps.proofs.Choices as choice
 use Rattle.steps.proofs.Choices.{Handed}
 use Rattle.search.proofs.+branches_check_choices_jumps.Goals as goal
 use Rattle.search.proofs.+branches_check_choices_jumps.Goals.{branches-in-Some-flat+else-loop-n-test, branches-in_default-flat, choices-in-Some, choices-in_default}
+
+-- what is cut from 0 on
+whole : (l : List ℕ) → take (length l - 0) l ≡ l
+whole l = take_all (length l - 0) l (omega arith)
 
 pub branches-slice_bounds-flat-end : goal.branches-slice_bounds-flat-end
 branches-slice_bounds-flat-end g t c =
@@ -47,7 +51,7 @@ branches-loop-n-preserved g t c =
     let T = c.without-tail.result.now in
     let room : c.min-most.result ≡ min c.args.to (length (seen o T)) = omega (arith, length_seen o T) in
     let part = c.without-m.ensures ∙ ap (λ (k : ℕ). drop k (seen o T)) c.length.ensures in
-    c.loop-n.invariant ∙ ranges.untried_next (prog c.args.rest.now) (seen o T) _ _ _ room c.loop-n.n c.loop-n.auto.n (omega arith) o _ part (sym c.in_default-check.is ∙ c.check.ensures)
+    c.loop-n.invariant ∙ ranges.untried_next (prog c.args.rest.now) (seen o T) _ _ _ room c.loop-n.n c.loop-n.auto.n (omega arith) o _ part (sym c.in_default-check.is ∙ c.check.ensures ∙ ap (λ (l : List ℕ). answer (run o (prog l) (seen o c.without-m.result.now))) (whole c.args.rest.now))
 
 pub branches-slice_bounds-bs-count : goal.branches-slice_bounds-bs-count
 branches-slice_bounds-bs-count g t c =
@@ -97,7 +101,7 @@ branches-returns-in-Some-check g t c =
     let tail = c.without-tail.ensures ∙ ap (λ (k : ℕ). drop (k - c.in-Some-flat.left) (seen o M)) (sym (length_seen o M)) in
     let part = c.without-m.ensures ∙ ap (λ (k : ℕ). drop k (seen o T)) c.length.ensures in
     alts.head_take c.in-Some.field-0-0.now _ c.in-Some.ensures.cases.0 (c.from-size.ensures ∙ c.first.ensures) c.branches.invariant.0 o q (seen o M) _ _ tail (sym c.in-Some-flat.is ∙ c.flat.ensures) _
-    (ranges.untried_take p (seen o T) _ _ _ room c.loop-n.n c.loop-n.auto.n (omega arith) o _ part _ (sym c.in-Some-check.is ∙ c.check.ensures) ∙ ap answer (sym c.loop-n.invariant))
+    (ranges.untried_take p (seen o T) _ _ _ room c.loop-n.n c.loop-n.auto.n (omega arith) o _ part _ (sym c.in-Some-check.is ∙ c.check.ensures ∙ ap (λ (l : List ℕ). answer (run o (prog l) (seen o c.without-m.result.now))) (whole c.args.rest.now)) ∙ ap answer (sym c.loop-n.invariant))
     ∙ ap answer (sym c.branches.invariant.1)
 
 pub check-returns-in_default : goal.check-returns-in_default
