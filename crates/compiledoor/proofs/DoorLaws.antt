@@ -1,7 +1,7 @@
 -- From what was read to what the door says. Assumes nothing.
-use Rattle.std.proofs.Common.{◌≡◌, refl, sym, ap, ◌∙◌, false, Result, Ok, Err, IsErrAnd, List, [], ◌++◌, append-nil, append_assoc, ℕ, ◌-◌, ◌≤◌, ◌<◌, arith, leb, length, take, drop, replicate}
+use Rattle.std.proofs.Common.{◌≡◌, refl, sym, ap, ◌∙◌, false, Result, Ok, Err, IsErrAnd, MatchResult, List, [], ◌++◌, append-nil, append_assoc, ℕ, ◌-◌, ◌≤◌, ◌<◌, arith, leb, length, take, drop, replicate}
 use Rattle.std.proofs.Math.Bool.{and-false}
-use Rattle.std.proofs.Math.ListN.{length-take, length-replicate}
+use Rattle.std.proofs.Math.ListN.{length-take}
 use Rattle.std.proofs.lemmas.Bool.{le-leb, lt-leb}
 use Rattle.std.proofs.lemmas.List.{drop_all}
 use Rattle.base.specs.declared.Refusal.{Refusal}
@@ -21,7 +21,7 @@ use Rattle.compiler.specs.declared.Sizes.{Sizes}
 use Rattle.compiler.specs.Made.{Fills}
 use Rattle.compiler.specs.Walks.{Entered}
 use Rattle.compiledoor.specs.declared.Compiled.{Compiled as Compiled'}
-use Rattle.compiledoor.specs.Door.{CompileSaid, refuses, compile_said, made_says, compiled_says, verdict_says, compiled_forward, compiled_reverse, verdict_forward, verdict_reverse, room, compile_says, forward_leaves, reverse_leaves, TextFills}
+use Rattle.compiledoor.specs.Door.{CompileSaid, gives, refuses, compile_said, made_says, compiled_says, verdict_says, compiled_forward, compiled_reverse, verdict_forward, verdict_reverse, room, compile_says, forward_leaves, reverse_leaves, TextFills}
 
 -- what was read stands in the pool
 pub record Got (t q : List ℕ) (e u : ℕ) : Type 0 where
@@ -51,44 +51,54 @@ module _ (t p q : List ℕ) (r : Result Reading Refused) (a : read.read_said r �
   pub got_refused : (z : Refused) → r ≡ Err z → reading t ≡ rejected z.why z.place
   got_refused z f = into.got_refused t p q r a b l z f
 
--- pools of just the words that are lent, which are zeroed first
+-- pools of just the words that are lent
 abbrev zeros : List ℕ
 zeros = replicate node_pool 0
 
-none_beyond : (p : List ℕ) → length p ≡ node_pool → drop node_pool zeros ≡ drop node_pool p
-none_beyond p l = drop_all node_pool zeros (omega (arith, length-replicate {A = ℕ} node_pool 0)) ∙ sym (drop_all node_pool p (omega arith))
-
-cleared_again : (p : List ℕ) → length p ≡ node_pool → zeros ≡ cleared node_pool p
+zeros_cleared : (p : List ℕ) → length p ≡ node_pool → zeros ≡ cleared node_pool p
 unfolding cleared
-cleared_again p l = sym (append-nil zeros) ∙ ap (λ (x : List ℕ). zeros ++ x) (sym (drop_all node_pool p (omega arith)))
+zeros_cleared p l = sym (append-nil zeros) ∙ ap (λ (x : List ℕ). zeros ++ x) (sym (drop_all node_pool p (omega arith)))
 
-filled_again : (f p : List ℕ) → length p ≡ node_pool → filled node_pool f zeros ≡ filled node_pool f p
-unfolding filled
-filled_again f p l = ap (λ (x : List ℕ). f ++ (replicate (node_pool - length f) 0 ++ x)) (none_beyond p l)
-
-module _ (t p p' q q' : List ℕ) (l : length p ≡ node_pool) (m : length q ≡ node_pool) where
-  -- the pools, when tokens were compiled into zeros
-  made_text : (e : ℕ) (c : Compiled) (made : Result Sizes Refusal) → Fills c made zeros p' zeros q' → (made_says e made ≡ compiled_says e c) × (p' ≡ compiled_forward c p) × (q' ≡ compiled_reverse c q)
+module _ (t p p' q q' : List ℕ) where
+  -- the pools, when tokens were compiled
+  made_text : (e : ℕ) (c : Compiled) (made : Result Sizes Refusal) → Fills c made p p' q q' → (made_says e made ≡ compiled_says e c) × (p' ≡ compiled_forward c p) × (q' ≡ compiled_reverse c q)
   unfolding compiled_says compiled_forward compiled_reverse
-  made_text e (compiled f r) made (h, x, y) = (ap (made_says e) h, x ∙ filled_again f p l, y ∙ filled_again r q m)
-  made_text e (refused z) made (h, x, y) =
-      (ap (made_says e) h, x ∙ sym (cleared_again zeros (length-replicate {A = ℕ} node_pool 0)) ∙ cleared_again p l, y ∙ sym (cleared_again zeros (length-replicate {A = ℕ} node_pool 0)) ∙ cleared_again q m)
+  made_text e (compiled f r) made (h, x, y) = (ap (made_says e) h, x, y)
+  made_text e (refused z) made (h, x, y) = (ap (made_says e) h, x, y)
 
-  pub text_compiled : (e : ℕ) (ts : Tokens) (made : Result Sizes Refusal) (s : CompileSaid) → reading t ≡ accepted e ts → s ≡ made_says e made → Fills (compile ts) made zeros p' zeros q' → TextFills (reading t) s p p' q q'
+  pub text_compiled : (e : ℕ) (ts : Tokens) (made : Result Sizes Refusal) (s : CompileSaid) → reading t ≡ accepted e ts → s ≡ made_says e made → Fills (compile ts) made p p' q q' → TextFills (reading t) s p p' q q'
   unfolding verdict_says verdict_forward verdict_reverse
   text_compiled e ts made s g f h =
       let k = made_text e (compile ts) made h in
       rw g (f ∙ k.0, k.1, k.2)
 
--- what `?` makes of a refusal of tokens, and of a text's
-pub said_at_none : (e : ℕ) (m : Result Sizes Refusal) (r : Result Compiled' Refused) (x : Refusal) → m ≡ Err x → IsErrAnd r (λ y. (y.why ≡ x) × (y.place ≡ 0)) → compile_said r ≡ made_says e m
-said_at_none e m (Ok y) x f h = absurd h
-said_at_none e m (Err y) x f h = rw (f, h.0, h.1)
+-- an answer to tokens, with the offset reached
+abbrev result_said : ℕ → Result Sizes Refused → Result Compiled' Refused
+result_said e (Ok s) = Ok (record { reached = e; forward = s.forward; reverse = s.reverse })
+result_said e (Err x) = Err x
 
-pub text_refused : (t p q : List ℕ) (z : Refused) (r : Result Compiled' Refused) → length p ≡ node_pool → length q ≡ node_pool → reading t ≡ rejected z.why z.place → IsErrAnd r (λ y. y ≡ z) → TextFills (reading t) (compile_said r) p zeros q zeros
+-- what the door makes of the answer n to tokens: P is what the closure gives of a refusal
+module _ (e : ℕ) (m : Result Sizes Refusal) (n : Result Sizes Refused) (P : Refusal → Refused → Type 0) (place : (w : Refusal) (y : Refused) → P w y → (y.why ≡ w) × (y.place ≡ 0)) (cases : MatchResult m (λ s. n ≡ Ok s) (λ w. IsErrAnd n (P w))) where
+  pub said_in_ok : (s : Sizes) → n ≡ Ok s → gives e s.forward s.reverse ≡ made_says e m
+  said_in_ok s f = made_ok m cases
+    where
+      made_ok : (m : Result Sizes Refusal) → MatchResult m (λ s. n ≡ Ok s) (λ w. IsErrAnd n (P w)) → gives e s.forward s.reverse ≡ made_says e m
+      made_ok (Ok z) c = ap (λ (x : Result Sizes Refused). compile_said (result_said e x)) (sym f ∙ c)
+      made_ok (Err w) c = absurd (rw f at c)
+
+  pub said_in_err : (x : Refused) (r : Result Compiled' Refused) → n ≡ Err x → IsErrAnd r (λ y. y ≡ x) → compile_said r ≡ made_says e m
+  said_in_err x (Ok y) f h = absurd h
+  said_in_err x (Err y) f h = made_err m cases
+    where
+      made_err : (m : Result Sizes Refusal) → MatchResult m (λ s. n ≡ Ok s) (λ w. IsErrAnd n (P w)) → compile_said (Err y) ≡ made_says e m
+      made_err (Ok z) c = ap (λ (x : Result Sizes Refused). compile_said (result_said e x)) (ap Err h ∙ sym f ∙ c)
+      made_err (Err w) c =
+          let k = place w x (rw f at c) in
+          rw (h, k.0, k.1)
+
+pub text_refused : (t p q : List ℕ) (z : Refused) → length p ≡ node_pool → length q ≡ node_pool → reading t ≡ rejected z.why z.place → TextFills (reading t) (compile_said (Err z)) p zeros q zeros
 unfolding verdict_says verdict_forward verdict_reverse
-text_refused t p q z (Ok y) l m g h = absurd h
-text_refused t p q z (Err y) l m g h = rw (g, h) (refl, cleared_again p l, cleared_again q m)
+text_refused t p q z l m g = rw g (refl, zeros_cleared p l, zeros_cleared q m)
 
 -- the door, which lends the words in front
 module _ (p : List ℕ) where

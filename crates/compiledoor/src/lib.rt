@@ -27,11 +27,19 @@ fn compile_text(
     ensures { TextFills (reading text.now) (compile_said result)
         forward.old forward.new reverse.old reverse.new }
 {
-    *forward = [0; NODE_POOL];
-    *reverse = [0; NODE_POOL];
     let mut tokens = [0; TOKEN_POOL];
-    let got = read(text, &mut tokens)?;
-    let sizes = compile_tokens(&tokens[..got.words], forward, reverse)?;
+    let got = match read(text, &mut tokens) {
+        Ok(got) => got,
+        Err(why) => {
+            *forward = [0; NODE_POOL];
+            *reverse = [0; NODE_POOL];
+            return Err(why);
+        }
+    };
+    let sizes = compile_tokens(&tokens[..got.words], forward, reverse).map_err(|why| Refused {
+        why,
+        place: 0,
+    })?;
     Ok(Compiled {
         reached: got.end,
         forward: sizes.forward,

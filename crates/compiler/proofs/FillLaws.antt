@@ -1,33 +1,49 @@
 -- What compiling leaves in the pools. Assumes nothing.
-use Rattle.std.proofs.Common.{◌≡◌, refl, ap, ap₂, ◌∙◌, Result, Ok, Err, IsErrAnd, List, ◌++◌, ℕ, ◌≤◌, arith, length, take, drop, replicate}
-use Rattle.std.proofs.Math.ListN.{length-replicate}
-use Rattle.std.proofs.lemmas.List.{drop-append-le, drop-replicate}
-use Rattle.def_meaning.specs.Limits.{node_limit, node_pool}
+use Rattle.std.proofs.Common.{◌≡◌, refl, sym, ap, ◌∙◌, true, false, true≢false, Result, Ok, Err, IsErrAnd, is_err, List, ◌++◌, ℕ, ◌+◌, ◌-◌, ◌≤◌, arith, length, take, drop, replicate, length-drop, length-append}
+use Rattle.std.proofs.Math.Seq.{drop-drop}
+use borrow.Rule.Slice.PartMut.{put_mid}
+use Rattle.def_meaning.specs.Limits.{node_pool}
 use Rattle.base.specs.declared.Refusal.{Refusal}
-use Rattle.base.specs.Pools.{filled, cleared}
+use Rattle.base.specs.Pools.{zeroed, filled, cleared}
+use Rattle.base.proofs.PoolLaws.{zeroed_fill, zeroed_filled}
 use Rattle.def_compiling.specs.Compile.{Compiled, compiled, refused}
 use Rattle.compiler.specs.declared.Sizes.{Sizes}
-use Rattle.compiler.specs.Made.{Fills, Makes}
+use Rattle.compiler.specs.Made.{Fills, Makes, Puts}
 
--- a refusal leaves zeros alone
-refused_fills : (c : Compiled) (x : Refusal) (a b p q : List ℕ) → Makes c (Err x) a b → Fills c (Err x) p (cleared node_pool p) q (cleared node_pool q)
-refused_fills (compiled f r) x a b p q h = let z : ◌≡◌ {A = ℕ} 0 1 = cc in absurd (omega arith)
-refused_fills (refused z) x a b p q h = (h, refl, refl)
+-- the words in front, and zeros behind them; `f` is what a slice's `fill` ensures where a copy is the value itself
+pub filled_by : (w p y q : List ℕ) → length w ≤ node_pool → node_pool ≤ length p → y ≡ w → (((v : ℕ) → v ≡ 0 → v ≡ 0) → q ≡ replicate (length (take (node_pool - length w) (drop (length w) (y ++ drop (length w) p)))) 0)
+    → put_mid (length w) (node_pool - length w) (y ++ drop (length w) p) q ≡ filled node_pool w p
+filled_by w p y q h l e f =
+    let s : length w + (node_pool - length w) ≡ node_pool = omega arith in
+    let n : length (y ++ drop (length w) p) ≡ length y + length (drop (length w) p) = length-append y (drop (length w) p) in
+    let m : length (drop (length w) p) ≡ length p - length w = length-drop (length w) p in
+    zeroed_fill (length w) node_pool (y ++ drop (length w) p) q h (omega (arith, n, m, ap length e)) f
+    ∙ ap (λ (x : List ℕ). zeroed (length w) node_pool (x ++ drop (length w) p)) e
+    ∙ zeroed_filled node_pool w (drop (length w) p) p h (drop-drop (node_pool - length w) (length w) p ∙ ap (λ (k : ℕ). drop k p) s)
 
 -- what `?` hands on
-pub passed_fills : (c : Compiled) (made result : Result Sizes Refusal) (x : Refusal) (a b p p' q q' : List ℕ) → p' ≡ cleared node_pool p → q' ≡ cleared node_pool q → Makes c made a b → made ≡ Err x → IsErrAnd result (λ y. y ≡ x) → Fills c result p p' q q'
-passed_fills c made (Ok s) x a b p p' q q' l m h e f = absurd f
-passed_fills c made (Err y) x a b p p' q q' l m h e f = rw (f, l, m) (refused_fills c x a b p q (rw e at h))
+pub passed_puts : (c : Compiled) (made result : Result Sizes Refusal) (x : Refusal) (a b p q : List ℕ) → Makes c made a b → made ≡ Err x → IsErrAnd result (λ y. y ≡ x) → Puts c result p p q q
+passed_puts (compiled f r) made result x a b p q m e g = let z : ◌≡◌ {A = ℕ} 0 1 = cc in absurd (omega arith)
+passed_puts (refused z) made (Ok s) x a b p q m e g = absurd g
+passed_puts (refused z) made (Err y) x a b p q m e g = (ap Err g ∙ sym e ∙ m, refl, refl)
 
--- the words of a program stand at the front of zeros
-filled_is : (f a p : List ℕ) → length f ≤ node_limit → take (length f) a ≡ f → take (length f) a ++ drop (length f) (cleared node_pool p) ≡ filled node_pool f p
-unfolding filled cleared
-filled_is f a p k e = ap₂ ◌++◌ e (drop-append-le (length f) (replicate node_pool 0) (drop node_pool p) (rw length-replicate (omega arith)) ∙ ap (λ (x : List ℕ). x ++ drop node_pool p) (drop-replicate (length f) node_pool 0))
-
-pub made_fills : (c : Compiled) (s : Sizes) (a b p q p' q' : List ℕ) → s.forward ≤ node_limit → s.reverse ≤ node_limit → Makes c (Ok s) a b
-    → p' ≡ take s.forward a ++ drop s.forward (cleared node_pool p) → q' ≡ take s.reverse b ++ drop s.reverse (cleared node_pool q) → Fills c (Ok s) p p' q q'
-made_fills (compiled f r) s a b p q p' q' k n (h, x, y) e g =
+-- both programs, which stand at the front of their buffers
+pub made_puts : (c : Compiled) (s : Sizes) (a b p q p' q' : List ℕ) → Makes c (Ok s) a b → p' ≡ filled node_pool (take s.forward a) p → q' ≡ filled node_pool (take s.reverse b) q → Puts c (Ok s) p p' q q'
+made_puts (compiled f r) s a b p q p' q' (h, x, y) e g =
     let ef : s.forward ≡ length f = cc in
-    let er : s.reverse ≡ length r = cc in
-    (h, e ∙ ap (λ (i : ℕ). take i a ++ drop i (cleared node_pool p)) ef ∙ filled_is f a p (omega arith) x, g ∙ ap (λ (i : ℕ). take i b ++ drop i (cleared node_pool q)) er ∙ filled_is r b q (omega arith) y)
-made_fills (refused z) s a b p q p' q' k n h e g = let z : ◌≡◌ {A = ℕ} 0 1 = cc in absurd (omega arith)
+    let er : s.reverse ≡ length r = cc in (
+      h,
+      e ∙ ap (λ (i : ℕ). filled node_pool (take i a) p) ef ∙ ap (λ (z : List ℕ). filled node_pool z p) x,
+      g ∙ ap (λ (i : ℕ). filled node_pool (take i b) q) er ∙ ap (λ (z : List ℕ). filled node_pool z q) y,
+    )
+made_puts (refused z) s a b p q p' q' h e g = let z : ◌≡◌ {A = ℕ} 0 1 = cc in absurd (omega arith)
+
+-- the pools of a refusal are zeroed, and no others
+module _ (made : Result Sizes Refusal) (p p₁ q q₁ : List ℕ) where
+  pub refused_fills : (c : Compiled) (p' q' : List ℕ) → Puts c made p p₁ q q₁ → is_err made ≡ true → p' ≡ cleared node_pool p₁ → q' ≡ cleared node_pool q₁ → Fills c made p p' q q'
+  refused_fills (compiled f r) p' q' (h, x, y) e k l = absurd (true≢false (sym e ∙ ap is_err h))
+  refused_fills (refused z) p' q' (h, x, y) e k l = (h, k ∙ ap (cleared node_pool) x, l ∙ ap (cleared node_pool) y)
+
+  pub made_fills : (c : Compiled) → Puts c made p p₁ q q₁ → is_err made ≡ false → Fills c made p p₁ q q₁
+  made_fills (compiled f r) h e = h
+  made_fills (refused z) (h, x, y) e = absurd (true≢false (sym (ap is_err h) ∙ e))

@@ -18,7 +18,7 @@ use Rattle.emit.specs.Lists.{tokens_program, offsets, Outlined}
 use Rattle.emit.proofs.OrderLaws.{directed, offsets_count}
 use Rattle.emit.proofs.LinkLaws.{directed_long, tokens_program_lem}
 use Rattle.compiler.specs.declared.Sizes.{Sizes}
-use Rattle.compiler.specs.Made.{Makes, limited}
+use Rattle.compiler.specs.Made.{Makes, Puts, limited}
 
 abbrev sizes : ℕ → ℕ → Result Sizes Refusal
 sizes n m = Ok (record { forward = n; reverse = m })
@@ -81,23 +81,22 @@ module _ (ws : List ℕ) (ts : Tokens) (e : ws ≡ entries ts) where
           both true false = refl
           both false y = refl
 
-      pub made_long : (lf ≡ true) ⊎ ((lf ≡ false) × (lr ≡ true)) → Makes (compile ts) (Err BranchTooLong) first second
+      pub made_long : (lf || lr) ≡ true → Makes (compile ts) (Err BranchTooLong) first second
       unfolding limited
-      made_long (inl h) = rw (tested, h) refl
-      made_long (inr (h, g)) = rw (tested, h, g) refl
+      made_long h = rw (tested, h) refl
 
-      pub made_many : lf ≡ false → lr ≡ false → (node_limit < n) ⊎ ((n ≤ node_limit) × (node_limit < m)) → Makes (compile ts) (Err TooManyNodes) first second
+      pub made_many : (lf || lr) ≡ false → (node_limit < n) ⊎ ((n ≤ node_limit) × (node_limit < m)) → Makes (compile ts) (Err TooManyNodes) first second
       unfolding limited
-      made_many h g (inl l) = rw (tested, h, g, lt-leb n node_limit l) refl
-      made_many h g (inr (k, l)) = rw (tested, h, g, le-leb n node_limit k, lt-leb m node_limit l) refl
+      made_many h (inl l) = rw (tested, h, lt-leb n node_limit l) refl
+      made_many h (inr (k, l)) = rw (tested, h, le-leb n node_limit k, lt-leb m node_limit l) refl
 
-      pub made_both : lf ≡ false → lr ≡ false → n ≤ node_limit → m ≤ node_limit → Makes (compile ts) (Ok (record { forward = n; reverse = m })) first second
+      pub made_both : (lf || lr) ≡ false → n ≤ node_limit → m ≤ node_limit → Makes (compile ts) (Ok (record { forward = n; reverse = m })) first second
       unfolding limited
-      made_both h g k l =
-          rw (tested, h, g, le-leb n node_limit k, le-leb m node_limit l)
+      made_both h k l =
+          rw (tested, h, le-leb n node_limit k, le-leb m node_limit l)
           (ap₂ sizes en em, ap (take (length forward)) e₁ ∙ take_at forward (drop n o₁) (length forward) refl, ap (take (length reverse)) e₂ ∙ take_at reverse (drop m o₂) (length reverse) refl)
 
 -- 12
-pub not_simple_made : (ts : Tokens) (a b : List ℕ) → simple ts ≡ false → Makes (compile ts) (Err NotSimple) a b
+pub not_simple_puts : (ts : Tokens) (p q : List ℕ) → simple ts ≡ false → Puts (compile ts) (Err NotSimple) p p q q
 unfolding compile
-not_simple_made ts a b e = rw e refl
+not_simple_puts ts p q e = rw e (refl, refl, refl)

@@ -13,6 +13,11 @@ abbrev pub Fills : Compiled → Result Sizes Refusal → List ℕ → List ℕ �
 Fills (compiled f r) made p p' q q' = (made ≡ Ok (record { forward = length f; reverse = length r })) × (p' ≡ filled node_pool f p) × (q' ≡ filled node_pool r q)
 Fills (refused x) made p p' q q' = (made ≡ Err x) × (p' ≡ cleared node_pool p) × (q' ≡ cleared node_pool q)
 
+-- the same while a refusal still leaves both pools as they were
+abbrev pub Puts : Compiled → Result Sizes Refusal → List ℕ → List ℕ → List ℕ → List ℕ → Type 0
+Puts (compiled f r) made p p' q q' = (made ≡ Ok (record { forward = length f; reverse = length r })) × (p' ≡ filled node_pool f p) × (q' ≡ filled node_pool r q)
+Puts (refused x) made p p' q q' = (made ≡ Err x) × (p' ≡ p) × (q' ≡ q)
+
 -- the same before the words are in their pools: they stand at the front of two buffers
 abbrev pub Makes : Compiled → Result Sizes Refusal → List ℕ → List ℕ → Type 0
 Makes (compiled f r) made a b = (made ≡ Ok (record { forward = length f; reverse = length r })) × (take (length f) a ≡ f) × (take (length r) b ≡ r)

@@ -6,7 +6,7 @@ use Rattle.def_meaning.specs.Limits.{token_pool}
 use Rattle.def_meaning.specs.Tokens.{Token, Tokens, Byte, Jump, Alternatives, neither}
 use Rattle.def_meaning.specs.Values.{Spelled}
 use Rattle.def_meaning.specs.Entries.{entries}
-use Rattle.def_compiling.specs.Compile.{flat_token, simple_token}
+use Rattle.def_compiling.specs.Compile.{flat_token, simple_token, simple}
 
 -- What an entry says, as far as 12 asks: a jump with its bounds, alternatives, or else a token of one byte. What 12 asks of it stands in `simple_token`
 -- and `flat_token` alone.
@@ -36,3 +36,7 @@ pub record Entered (ws : List ℕ) : Type 0 where
   pub entered : ws ≡ entries tokens
   pub spelled : Spelled tokens
   pub short : length ws ≤ token_pool
+
+-- whatever tokens the words are the entries of, they are simple
+abbrev pub Simply : List ℕ → Type 0
+Simply ws = (ts : Tokens) → ws ≡ entries ts → simple ts ≡ true

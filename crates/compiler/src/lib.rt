@@ -8,8 +8,9 @@ ghost use Rattle.def_meaning.specs.Entries.{token_count, entries};
 ghost use Rattle.def_meaning.specs.Values.{Spelled};
 ghost use Rattle.def_compiling.specs.Compile.{flat_token, simple_token, simple, compile};
 ghost use Rattle.emit.specs.Lists.{size_at, offsets};
-ghost use Rattle.compiler.specs.Made.{Fills, Makes};
-ghost use Rattle.compiler.specs.Walks.{to_of, told_by, flat_entries, simple_at, Entered};
+ghost use Rattle.base.specs.Pools.{filled};
+ghost use Rattle.compiler.specs.Made.{Fills, Makes, Puts};
+ghost use Rattle.compiler.specs.Walks.{to_of, told_by, flat_entries, simple_at, Entered, Simply};
 
 use base::{ENTRY_LIMIT, JUMP_LIMIT, NODE_LIMIT, NODE_POOL, Refusal};
 use emit::add_tokens;
@@ -115,26 +116,24 @@ pub fn find_starts(ws: &[u32], starts: &mut [u16]) -> usize
     n
 }
 
-// Both programs of tokens, each at the front of its buffer; or 12, then 14, then 13. That the words are some tokens' (Entered) is asked by four
+// Both programs of simple tokens, each at the front of its buffer; or 14, then 13. That the words are some tokens' (Entered) is asked by five
 // functions and held by no type: the door hands on words that it has just read, and a type for them would be made there and taken apart here.
 fn make(
     tokens: &[u32],
     first: &mut [NodeWord; ENTRY_LIMIT],
     second: &mut [NodeWord; ENTRY_LIMIT],
 ) -> Result<Sizes, Refusal>
-    requires { Entered tokens.now }
+    requires { Entered tokens.now × Simply tokens.now }
     ensures made { (ts : Tokens) → tokens.now ≡ entries ts → Spelled ts → Makes (compile ts) result first.new second.new }
     ensures few { IfOk result (λ s. (s.forward ≤ node_limit) × (s.reverse ≤ node_limit)) }
 {
-    if !simple_tokens(tokens) {
-        return Err(Refusal::NotSimple);
-    }
     let mut places = [0; ENTRY_LIMIT];
     let count = find_starts(tokens, &mut places);
     let starts = &places[..count];
     let forward = add_tokens(tokens, starts, false, first);
     let reverse = add_tokens(tokens, starts, true, second);
-    if forward.long || reverse.long {
+    let long = forward.long | reverse.long;
+    if long {
         return Err(Refusal::BranchTooLong);
     }
     if NODE_LIMIT < forward.count || NODE_LIMIT < reverse.count {
@@ -146,8 +145,40 @@ fn make(
     })
 }
 
-// The programs of tokens, forwards and from every list read backwards. Their words are made on the stack, where all that entries can give fit: an entry
-// gives a word at most. They stand at the front of the pools, with zeros behind; a refusal leaves zeros alone.
+// A program's words at the front of its pool, and zeros in the rest of the 512.
+fn fill(pool: &mut [NodeWord], words: &[NodeWord])
+    requires { (length words.now ≤ node_pool) × (node_pool ≤ length pool.old) }
+    ensures { pool.new ≡ filled node_pool words.now pool.old }
+{
+    let n = words.len();
+    pool[..n].copy_from_slice(words);
+    pool[n..NODE_POOL].fill(0);
+}
+
+// Both programs in their pools; or 12 before all else, then 14, then 13, and the pools stay as they were. Words are made on the stack, where all that
+// entries can give fit: an entry gives a word at most. None are made of tokens that 12 refuses.
+fn put_programs(
+    tokens: &[u32],
+    forward: &mut [NodeWord],
+    reverse: &mut [NodeWord],
+) -> Result<Sizes, Refusal>
+    requires { Entered tokens.now × (node_pool ≤ length forward.old) × (node_pool ≤ length reverse.old) }
+    ensures { (ts : Tokens) → tokens.now ≡ entries ts → Spelled ts → Puts (compile ts) result
+        forward.old forward.new reverse.old reverse.new }
+{
+    if !simple_tokens(tokens) {
+        return Err(Refusal::NotSimple);
+    }
+    let mut first = [0; ENTRY_LIMIT];
+    let mut second = [0; ENTRY_LIMIT];
+    let sizes = make(tokens, &mut first, &mut second)?;
+    fill(forward, &first[..sizes.forward]);
+    fill(reverse, &second[..sizes.reverse]);
+    Ok(sizes)
+}
+
+// The programs of tokens, forwards and from every list read backwards. They stand at the front of the pools, with zeros behind; a refusal leaves zeros
+// alone. No word of a pool is written twice, as zeros beforehand would be: of a short text, zeros are most of the work.
 pub fn compile_tokens(
     tokens: &[u32],
     forward: &mut [NodeWord],
@@ -157,12 +188,10 @@ pub fn compile_tokens(
     ensures { (ts : Tokens) → tokens.now ≡ entries ts → Spelled ts → Fills (compile ts) result
         forward.old forward.new reverse.old reverse.new }
 {
-    forward[..NODE_POOL].fill(0);
-    reverse[..NODE_POOL].fill(0);
-    let mut first = [0; ENTRY_LIMIT];
-    let mut second = [0; ENTRY_LIMIT];
-    let sizes = make(tokens, &mut first, &mut second)?;
-    forward[..sizes.forward].copy_from_slice(&first[..sizes.forward]);
-    reverse[..sizes.reverse].copy_from_slice(&second[..sizes.reverse]);
-    Ok(sizes)
+    let made = put_programs(tokens, forward, reverse);
+    if made.is_err() {
+        forward[..NODE_POOL].fill(0);
+        reverse[..NODE_POOL].fill(0);
+    }
+    made
 }

@@ -1,5 +1,5 @@
 -- `compiler::compile_tokens` meets its contract. Assumes nothing.
-use Rattle.std.proofs.Common.{ℕ, ◌-◌, ◌≤◌, ◌≡◌, List, ◌++◌, length, take, drop, replicate, ap₂, ◌∙◌, arith}
+use Rattle.std.proofs.Common.{ℕ, ◌-◌, ◌≤◌, ◌≡◌, List, length, take, drop, replicate, sym, ◌∙◌, length-take-le, arith}
 use borrow.Rule.Slice.PartMut.{put_mid}
 use Rattle.def_meaning.specs.Limits.{node_pool}
 use Rattle.base.specs.Pools.{cleared}
@@ -11,20 +11,25 @@ module _ (p q : List ℕ) (h : node_pool ≤ length p) (e : ((y : ℕ) → y ≡
   zeros : put_mid 0 node_pool p q ≡ cleared node_pool p
   zeros = zeroed_fill 0 node_pool p q (omega arith) h e ∙ zeroed_cleared node_pool p
 
-  front : (n : ℕ) (a y : List ℕ) → y ≡ take n a → y ++ drop n (put_mid 0 node_pool p q) ≡ take n a ++ drop n (cleared node_pool p)
-  front n a y f = ap₂ (λ (l r : List ℕ). l ++ drop n r) f zeros
+pub slice_bounds-fill-end-then-is_err : goal.slice_bounds-fill-end-then-is_err
+slice_bounds-fill-end-then-is_err c =
+    let k : length c.put_programs-made.new.forward ≡ length c.args.forward.now = c.put_programs-made.auto.forward in
+    sym (length-take-le node_pool c.put_programs-made.new.forward (omega (arith, c.requires.1)))
 
-pub returns-in_err-sizes : goal.returns-in_err-sizes
-returns-in_err-sizes c =
-    let f = zeros c.args.forward.now _ c.requires.1 c.fill.ensures.after in
-    let r = zeros c.args.reverse.now _ c.requires.2 c.fill-2.ensures.after in
-    λ ts e s. law.passed_fills _ c.make.result c.from_residual.result c.in_err-sizes.field-0.0 _ _ c.args.forward.now _ c.args.reverse.now _ f r (c.make.ensures.made ts e s) c.in_err-sizes.was
-    c.from_residual.ensures.1
+pub slice_bounds-fill-end-then-is_err-3 : goal.slice_bounds-fill-end-then-is_err-3
+slice_bounds-fill-end-then-is_err-3 c =
+    let k : length c.put_programs-made.new.reverse ≡ length c.args.reverse.now = c.put_programs-made.auto.reverse in
+    sym (length-take-le node_pool c.put_programs-made.new.reverse (omega (arith, c.requires.2)))
 
-pub returns : goal.returns
-returns c =
-    let few = c.in_ok-sizes.ensures.few in
-    λ ts e s. law.made_fills _ c.in_ok-sizes.sizes c.make.new.first c.make.new.second c.args.forward.now c.args.reverse.now _ _ few.0 few.1
-    (rw c.in_ok-sizes.was at (c.make.ensures.made ts e s))
-    (front c.args.forward.now _ c.requires.1 c.fill.ensures.after _ _ _ c.copy_from_slice.ensures.after)
-    (front c.args.reverse.now _ c.requires.2 c.fill-2.ensures.after _ _ _ c.copy_from_slice-2.ensures.after)
+pub returns-then-is_err : goal.returns-then-is_err
+returns-then-is_err c =
+    let m = c.put_programs-made in
+    let k : length m.new.forward ≡ length c.args.forward.now = m.auto.forward in
+    let l : length m.new.reverse ≡ length c.args.reverse.now = m.auto.reverse in
+    λ ts e s. law.refused_fills m.result c.args.forward.now m.new.forward c.args.reverse.now m.new.reverse _ _ _ (m.ensures ts e s) (sym c.is_err.ensures.value ∙ c.if-is_err.true)
+    (zeros m.new.forward _ (omega (arith, c.requires.1)) c.fill.ensures.after) (zeros m.new.reverse _ (omega (arith, c.requires.2)) c.fill-then-is_err.ensures.after)
+
+pub returns-else-is_err : goal.returns-else-is_err
+returns-else-is_err c =
+    let m = c.put_programs-made in
+    λ ts e s. law.made_fills m.result c.args.forward.now m.new.forward c.args.reverse.now m.new.reverse _ (m.ensures ts e s) (sym c.is_err.ensures.value ∙ c.if-is_err.false)
