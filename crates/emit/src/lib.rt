@@ -75,7 +75,7 @@ fn byte_in(value: u32) -> Field
 }
 
 // What a token of one entry adds, by its kind and its first two values. Kinds stay numbers: entries are the words of a pool that 01 lends, and any
-// word may stand there.
+// word may stand there. `X?` has arms of its own, where its mask is a constant of the word: one arm for both masks took eight instructions more for it.
 #[tactic(auto, unfolding(crate::specs::Items::entry_item, crate::specs::Items::mask_item, crate::specs::Items::not_mask_item, crate::specs::Items::half_of, crate::specs::Items::addend_of))]
 pub fn entry_addend(kind: u32, a: u32, b: u32) -> Addend
     ensures { result ≡ addend_of (entry_item kind a b) }
@@ -84,13 +84,15 @@ pub fn entry_addend(kind: u32, a: u32, b: u32) -> Addend
         0 => ByteTest::Byte(byte_in(a)).into(),
         1 => ByteTest::NegatedMask(byte_in(a), 0xFF).into(),
         2 => match half(a, b) {
+            Some((value, 0xF0)) => ByteTest::Mask(value, 0xF0).into(),
             Some((value, mask)) => ByteTest::Mask(value, mask).into(),
             None => Addend::Gap(1),
         },
-        3 => {
-            let (value, mask) = half(a, b).unwrap_or((0, 0));
-            ByteTest::NegatedMask(value, mask).into()
-        }
+        3 => match half(a, b) {
+            Some((value, 0xF0)) => ByteTest::NegatedMask(value, 0xF0).into(),
+            Some((value, mask)) => ByteTest::NegatedMask(value, mask).into(),
+            None => ByteTest::NegatedMask(0, 0).into(),
+        },
         _ => jump_addend(field(a), field(b)),
     }
 }
