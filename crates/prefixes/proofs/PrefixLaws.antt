@@ -203,7 +203,7 @@ module _ (ws : List ℕ) (t : Token) (rest : List ℕ) (f : IsFront ws t rest) (
   byte_prefix : (p q : ℕ) → prefix_of (meant t) p q ≡ q
   byte_prefix p q = ap (λ (s : Token). prefix_of (meant s) p q) e ∙ one_prefix (Byte x) p q ∙ ap (λ (s : Token). q / count_of (meant s)) (sym e) ∙ ap (λ (n : ℕ). q / n) one_literal ∙ div-one q
 
-  byte_counted : count (tokens_in ws) ≡ count (tokens_in rest)
+  pub byte_counted : count (tokens_in ws) ≡ count (tokens_in rest)
   byte_counted = tokens_count ws t rest f ∙ ap (λ (n : ℕ). n * count (tokens_in rest)) one_literal ∙ one-mul (count (tokens_in rest))
 
   byte_numbered : (p k : ℕ) → prefixed (tokens_in ws) p k ≡ prefixed (tokens_in rest) p k

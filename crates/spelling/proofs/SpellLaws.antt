@@ -1,5 +1,5 @@
 -- The pieces of literal number k, from the entries. Assumes nothing.
-use Rattle.std.proofs.Common.{◌≡◌, refl, sym, ap, ap₂, ◌∙◌, subst, List, [], ◌∷◌, ◌++◌, ℕ, ◌+◌, ◌-◌, ◌*◌, ◌/◌, ◌%◌, ◌≤◌, ◌<◌, arith, mul_comm, div-one, mod-lt, length, get_or, drop, length-drop, lt-ltb, le-ltb}
+use Rattle.std.proofs.Common.{◌≡◌, refl, sym, ap, ap₂, ◌∙◌, subst, List, [], ◌∷◌, ◌++◌, ℕ, ◌+◌, ◌-◌, ◌*◌, ◌/◌, ◌%◌, ◌≤◌, ◌<◌, arith, mul_comm, mul-one, div-one, mod-lt, length, get_or, drop, length-drop, lt-ltb, le-ltb}
 use native.Mathlib.Nat.{div-div-eq-div-mul, mul-div_cancel_left, mod-one}
 use Rattle.def_meaning.specs.Limits.{literal_limit}
 use Rattle.def_meaning.specs.Tokens.{Tokens}
@@ -10,6 +10,7 @@ use Rattle.classes.specs.Entry.{entry_at, entry_token, token_of}
 use Rattle.classes.specs.declared.Entry.{Entry}
 use Rattle.classes.specs.declared.Entry.TheVariants.{Byte}
 use Rattle.entries.specs.declared.Token.{Token}
+use Rattle.entries.specs.declared.Token.TheVariants.{One}
 use Rattle.entries.specs.Walks.{meant, IsFront, IsList}
 use Rattle.entries.specs.Words.{first_entry, branch_in, lists_in, tokens_in}
 use Rattle.entries.proofs.WalkLaws.{list_next, token_next, chunk_long, chunk_entry, chunk_left}
@@ -18,7 +19,7 @@ use Rattle.def_meaning.specs.Tokens as meaning
 use Rattle.entries.proofs.StepLaws.{branch_end, branch_step, lists_end, tokens_end, by_entries}
 use Rattle.classes.proofs.EntryLaws.{one_cases}
 use Rattle.classes.proofs.KindLaws.{entry_cases}
-use Rattle.tallies.proofs.TallyLaws.{entry_count, one_count}
+use Rattle.tallies.proofs.TallyLaws.{entry_count, one_count, byte_taken}
 use Rattle.prefixes.proofs.PrefixLaws.{count_lists, entry_prefix, factor_le}
 
 -- ---- lists
@@ -185,6 +186,25 @@ module _ (ws : List ℕ) (i : ℕ) (head : List ℕ) (h : i < length ws / 4) (e 
       byte_first (drop (4 * i) ws) long c n so_many n-is some few k
       ∙ ap₂ (λ (t : meaning.Token) (l : List ℕ). get_or (taken t) (k / (n / c) % c) 0 ∷ literal_at (branch_in l) k) (sym same) (chunk_left ws i head h e)
 
+-- the same where the entry is a byte, which leaves as many literals
+byte_is : (b : ℕ) → get_or (taken (token_of (Byte b))) 0 0 ≡ b
+unfolding taken
+byte_is b = refl
+
+module _ (ws : List ℕ) (i : ℕ) (head : List ℕ) (h : i < length ws / 4) (e : head ≡ get_or (first_chunks 4 (length ws / 4) ws) i []) (x : Entry) (x-is : token_of x ≡ entry_at head)
+    (b n : ℕ) (g : x ≡ Byte b) (n-is : n ≡ count (branch_in (drop (4 * i) ws))) (some : 0 < n) (few : n ≤ literal_limit) where
+  single : 1 ≡ length (taken (token_of x))
+  single = sym (ap (λ (y : Entry). length (taken (token_of y))) g ∙ byte_taken b)
+
+  pub byte_chunk_rest : n ≡ count (branch_in (drop (4 * (i + 1)) ws))
+  byte_chunk_rest = sym (div-one n) ∙ chunk_rest ws i head h e x x-is 1 n single n-is some few
+
+  pub byte_chunk : (k : ℕ) → literal_at (branch_in (drop (4 * i) ws)) k ≡ b ∷ literal_at (branch_in (drop (4 * (i + 1)) ws)) k
+  byte_chunk k =
+      chunk_byte ws i head h e x x-is 1 n single n-is some few k
+      ∙ ap (λ (y : Entry). get_or (taken (token_of y)) (k / (n / 1) % 1) 0 ∷ literal_at (branch_in (drop (4 * (i + 1)) ws)) k) g
+      ∙ ap (λ (v : ℕ). v ∷ literal_at (branch_in (drop (4 * (i + 1)) ws)) k) (ap (λ (j : ℕ). get_or (taken (token_of (Byte b))) j 0) (mod-one (k / (n / 1))) ∙ byte_is b)
+
 pub chunks_end : (ws : List ℕ) (i k : ℕ) → i ≡ length ws / 4 → literal_at (branch_in (drop (4 * i) ws)) k ≡ []
 chunks_end ws i k e = branch_ending_end (drop (4 * i) ws) 1 k (omega (arith, length-drop (4 * i) ws))
 
@@ -196,6 +216,18 @@ next_piece ws t rest f p k q n e g =
     ending_step ws t rest f p k
     ∙ ap (λ (x : ℕ). ending_of (meant t) p (prefixed (tokens_in rest) (p * x) k) ++ ending (tokens_in rest) (p * x) k) (sym e)
     ∙ ap (λ (l : List ℕ). l ++ ending (tokens_in rest) (p * n) k) (sym g)
+
+-- a byte is its own piece, and leaves as many prefixes
+byte_counts : (b : ℕ) → count_of (token_of (Byte b)) ≡ 1
+byte_counts b = one_count (Byte b) ∙ byte_taken b
+
+pub byte_piece : (ws : List ℕ) (t : Token) (rest : List ℕ) → IsFront ws t rest → (b : ℕ) → t ≡ One (Byte b) → (p k : ℕ)
+    → ending (tokens_in ws) p k ≡ b ∷ ending (tokens_in rest) p k
+byte_piece ws t rest f b e p k =
+    ending_step ws t rest f p k
+    ∙ ap (λ (s : Token). ending_of (meant s) p (prefixed (tokens_in rest) (p * count_of (meant s)) k) ++ ending (tokens_in rest) (p * count_of (meant s)) k) e
+    ∙ ap (λ (n : ℕ). ending_of (token_of (Byte b)) p (prefixed (tokens_in rest) n k) ++ ending (tokens_in rest) n k) (ap (λ (c : ℕ). p * c) (byte_counts b) ∙ mul-one p)
+    ∙ ap (λ (l : List ℕ). l ++ ending (tokens_in rest) p k) (byte_ending b p (prefixed (tokens_in rest) p k))
 
 -- a token of one entry: its ending is one byte
 pub one_some : (e : Entry) (n : ℕ) → n ≡ length (taken (token_of e)) → 0 < count_of (token_of e) → 0 < n

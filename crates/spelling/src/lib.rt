@@ -23,6 +23,11 @@ fn write_list(ws: &[u32], k: usize, dst: &mut [u8]) -> usize
     let mut n = tallies::count_list(ws);
     for (i, words) in entries.iter().enumerate() {
         let entry = Entry::from(*words);
+        // Most are bytes, here and below. They need no division.
+        if let Entry::Byte(b) = entry {
+            dst[i] = b;
+            continue;
+        }
         let c = entry.count();
         n /= c;
         dst[i] = entry.at(k / n % c);
@@ -47,17 +52,13 @@ fn write_branch(ls: &[u32], p: usize, q: usize, dst: &mut [u8]) -> usize
     0
 }
 
-// The same of a token. Most are bytes, which need no division.
+// The same of a token.
 fn write_token(token: Token, p: usize, q: usize, dst: &mut [u8]) -> usize
     requires { Writable p (meant token) q (length dst.old) }
     ensures { Written result (ending_of (meant token.entry) p q) dst.old dst.new }
 {
     match token {
         Token::Alternatives(lists) => write_branch(lists, p, q, dst),
-        Token::One(Entry::Byte(b)) => {
-            dst[0] = b;
-            1
-        }
         Token::One(entry) => {
             dst[0] = entry.at(q % entry.count());
             1
@@ -76,6 +77,12 @@ pub fn write_literal(ws: &[u32], k: usize, dst: &mut [u8]) -> usize
     let mut i = 0;
     // Not a `for`: what is left of the tokens is handed on.
     while let Some(token) = tokens.next() {
+        // A byte has one literal, so that p stays.
+        if let Token::One(Entry::Byte(b)) = token {
+            dst[i] = b;
+            i += 1;
+            continue;
+        }
         let t = tallies::tally_token(token);
         let q = prefixes::number_of(tokens, p, t.literals, k);
         i += write_token(token, p, q, &mut dst[i..]);

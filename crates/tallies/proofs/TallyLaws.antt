@@ -5,7 +5,9 @@ use Rattle.def_picking.specs.Literals.{taken, combinations_of, combinations, com
 use Rattle.def_picking.specs.Numbers.{count_of, count, count_in}
 use Rattle.classes.specs.Entry.{entry_at, entry_token, token_of}
 use Rattle.classes.specs.declared.Entry.{Entry}
+use Rattle.classes.specs.declared.Entry.TheVariants.{Byte}
 use Rattle.entries.specs.declared.Token.{Token}
+use Rattle.entries.specs.declared.Token.TheVariants.{One}
 use Rattle.entries.specs.Walks.{meant, IsFront, IsList}
 use Rattle.entries.proofs.WalkLaws.{entry_next, entries_end, list_next, token_next}
 use Rattle.std.specs.Simd.{first_chunks}
@@ -79,6 +81,17 @@ unfolding count
 branch_count_more n ws i c head h e f l =
     let k : c ≡ min count_top (count_of (entry_at head)) = (let g = entry_count (get_or head 0 0) (get_or head 1 0) (get_or head 2 0) in omega arith) in
     rw (entry_next ws i head h e, k) (cap_more n (count_of (entry_at head)) (count (branch_in (drop (4 * (i + 1)) ws))))
+
+pub byte_taken : (b : ℕ) → length (taken (token_of (Byte b))) ≡ 1
+unfolding taken
+byte_taken b = refl
+
+-- a byte leaves a count as it is
+pub branch_count_byte : (n : ℕ) (ws : List ℕ) (i : ℕ) (head : List ℕ) (x : Entry) (b : ℕ) → n ≤ count_top → i < length ws / 4 → head ≡ get_or (first_chunks 4 (length ws / 4) ws) i []
+    → token_of x ≡ entry_at head → x ≡ Byte b → min count_top (n * count (branch_in (drop (4 * i) ws))) ≡ min count_top (n * count (branch_in (drop (4 * (i + 1)) ws)))
+branch_count_byte n ws i head x b l h e f g =
+    branch_count_more n ws i 1 head h e (sym (byte_taken b) ∙ ap (λ (y : Entry). length (taken (token_of y))) (sym g) ∙ ap (λ t. length (taken t)) f) (omega arith)
+    ∙ ap (λ (m : ℕ). min count_top (m * count (branch_in (drop (4 * (i + 1)) ws)))) (cap_small n l)
 
 pub branch_combinations : (ws : List ℕ) → combinations (branch_in ws) ≡ count (branch_in ws)
 unfolding count combinations
@@ -180,3 +193,14 @@ one_tallied e n f l =
     let a = one_count e in
     let b = one_combinations e in
     record { literals_are = (omega arith); combinations_are = (omega arith) }
+
+-- a byte leaves counts as they are
+module _ (ws : List ℕ) (t : Token) (rest : List ℕ) (f : IsFront ws t rest) (b : ℕ) (e : t ≡ One (Byte b)) (n : ℕ) (h : n ≤ count_top) where
+  pub byte_count_more : min count_top (n * count (tokens_in ws)) ≡ min count_top (n * count (tokens_in rest))
+  byte_count_more =
+      tokens_count_more ws t rest f 1 n (rw e (omega (arith, one_count (Byte b), byte_taken b))) ∙ ap (λ (m : ℕ). min count_top (m * count (tokens_in rest))) (cap_small n h)
+
+  pub byte_combinations_more : min count_top (n * combinations (tokens_in ws)) ≡ min count_top (n * combinations (tokens_in rest))
+  byte_combinations_more =
+      tokens_combinations_more ws t rest f 1 n (rw e (omega (arith, one_combinations (Byte b), one_count (Byte b), byte_taken b)))
+      ∙ ap (λ (m : ℕ). min count_top (m * combinations (tokens_in rest))) (cap_small n h)

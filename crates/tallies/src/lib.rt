@@ -28,8 +28,13 @@ pub fn count_list(ws: &[u32]) -> usize
 {
     let (entries, _) = ws.as_chunks::<ENTRY>();
     let mut n = 1;
-    for entry in entries {
-        n = times(n, Entry::from(*entry).count());
+    for words in entries {
+        let entry = Entry::from(*words);
+        // A byte leaves the product as it is. Most entries are bytes, here and below.
+        if let Entry::Byte(_) = entry {
+            continue;
+        }
+        n = times(n, entry.count());
     }
     n
 }
@@ -57,6 +62,8 @@ fn tally_lists(ws: &[u32]) -> Tally
     }
 }
 
+// A call would hand the token over through memory.
+#[inline(always)]
 pub fn tally_token(token: Token) -> Tally
     ensures { Tallied result (count_of (meant token.entry)) (combinations_of (meant token.entry)) }
 {
@@ -78,6 +85,9 @@ pub fn tally_tokens(ws: &[u32]) -> Tally
     let mut literals = 1;
     let mut combinations = 1;
     for token in (Tokens { words: ws }) {
+        if let Token::One(Entry::Byte(_)) = token {
+            continue;
+        }
         let t = tally_token(token);
         literals = times(literals, t.literals);
         combinations = times(combinations, t.combinations);

@@ -36,8 +36,8 @@ at-requires c =
     spell.chunk_digit c.args.ws.now c.loop-i.i _ h e c.from-entry.result c.from-entry.ensures c.count-c.result c.loop-i.n c.count-c.ensures.0 c.loop-i.invariant.0 c.loop-i.invariant.1
     c.loop-i.invariant.2 c.args.k
 
-pub bounds-dst-i : goal.bounds-dst-i
-bounds-dst-i c =
+pub bounds-dst-i-in-loop-i : goal.bounds-dst-i-in-loop-i
+bounds-dst-i-in-loop-i c =
     let h : c.loop-i.i < length c.args.ws.now / 4 = omega (arith, c.as_chunks.ensures.front_len) in
     let e = ap (λ (cs : List (List ℕ)). get_or cs c.loop-i.i []) c.as_chunks.ensures.front in
     let b =
@@ -45,6 +45,31 @@ bounds-dst-i c =
     c.loop-i.invariant.2 c.args.k in
     let half = subst (λ (l : List ℕ). Halfway (literal_at (branch_in c.args.ws.now) c.args.k) l c.loop-i.i c.args.dst.now c.loop-i.dst) b c.loop-i.invariant.3 in
     write.room_one _ _ _ _ _ _ half c.requires.2
+
+pub bounds-dst-i : goal.bounds-dst-i
+bounds-dst-i c =
+    let h : c.loop-i.i < length c.args.ws.now / 4 = omega (arith, c.as_chunks.ensures.front_len) in
+    let e = ap (λ (cs : List (List ℕ)). get_or cs c.loop-i.i []) c.as_chunks.ensures.front in
+    let b =
+    spell.byte_chunk c.args.ws.now c.loop-i.i _ h e c.from-entry.result c.from-entry.ensures _ c.loop-i.n c.in-Byte.is c.loop-i.invariant.0 c.loop-i.invariant.1 c.loop-i.invariant.2
+    c.args.k in
+    let half = subst (λ (l : List ℕ). Halfway (literal_at (branch_in c.args.ws.now) c.args.k) l c.loop-i.i c.args.dst.now c.loop-i.dst) b c.loop-i.invariant.3 in
+    write.room_one _ _ _ _ _ _ half c.requires.2
+
+pub loop-i-preserved-in-Byte : goal.loop-i-preserved-in-Byte
+loop-i-preserved-in-Byte c =
+    let h : c.loop-i.i < length c.args.ws.now / 4 = omega (arith, c.as_chunks.ensures.front_len) in
+    let e = ap (λ (cs : List (List ℕ)). get_or cs c.loop-i.i []) c.as_chunks.ensures.front in
+    let b =
+    spell.byte_chunk c.args.ws.now c.loop-i.i _ h e c.from-entry.result c.from-entry.ensures _ c.loop-i.n c.in-Byte.is c.loop-i.invariant.0 c.loop-i.invariant.1 c.loop-i.invariant.2
+    c.args.k in
+    let half = subst (λ (l : List ℕ). Halfway (literal_at (branch_in c.args.ws.now) c.args.k) l c.loop-i.i c.args.dst.now c.loop-i.dst) b c.loop-i.invariant.3 in (
+      spell.byte_chunk_rest c.args.ws.now c.loop-i.i _ h e c.from-entry.result c.from-entry.ensures _ c.loop-i.n c.in-Byte.is c.loop-i.invariant.0 c.loop-i.invariant.1
+          c.loop-i.invariant.2,
+      c.loop-i.invariant.1,
+      c.loop-i.invariant.2,
+      write.one_more _ _ _ _ _ _ half c.requires.2,
+    )
 
 pub loop-i-preserved : goal.loop-i-preserved
 loop-i-preserved c =

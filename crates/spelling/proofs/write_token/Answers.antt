@@ -1,7 +1,6 @@
 -- `spelling::write_token` meets its contract. Assumes nothing.
-use Rattle.std.proofs.Common.{◌≡◌, arith}
+use Rattle.std.proofs.Common.{arith}
 use Rattle.def_picking.specs.Numbers.{count, ending_of}
-use Rattle.classes.specs.declared.Entry.TheVariants.{Byte}
 use Rattle.spelling.proofs.SpellLaws as spell
 use Rattle.spelling.proofs.WriteLaws as write
 use Rattle.spelling.proofs.write_token.Goals as goal
@@ -14,16 +13,6 @@ pub returns-in-Alternatives : goal.returns-in-Alternatives
 unfolding ending_of
 returns-in-Alternatives c = rw c.in-Alternatives.is c.write_branch.ensures
 
-pub bounds-dst-0 : goal.bounds-dst-0
-bounds-dst-0 c = let h = rw c.in-One-Byte.is at c.requires.fits in spell.one_room _ c.args.p c.args.q _ h
-
-pub returns-in-One-Byte : goal.returns-in-One-Byte
-returns-in-One-Byte c =
-    let a = c.in-One-Byte in
-    let e : a.field-0 ≡ Byte a.b = rw a.is at a.field-0-is in
-    let h = rw a.is at c.requires.fits in
-    rw (a.is, e, spell.byte_ending a.b c.args.p c.args.q) (write.one_written a.b c.args.dst.now (spell.one_room _ c.args.p c.args.q _ h))
-
 pub nonzero_rem-q : goal.nonzero_rem-q
 nonzero_rem-q c = let h = rw c.in-One.is at c.requires.some in omega (arith, spell.one_some c.in-One.entry c.count.result c.count.ensures.0 h)
 
@@ -32,8 +21,8 @@ at-requires c =
     let h = rw c.in-One.is at c.requires.some in
     spell.number_fits c.in-One.entry c.args.q _ c.count.ensures.0 (spell.one_some c.in-One.entry c.count.result c.count.ensures.0 h)
 
-pub bounds-dst-0-in-One : goal.bounds-dst-0-in-One
-bounds-dst-0-in-One c = let h = rw c.in-One.is at c.requires.fits in spell.one_room c.in-One.entry c.args.p c.args.q _ h
+pub bounds-dst-0 : goal.bounds-dst-0
+bounds-dst-0 c = let h = rw c.in-One.is at c.requires.fits in spell.one_room c.in-One.entry c.args.p c.args.q _ h
 
 pub returns-in-One : goal.returns-in-One
 returns-in-One c =

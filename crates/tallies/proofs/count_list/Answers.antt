@@ -7,18 +7,29 @@ use Rattle.tallies.specs.Tallies.{count_top}
 use Rattle.tallies.proofs.TallyLaws as law
 use Rattle.tallies.proofs.count_list.Goals as goal
 
-pub loop-entry-preserved : goal.loop-entry-preserved
-loop-entry-preserved c =
+pub loop-words-preserved : goal.loop-words-preserved
+loop-words-preserved c =
     let ws : List ℕ = c.args.ws.now in
-    let i : ℕ = c.loop-entry.entry-index in
+    let i : ℕ = c.loop-words.words-index in
     let h : i < length ws / 4 = omega (arith, c.as_chunks.ensures.front_len) in (
       omega (arith, c.times-n.ensures),
-      c.loop-entry.invariant.1
-          ∙ law.branch_count_more c.loop-entry.n ws i c.count.result _ h (ap (λ (cs : List (List ℕ)). get_or cs i []) c.as_chunks.ensures.front)
-          (c.count.ensures.0 ∙ ap (λ t. length (taken t)) c.from.ensures) c.count.ensures.1
+      c.loop-words.invariant.1
+          ∙ law.branch_count_more c.loop-words.n ws i c.count.result _ h (ap (λ (cs : List (List ℕ)). get_or cs i []) c.as_chunks.ensures.front)
+          (c.count.ensures.0 ∙ ap (λ t. length (taken t)) c.from-entry.ensures) c.count.ensures.1
           ∙ ap (λ (x : ℕ). min count_top (x * count (branch_in (drop (4 * (i + 1)) ws)))) (sym c.times-n.ensures),
+    )
+
+pub loop-words-preserved-in-Byte : goal.loop-words-preserved-in-Byte
+loop-words-preserved-in-Byte c =
+    let ws : List ℕ = c.args.ws.now in
+    let i : ℕ = c.loop-words.words-index in
+    let h : i < length ws / 4 = omega (arith, c.as_chunks.ensures.front_len) in (
+      c.loop-words.invariant.0,
+      c.loop-words.invariant.1
+          ∙ law.branch_count_byte c.loop-words.n ws i _ _ _ c.loop-words.invariant.0 h (ap (λ (cs : List (List ℕ)). get_or cs i []) c.as_chunks.ensures.front)
+          c.from-entry.ensures c.in-Byte.is,
     )
 
 pub returns : goal.returns
 returns c =
-    sym (c.loop-entry.invariant.1 ∙ law.branch_count_end c.loop-entry.n c.args.ws.now c.loop-entry.entry-index c.loop-entry.invariant.0 (omega (arith, c.as_chunks.ensures.front_len)))
+    sym (c.loop-words.invariant.1 ∙ law.branch_count_end c.loop-words.n c.args.ws.now c.loop-words.words-index c.loop-words.invariant.0 (omega (arith, c.as_chunks.ensures.front_len)))

@@ -5,6 +5,6 @@ use Rattle.entries.specs.Words.{branch_in}
 use Rattle.tallies.specs.Tallies.{count_top}
 use Rattle.tallies.proofs.count_list.Given as goal
 
-abbrev pub invariant-loop-entry : goal.invariant-loop-entry
-invariant-loop-entry l =
-    (l.n ≤ count_top) × (min count_top (count (branch_in l.ws)) ≡ min count_top (l.n * count (branch_in (drop (4 * l.entry-index) l.ws))))
+abbrev pub invariant-loop-words : goal.invariant-loop-words
+invariant-loop-words l =
+    (l.n ≤ count_top) × (min count_top (count (branch_in l.ws)) ≡ min count_top (l.n * count (branch_in (drop (4 * l.words-index) l.ws))))
