@@ -77,7 +77,8 @@ fn strong_part(run: &[u32]) -> Option<Pick>
     None
 }
 
-// What is chosen in a run: such a part alone, or else the best slice.
+// What is chosen in a run: such a part alone, or else the best slice. Not taken in by its caller, which is small without it and asks this of few runs.
+#[inline(never)]
 pub fn in_run(run: &[u32]) -> Result<Option<Pick>, TooMany>
     requires { (length run.now ≤ token_pool) × Whole run.now }
     ensures { winner_says run.now result ≡ in_run (tokens_in run.now) }

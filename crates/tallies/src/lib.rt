@@ -31,10 +31,9 @@ pub fn count_list(ws: &[u32]) -> usize
     for words in entries {
         let entry = Entry::from(*words);
         // A byte leaves the product as it is. Most entries are bytes, here and below.
-        if let Entry::Byte(_) = entry {
-            continue;
+        if !matches!(entry, Entry::Byte(_)) {
+            n = times(n, entry.count());
         }
-        n = times(n, entry.count());
     }
     n
 }
