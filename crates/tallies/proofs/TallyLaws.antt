@@ -1,5 +1,5 @@
 -- Counts, combinations and lengths of entries. What exceeds 256 is counted as 257. Assumes nothing.
-use Rattle.std.proofs.Common.{◌≡◌, refl, sym, ap, ap₂, ◌∙◌, Bool, true, false, ◌⊎◌, inl, inr, ⊎_elim, List, [], ℕ, zero, suc, ◌+◌, ◌-◌, ◌*◌, ◌/◌, ◌≤◌, ◌<◌, min, arith, mul-zero, mul-one, mul_comm, mul_assoc, le-mul_of_pos_right, ltb, length, get_or, drop, length-take, length-drop}
+use Rattle.std.proofs.Common.{◌≡◌, refl, sym, ap, ap₂, ◌∙◌, Bool, true, false, ◌⊎◌, inl, inr, ⊎_elim, List, ℕ, zero, suc, ◌+◌, ◌-◌, ◌*◌, ◌/◌, ◌≤◌, ◌<◌, min, arith, mul-zero, mul-one, mul_comm, mul_assoc, le-mul_of_pos_right, ltb, length, get_or, take, drop, length-take, length-drop}
 use Rattle.tallies.specs.Tallies.{count_top}
 use Rattle.def_picking.specs.Literals.{taken, combinations_of, combinations, combinations_in, length_of, length_in, shortest, shorter}
 use Rattle.def_picking.specs.Numbers.{count_of, count, count_in}
@@ -9,8 +9,7 @@ use Rattle.classes.specs.declared.Entry.TheVariants.{Byte}
 use Rattle.entries.specs.declared.Token.{Token}
 use Rattle.entries.specs.declared.Token.TheVariants.{One}
 use Rattle.entries.specs.Walks.{meant, IsFront, IsList}
-use Rattle.entries.proofs.WalkLaws.{entry_next, entries_end, list_next, token_next}
-use Rattle.std.specs.Simd.{first_chunks}
+use Rattle.entries.proofs.WalkLaws.{entry_front, list_next, token_next}
 use Rattle.classes.proofs.EntryLaws.{one_cases}
 use Rattle.entries.specs.Words.{branch_in, ends, inside, lists_in, tokens_in}
 use Rattle.tallies.specs.Tallies.{Tallied}
@@ -71,27 +70,28 @@ entry_length = entry_cases (λ t. length_of t ≡ 1) (λ v. refl) (λ v. refl) (
 
 -- ---- lists without alternatives
 
-pub branch_count_end : (n : ℕ) (ws : List ℕ) (i : ℕ) → n ≤ count_top → i ≡ length ws / 4 → min count_top (n * count (branch_in (drop (4 * i) ws))) ≡ n
+pub branch_count_end : (n : ℕ) (ws : List ℕ) → n ≤ count_top → length ws < 4 → min count_top (n * count (branch_in ws)) ≡ n
 unfolding count
-branch_count_end n ws i h e = rw (entries_end ws i e) (cap_small n h)
-
-pub branch_count_more : (n : ℕ) (ws : List ℕ) (i c : ℕ) (head : List ℕ) → i < length ws / 4 → head ≡ get_or (first_chunks 4 (length ws / 4) ws) i [] → c ≡ length (taken (entry_at head)) → c ≤ 256
-    → min count_top (n * count (branch_in (drop (4 * i) ws))) ≡ min count_top (min count_top (n * c) * count (branch_in (drop (4 * (i + 1)) ws)))
-unfolding count
-branch_count_more n ws i c head h e f l =
-    let k : c ≡ min count_top (count_of (entry_at head)) = (let g = entry_count (get_or head 0 0) (get_or head 1 0) (get_or head 2 0) in omega arith) in
-    rw (entry_next ws i head h e, k) (cap_more n (count_of (entry_at head)) (count (branch_in (drop (4 * (i + 1)) ws))))
+branch_count_end n ws h l = rw (branch_end ws l) (cap_small n h)
 
 pub byte_taken : (b : ℕ) → length (taken (token_of (Byte b))) ≡ 1
 unfolding taken
 byte_taken b = refl
 
--- a byte leaves a count as it is
-pub branch_count_byte : (n : ℕ) (ws : List ℕ) (i : ℕ) (head : List ℕ) (x : Entry) (b : ℕ) → n ≤ count_top → i < length ws / 4 → head ≡ get_or (first_chunks 4 (length ws / 4) ws) i []
-    → token_of x ≡ entry_at head → x ≡ Byte b → min count_top (n * count (branch_in (drop (4 * i) ws))) ≡ min count_top (n * count (branch_in (drop (4 * (i + 1)) ws)))
-branch_count_byte n ws i head x b l h e f g =
-    branch_count_more n ws i 1 head h e (sym (byte_taken b) ∙ ap (λ (y : Entry). length (taken (token_of y))) (sym g) ∙ ap (λ t. length (taken t)) f) (omega arith)
-    ∙ ap (λ (m : ℕ). min count_top (m * count (branch_in (drop (4 * (i + 1)) ws)))) (cap_small n l)
+-- what the first entry takes comes into the count
+module _ (n : ℕ) (ws head rest : List ℕ) (long : 4 ≤ length ws) (head-is : head ≡ take 4 ws) (rest-is : rest ≡ drop 4 ws) where
+  pub branch_count_more : (c : ℕ) → c ≡ length (taken (entry_at head)) → c ≤ 256 → min count_top (n * count (branch_in ws)) ≡ min count_top (min count_top (n * c) * count (branch_in rest))
+  unfolding count
+  branch_count_more c e l =
+      let k : c ≡ min count_top (count_of (entry_at ws)) =
+      (let g = entry_count (get_or ws 0 0) (get_or ws 1 0) (get_or ws 2 0) in let f = ap (λ t. length (taken t)) (entry_front ws head head-is) in omega arith) in
+      rw (branch_step ws long, k, rest-is) (cap_more n (count_of (entry_at ws)) (count (branch_in (drop 4 ws))))
+
+  -- a byte leaves it as it is
+  pub branch_count_byte : (x : Entry) (b : ℕ) → n ≤ count_top → token_of x ≡ entry_at head → x ≡ Byte b → min count_top (n * count (branch_in ws)) ≡ min count_top (n * count (branch_in rest))
+  branch_count_byte x b h f g =
+      branch_count_more 1 (sym (byte_taken b) ∙ ap (λ (y : Entry). length (taken (token_of y))) (sym g) ∙ ap (λ t. length (taken t)) f) (omega arith)
+      ∙ ap (λ (m : ℕ). min count_top (m * count (branch_in rest))) (cap_small n h)
 
 pub branch_combinations : (ws : List ℕ) → combinations (branch_in ws) ≡ count (branch_in ws)
 unfolding count combinations

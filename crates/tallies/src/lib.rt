@@ -26,14 +26,17 @@ fn times(a: usize, b: usize) -> usize
 pub fn count_list(ws: &[u32]) -> usize
     ensures { result ≡ min count_top (count (branch_in ws.now)) }
 {
-    let (entries, _) = ws.as_chunks::<ENTRY>();
+    let mut left = ws;
     let mut n = 1;
-    for words in entries {
+    // Not a `for` over chunks: to begin one takes as long as a list of one byte.
+    while let Some((words, rest)) = left.split_first_chunk::<ENTRY>() {
+        left = rest;
         let entry = Entry::from(*words);
         // A byte leaves the product as it is. Most entries are bytes, here and below.
-        if !matches!(entry, Entry::Byte(_)) {
-            n = times(n, entry.count());
+        if let Entry::Byte(_) = entry {
+            continue;
         }
+        n = times(n, entry.count());
     }
     n
 }
