@@ -86,13 +86,6 @@ module _ (ws : List ℕ) (i : ℕ) (head : List ℕ) (h : i < length ws / 4) (e 
   pub chunk_left : drop 4 (drop (4 * i) ws) ≡ drop (4 * (i + 1)) ws
   chunk_left = let n : 4 * i + 4 ≡ 4 * (i + 1) = omega arith in drop-drop 4 (4 * i) ws ∙ ap (λ (x : ℕ). drop x ws) n
 
-  pub entry_next : branch_in (drop (4 * i) ws) ≡ entry_at head then branch_in (drop (4 * (i + 1)) ws)
-  entry_next =
-      branch_step (drop (4 * i) ws) chunk_long ∙ ap₂ (λ (t : token.Token) (l : List ℕ). t then branch_in l) (sym chunk_entry) chunk_left
-
-pub entries_end : (ws : List ℕ) (i : ℕ) → i ≡ length ws / 4 → branch_in (drop (4 * i) ws) ≡ nothing
-entries_end ws i e = branch_end (drop (4 * i) ws) (omega (arith, length-drop (4 * i) ws))
-
 -- ---- whether all is plain
 
 -- entries of four words each
