@@ -56,7 +56,8 @@ fn shifted(p: Pick, from: usize, n: usize) -> Pick
     }
 }
 
-// One more run, from `from` to `to`; an empty one is dropped. Taken in by its callers, since of many runs most are empty: a call hands all on through memory.
+// One more run, from `from` to `to`; an empty one is dropped. Taken in by its callers: of many runs most are empty, and a call would hand what is
+// chosen so far on and back through memory.
 #[inline(always)]
 fn with_run(ws: &[u32], from: usize, to: usize, top: Option<Pick>) -> Result<Option<Pick>, TooMany>
     requires { Stretch ws.now from to × Kept ws.now top }

@@ -77,7 +77,7 @@ fn strong_part(run: &[u32]) -> Option<Pick>
     None
 }
 
-// What is chosen in a run: such a part alone, or else the best slice. Not taken in by its caller, which is small without it and asks this of few runs.
+// What is chosen in a run: such a part alone, or else the best slice. Never taken in: its caller, which passes over empty runs, stays small without it.
 #[inline(never)]
 pub fn in_run(run: &[u32]) -> Result<Option<Pick>, TooMany>
     requires { (length run.now ≤ token_pool) × Whole run.now }
