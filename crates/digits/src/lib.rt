@@ -63,12 +63,13 @@ pub struct Bounds {
     pub to: Option<u32>,
 }
 
-// What was read: where it stopped, and where the blanks after that end.
+// What was read: where it stopped, and where the blanks after that end. The value lies behind these: a refusal's place then lies where `stop` does, and not
+// where a leaf's parts do, which were packed into one word and taken apart again at each token.
 #[derive(Clone, Copy)]
 pub struct Read<T> {
-    pub value: T,
     pub stop: usize,
     pub end: usize,
+    pub value: T,
 }
 
 // A number above 4,294,967,295.
