@@ -138,6 +138,8 @@ pub fn byte(text: &[u8], at: usize) -> Option<Read<HexByte>>
     Some(up_to(text, HexByte::Whole(16 * high + low), at + 2))
 }
 
+// A call of this or of `hex_byte` would hand back what was read through memory: 63,000 instructions for a text of 512 bytes, and not 48,000.
+#[inline(always)]
 pub fn masked_byte(text: &[u8], at: usize) -> Option<Read<HexByte>>
     ensures { spelled result ≡ masked_at text.now at }
 {
@@ -157,10 +159,15 @@ pub fn masked_byte(text: &[u8], at: usize) -> Option<Read<HexByte>>
     Some(up_to(text, HexByte::Masked(high, Mask::Right), at + 2))
 }
 
+// No `or_else`, which stays a call with a closure in memory.
+#[inline(always)]
 pub fn hex_byte(text: &[u8], at: usize) -> Option<Read<HexByte>>
     ensures { spelled result ≡ hex_at text.now at }
 {
-    byte(text, at).or_else(|| masked_byte(text, at))
+    let Some(whole) = byte(text, at) else {
+        return masked_byte(text, at);
+    };
+    Some(whole)
 }
 
 pub fn not_token(text: &[u8], at: usize) -> Result<Option<Read<Leaf>>, Refused>
