@@ -205,6 +205,10 @@ pub fn not_token(text: &[u8], at: usize) -> Result<Option<Read<Leaf>>, Refused>
 pub fn number(text: &[u8], at: usize) -> Result<Option<Read<u32>>, TooBig>
     ensures { numbered at result ≡ number_at text.now at }
 {
+    // Before the loop, whose start costs more than this test: a jump of one bound has no other number.
+    if !peek(text, at).is_ascii_digit() {
+        return Ok(None);
+    }
     let mut value: u64 = 0;
     // Counted beside the loop: its end is wanted also where the text ends with a digit, and `enumerate` gives none there.
     let mut stop = at;
@@ -217,9 +221,6 @@ pub fn number(text: &[u8], at: usize) -> Result<Option<Read<u32>>, TooBig>
             return Err(TooBig);
         }
         stop += 1;
-    }
-    if stop == at {
-        return Ok(None);
     }
     // `as`: the value is within NUMBER_LIMIT, and no From makes a number narrower.
     Ok(Some(up_to(text, value as u32, stop)))
