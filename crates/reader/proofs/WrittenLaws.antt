@@ -1,20 +1,23 @@
 -- Laws of words written into a pool. Assumes nothing.
-use Rattle.std.proofs.Common.{◌≡◌, ℕ, ◌+◌, ◌-◌, ◌≤◌, List, [], ◌++◌, length, take, drop, sym, ap, ap₂, ◌∙◌, append_assoc, arith, length-append, length-drop, take-append-drop, length-take-le, take_at, drop_at, drop-drop, take-take}
-use Rattle.std.proofs.Math.Seq.{drop-append-add, take-append-le}
-use borrow.Rule.Slice.PartMut.{put_mid}
+use Rattle.std.proofs.Common.{◌≡◌, ℕ, suc, ◌+◌, ◌≤◌, List, [], ◌∷◌, ◌++◌, slice_set, length, take, drop, sym, ap, ap₂, ◌∙◌, append_assoc, arith, length-append, take-append-drop, length-take-le, take_at, drop_at, drop-drop, take-take}
+use Rattle.std.proofs.Math.Seq.{drop-append-add, take-append-le, sets-eq}
 use Rattle.reader.specs.Written.{written}
 
 pub written_none : (p : List ℕ) (n : ℕ) → p ≡ written p n []
 unfolding written
 written_none p n = let e : n + 0 ≡ n = omega arith in rw e (sym (take-append-drop n p))
 
--- a part of the pool is copied over
-pub written_part : (p : List ℕ) (n k : ℕ) (ws q : List ℕ) → n + k ≤ length p → q ≡ ws → length q ≡ length (take (n + k - n) (drop n p)) → put_mid n (n + k - n) p q ≡ written p n ws
+-- an entry is written word by word
+pub written_four : (p : List ℕ) (n : ℕ) (k a b c : ℕ) → n + 4 ≤ length p → slice_set (slice_set (slice_set (slice_set p n k) (n + 1) a) (n + 2) b) (n + 3) c ≡ written p n (k ∷ a ∷ b ∷ c ∷ [])
 unfolding written
-written_part p n k ws q h e l =
-    let s : n + k - n ≡ k = omega arith in
-    let lw : length ws ≡ k = sym (ap length e) ∙ l ∙ ap (λ (i : ℕ). length (take i (drop n p))) s ∙ length-take-le k (drop n p) (omega (arith, length-drop n p)) in
-    ap₂ (λ (x : List ℕ) (i : ℕ). take n p ++ (x ++ drop i (drop n p))) e s ∙ ap (λ (x : List ℕ). take n p ++ (ws ++ x)) (drop-drop k n p ∙ ap (λ (i : ℕ). drop (n + i) p) (sym lw))
+written_four p n k a b c h =
+    let e1 : n + 1 ≡ suc n = omega arith in
+    let e2 : n + 2 ≡ suc (suc n) = omega arith in
+    let e3 : n + 3 ≡ suc (suc (suc n)) = omega arith in
+    ap (λ (i : ℕ). slice_set (slice_set (slice_set (slice_set p n k) i a) (n + 2) b) (n + 3) c) e1
+    ∙ ap₂ (λ (i j : ℕ). slice_set (slice_set (slice_set (slice_set p n k) (suc n) a) i b) j c) e2 e3
+    ∙ sets-eq (k ∷ a ∷ b ∷ c ∷ []) p n h
+    ∙ append_assoc (take n p) (k ∷ a ∷ b ∷ c ∷ []) (drop (n + 4) p)
 
 pub written_append : (p : List ℕ) (n : ℕ) (ws vs : List ℕ) → n ≤ length p → written (written p n ws) (n + length ws) vs ≡ written p n (ws ++ vs)
 unfolding written

@@ -41,7 +41,12 @@ fn put(pool: &mut [u32], n: usize, entry: [u32; 4])
     requires { n + 4 ≤ length pool.old }
     ensures { pool.new ≡ written pool.old n entry }
 {
-    pool[n..n + 4].copy_from_slice(&entry);
+    // Word by word: a copy would ask where the entry lies, so that it has to be in memory.
+    let [kind, a, b, c] = entry;
+    pool[n] = kind;
+    pool[n + 1] = a;
+    pool[n + 2] = b;
+    pool[n + 3] = c;
 }
 
 // The entry before other entries that end at `end`: alternatives, or a list's mark.
