@@ -97,6 +97,6 @@ module _ (ws : List ℕ) (ts : Tokens) (e : ws ≡ entries ts) where
           (ap₂ sizes en em, ap (take (length forward)) e₁ ∙ take_at forward (drop n o₁) (length forward) refl, ap (take (length reverse)) e₂ ∙ take_at reverse (drop m o₂) (length reverse) refl)
 
 -- 12
-pub not_simple_puts : (ts : Tokens) (p q : List ℕ) → simple ts ≡ false → Puts (compile ts) (Err NotSimple) p p q q
+pub not_simple_made : (ts : Tokens) (p q : List ℕ) → simple ts ≡ false → Puts (compile ts) (Err NotSimple) p p q q
 unfolding compile
-not_simple_puts ts p q e = rw e (refl, refl, refl)
+not_simple_made ts p q e = rw e (refl, refl, refl)

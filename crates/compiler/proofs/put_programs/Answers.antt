@@ -6,7 +6,7 @@ use Rattle.compiler.proofs.put_programs.Goals as goal
 
 pub returns-then-not-simple_tokens : goal.returns-then-not-simple_tokens
 returns-then-not-simple_tokens c =
-    λ ts e s. law.not_simple_puts ts c.args.forward.now c.args.reverse.now (sym (c.simple_tokens.ensures ts e) ∙ c.if-not-simple_tokens.true)
+    λ ts e s. law.not_simple_made ts c.args.forward.now c.args.reverse.now (sym (c.simple_tokens.ensures ts e) ∙ c.if-not-simple_tokens.true)
 
 pub returns-in_err-sizes : goal.returns-in_err-sizes
 returns-in_err-sizes c =
