@@ -30,6 +30,7 @@ fn compile_text(
     let mut tokens = [0; TOKEN_POOL];
     let got = match read(text, &mut tokens) {
         Ok(got) => got,
+        // Zeroed here and not beforehand: compiling writes every word itself.
         Err(why) => {
             *forward = [0; NODE_POOL];
             *reverse = [0; NODE_POOL];

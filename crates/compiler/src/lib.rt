@@ -132,6 +132,7 @@ fn make(
     let starts = &places[..count];
     let forward = add_tokens(tokens, starts, false, first);
     let reverse = add_tokens(tokens, starts, true, second);
+    // One value of both, without a second branch; must-fail/one_direction.edit takes the one for both.
     let long = forward.long | reverse.long;
     if long {
         return Err(Refusal::BranchTooLong);
